@@ -1,0 +1,83 @@
+-- What comes back: "Code, place, span, sheet length, message length."
+use mathlib.Core.Bool.{true, false}
+use mathlib.Core.List.{List, [], _++_}
+use mathlib.Core.Option.{Option, none, some}
+use Prim.Native.Nat.{ℕ}
+use lib.Dec.{leb}
+use lib.ListN.{length, drop}
+use Rattle.meaning.specs.Base.{if_then_else_, ifSome, base-open}
+use Rattle.meaning.specs.Types.{types-open}
+use Rattle.meaning.specs.Tree.{tree-open}
+use Rattle.meaning.specs.Image.{imageFault, namesOf, nodesOf, Name, Node, nodeOf, image-open}
+use Rattle.meaning.specs.Decode.{treeOf, decode-open}
+use Rattle.meaning.specs.Message.{message, message-open}
+use Rattle.meaning.specs.Frames.{newest, frames-open}
+use Rattle.meaning.specs.Operators.{operators-open}
+use Rattle.meaning.specs.Rules.{rules-open}
+use Rattle.meaning.specs.Walk.{End, done, wrong, tooDeep, program, start, walk-open}
+use Rattle.meaning.specs.Sheet.{Entry, sheetOf, entries, sheet-open}
+use Rattle.meaning.specs.Read.{readSheet, read-open}
+
+-- sheet and message are what is written at the front of the two buffers
+pub record Answer : Type 0 where
+  pub code : ℕ
+  pub place : ℕ
+  pub spanStart : ℕ
+  pub spanEnd : ℕ
+  pub sheet : List ℕ
+  pub message : List ℕ
+
+-- "Codes outside 20..50 have span 0,0"; "every other code has sheet length 0"
+abbrev pub bare : ℕ → ℕ → Answer
+bare c n = record { code = c; place = n; spanStart = 0; spanEnd = 0; sheet = []; message = [] }
+
+-- "Code 0 writes the sheet"; 10: "accepted, but the sheet buffer is too short"
+unfoldable pub written : ℕ → List ℕ → Answer
+written room bs =
+    if leb (length bs) room
+    then record { code = 0; place = 0; spanStart = 0; spanEnd = 0; sheet = bs; message = [] }
+    else bare 10 0
+
+-- "Codes 20..50 write the message at the front of the message buffer if it fits; if not, .. length is 0 and no byte changes."
+unfoldable pub fitting : ℕ → List ℕ → List ℕ
+fitting room bs = if leb (length bs) room then bs else []
+
+-- how the walk ended, over the image's names and nodes
+unfoldable pub ended : List Name → List Node → ℕ → ℕ → End → Answer
+ended ws ds sheetRoom messageRoom (done s) = written sheetRoom (sheetOf (entries ws (newest (s .frames))))
+ended ws ds sheetRoom messageRoom (wrong r s) =
+    record {
+      code = r .code;
+      place = r .node;
+      spanStart = nodeOf ds (r .node) .spanStart;
+      spanEnd = nodeOf ds (r .node) .spanEnd;
+      sheet = [];
+      message = fitting messageRoom (message r);
+    }
+ended ws ds sheetRoom messageRoom (tooDeep n) = bare 9 n
+
+unfoldable pub walked : List ℕ → End
+walked bs = program (namesOf bs) (treeOf (nodesOf bs)) start
+
+-- the answer for an image and the lengths of the sheet and message buffers
+unfoldable pub answer : List ℕ → ℕ → ℕ → Answer
+answer bs sheetRoom messageRoom =
+    let sound : Answer = ended (namesOf bs) (nodesOf bs) sheetRoom messageRoom (walked bs) in
+    ifSome (imageFault bs) (λ f. bare (f .code) (f .place)) sound
+
+-- the reader's: "one refusal, 12, place 0, for anything else, with no buffer touched"
+unfoldable pub readAnswer : List ℕ → Answer
+readAnswer bs = ifSome (readSheet bs) (λ es. bare 0 0) (bare 12 0)
+
+-- "Writing what was read into too short a buffer gives 10."
+unfoldable pub writeAnswer : List Entry → ℕ → Answer
+writeAnswer es room = written room (sheetOf es)
+
+-- a buffer after that many bytes were written at its front: the rest is kept
+unfoldable pub overlaid : List ℕ → List ℕ → List ℕ
+overlaid bs old = bs ++ drop (length bs) old
+
+-- to unfold this is to unfold every definition
+unfoldable pub meaning-open : Unit {0}
+unfolding base-open types-open tree-open image-open decode-open message-open frames-open operators-open rules-open walk-open sheet-open read-open written fitting ended walked answer readAnswer writeAnswer overlaid
+meaning-open = tt

@@ -1,0 +1,15 @@
+pub mod Limits
+pub mod Base
+pub mod Types
+pub mod Tree
+pub mod Image
+pub mod Decode
+pub mod Message
+pub mod Frames
+pub mod Operators
+pub mod Rules
+pub mod Walk
+pub mod Sheet
+pub mod Read
+pub mod Answer
+pub mod Line
