@@ -16,37 +16,10 @@ use Rattle.meaning.specs.Types.{Ty}
 use Rattle.meaning.specs.Image.{printable, textStands}
 use Rattle.meaning.specs.Sheet.{Entry, Triple, laid, typesOf, number, elementsOf, typeRecords, spellings, nameRecords, sheetOf, textsStand, withinLimits}
 use Rattle.meaning.specs.Read.{triple, entriesFrom, entriesIn, isSheet, readSheet, SheetOf}
+use Rattle.meaning.proofs.Choices.{and-left, and-right, both, not-so, if-some, if-nothing, same-text, text-same}
 use Rattle.meaning.proofs.SheetWords.{Small, Smalls, Small3s, four-bytes, words-length, laid-many, laid-length, words-read, triples-read}
 use Rattle.meaning.proofs.SheetTypes.{Met, types-met}
 use Rattle.meaning.proofs.SheetRead.{types-read, names-read, numbers-small, types-small, names-small, types-many, names-many}
-
--- ---- tests
-
-pub and-left : (a b : Bool) → (a and b) ≡ true → a ≡ true
-unfolding _and_
-and-left true b e = refl
-and-left false b e = e
-
-pub and-right : (a b : Bool) → (a and b) ≡ true → b ≡ true
-unfolding _and_
-and-right true b e = e
-and-right false b e = absurd (false≢true e)
-
-pub both : (a b : Bool) → a ≡ true → b ≡ true → (a and b) ≡ true
-unfolding _and_
-both a b p q = rw (p, q)
-
-same-text : (s t : List ℕ) → sameText s t ≡ true → s ≡ t
-unfolding sameText
-same-text [] [] h = refl
-same-text [] (y ∷ ys) h = absurd (false≢true h)
-same-text (x ∷ xs) [] h = absurd (false≢true h)
-same-text (x ∷ xs) (y ∷ ys) h = rw (eqb-true x y (and-left _ _ h), same-text xs ys (and-right _ _ h))
-
-text-same : (s : List ℕ) → sameText s s ≡ true
-unfolding sameText
-text-same [] = refl
-text-same (x ∷ xs) = both _ _ (eq-eqb x x refl) (text-same xs)
 
 -- ---- the limits
 
@@ -166,16 +139,6 @@ pub sheet-one : (bs : List ℕ) (es : List Entry) → SheetOf bs es → entriesI
 sheet-one bs es s = ap entriesIn (s .written) ∙ round-trip es (s .limits)
 
 -- the reader gives those entries, and nothing where there are none
-if-some : (b : Bool) (x y : List Entry) → (if b then some x else none) ≡ some y → (b ≡ true) × (x ≡ y)
-unfolding if_then_else_
-if-some true x y e = (refl, Option·some-injective x y e)
-if-some false x y e = absurd (Option·none-ne-some y e)
-
-if-none : (b : Bool) (x : List Entry) → (if b then some x else none) ≡ none → b ≡ false
-unfolding if_then_else_
-if-none true x e = absurd (Option·none-ne-some x (sym e))
-if-none false x e = refl
-
 pub read-some : (bs : List ℕ) (es : List Entry) → (readSheet bs ≡ some es) ↔ SheetOf bs es
 unfolding readSheet if_then_else_
 read-some bs es = (
@@ -186,13 +149,9 @@ read-some bs es = (
 pub read-none : (bs : List ℕ) → (readSheet bs ≡ none) ↔ ((es : List Entry) → SheetOf bs es → ⊥)
 unfolding readSheet if_then_else_
 read-none bs = (
-  λ e es s. false≢true (sym (if-none (isSheet bs) (entriesIn bs) e) ∙ is-sheet bs es s),
+  λ e es s. false≢true (sym (if-nothing (isSheet bs) (entriesIn bs) e) ∙ is-sheet bs es s),
   λ n. rw (not-so (isSheet bs) (λ h. n (entriesIn bs) (sheet-is bs h))),
 )
-  where
-    not-so : (b : Bool) → (b ≡ true → ⊥) → b ≡ false
-    not-so true h = absurd (h refl)
-    not-so false h = refl
 
 -- ---- its length, its header, its bytes
 

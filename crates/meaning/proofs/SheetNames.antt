@@ -12,11 +12,13 @@ use borrow.Author.Tests.{leb-true, le-leb, eqb-true, eq-eqb, ne-eqb, ltb-true, l
 use lib.ListN.{length, take, drop, length-map}
 use Rattle.meaning.specs.Base.{_and_, if_then_else_, ifSome, before, records}
 use Rattle.meaning.specs.Types.{Ty, parts}
-use Rattle.meaning.specs.Image.{NameRecord, Name, nameFrom, textStands, wrongName, nameCount, nameRecord, nameRecords, brokenName, namesOf, textsOf, Fault, firstFound, unless, countsStand, headFault, bodyFault, imageFault}
+use Rattle.meaning.specs.Limits.{mostNames, mostTypes, mostElements}
+use Rattle.meaning.specs.Image.{NameRecord, Name, nameFrom, textStands, wrongName, nameCount, nameRecord, nameRecords, brokenName, namesOf, textsOf}
+use Rattle.meaning.proofs.Faults.{Sound, sizes}
 use Rattle.meaning.specs.Frames.{Frame}
 use Rattle.meaning.specs.Sheet.{Entry, typesOf, elementsOf, textsStand, withinLimits, entries}
+use Rattle.meaning.proofs.Choices.{and-left, and-right, both, if-none, records-many}
 use Rattle.meaning.proofs.SheetTypes.{Known}
-use Rattle.meaning.proofs.SheetForm.{and-left, and-right, both}
 use Rattle.meaning.proofs.SheetRoom.{sheet-room}
 
 -- ---- the order of texts
@@ -55,11 +57,6 @@ abbrev Stand : List ℕ → List Name → Type 0
 Stand last [] = Unit {0}
 Stand last (w ∷ ws) = (textStands last (w .spelling) ≡ true) × Stand (w .spelling) ws
 
-if-none : {A : Type 0} (b : Bool) (o : Option A) (a : A) → (if b then o else some a) ≡ none → (b ≡ true) × (o ≡ none)
-unfolding if_then_else_
-if-none true o a e = (refl, e)
-if-none false o a e = absurd (Option·none-ne-some a (sym e))
-
 names-stand : (texts : List ℕ) (i from : ℕ) (last : List ℕ) (rs : List NameRecord) → wrongName texts i from last rs ≡ none → Stand last (map (nameFrom texts) rs)
 unfolding wrongName nameFrom
 names-stand texts i from last [] h = tt
@@ -96,48 +93,28 @@ some-many (w ∷ ws) (some t ∷ f) = omega (arith, some-many ws f)
 
 -- ---- an image without fault
 
-none-first : (c : ℕ) (o : Option ℕ) (cs : List (ℕ × Option ℕ)) → firstFound ((c, o) ∷ cs) ≡ none → (o ≡ none) × (firstFound cs ≡ none)
-unfolding firstFound ifSome
-none-first c none cs e = (refl, e)
-none-first c (some i) cs e = absurd (Option·none-ne-some _ (sym e))
-
-none-both : (o p : Option Fault) → ifSome o some p ≡ none → (o ≡ none) × (p ≡ none)
-unfolding ifSome
-none-both none p e = (refl, e)
-none-both (some a) p e = absurd (Option·none-ne-some a (sym e))
-
-unless-none : (b : Bool) → unless b ≡ none → b ≡ true
-unfolding unless
-unless-none b e = if-none b none 0 e .0
-
-records-many : {A : Type 0} (read : List ℕ → A) (size n : ℕ) (bs : List ℕ) → length (records read size n bs) ≡ n
-unfolding records
-records-many read size zero bs = refl
-records-many read size (suc n) bs = ap suc (records-many read size n (drop size bs))
-
-module _ (bs : List ℕ) (sound : imageFault bs ≡ none) (f : Frame) where
-  faults : (headFault bs ≡ none) × (bodyFault bs ≡ none)
-  unfolding imageFault
-  faults = none-both (headFault bs) (bodyFault bs) sound
-
-  few-names : nameCount bs ≤ 128
-  unfolding headFault countsStand
-  few-names = leb-true _ 128 (and-left _ _ (and-left _ _ (and-left _ _ (unless-none _ (none-first _ _ _ (none-first _ _ _ (faults .0) .1) .0)))))
-
-  pub names-many : length (entries (namesOf bs) f) ≤ 128
+module _ (bs : List ℕ) (image : Sound bs) (f : Frame) where
+  pub names-many : length (entries (namesOf bs) f) ≤ mostNames
   unfolding namesOf nameRecords
-  names-many = omega (arith, few-names, some-many (namesOf bs) f, length-map (nameRecords bs) (nameFrom (textsOf bs)), records-many nameRecord 20 (nameCount bs) (drop 32 bs))
+  names-many =
+      omega (
+        arith,
+        sizes (image .headed) .names,
+        some-many (namesOf bs) f,
+        length-map (nameRecords bs) (nameFrom (textsOf bs)),
+        records-many nameRecord 20 (nameCount bs) (drop 32 bs),
+      )
 
   pub texts-stand : textsStand [] (entries (namesOf bs) f) ≡ true
-  unfolding namesOf bodyFault brokenName
-  texts-stand = some-stand [] [] (namesOf bs) f (inl refl) (names-stand (textsOf bs) 0 0 [] (nameRecords bs) (none-first _ _ _ (faults .1) .0))
+  unfolding namesOf brokenName
+  texts-stand = some-stand [] [] (namesOf bs) f (inl refl) (names-stand (textsOf bs) 0 0 [] (nameRecords bs) (image .names))
 
   -- a table vs that holds the types of the frame's names and, with each type, its structured parts
   pub check-limits : (vs : List Ty) → Known vs (map (λ e. e .1) (entries (namesOf bs) f)) → ((t : Ty) → List·Memᴰ t vs → Known vs (parts t))
-      → length vs ≤ 2048 → length (elementsOf vs) ≤ 2047 → withinLimits (entries (namesOf bs) f) ≡ true
+      → length vs ≤ mostTypes → length (elementsOf vs) ≤ mostElements → withinLimits (entries (namesOf bs) f) ≡ true
   unfolding withinLimits
   check-limits vs k c m n =
       let es = entries (namesOf bs) f in
       let r = sheet-room es vs k c in
-      both _ _ (both _ _ (both _ _ texts-stand (le-leb (length es) 128 names-many)) (le-leb (length (typesOf es [])) 2048 (omega arith)))
-      (le-leb (length (elementsOf (typesOf es []))) 2047 (omega arith))
+      both _ _ (both _ _ (both _ _ texts-stand (le-leb (length es) mostNames names-many)) (le-leb (length (typesOf es [])) mostTypes (omega arith)))
+      (le-leb (length (elementsOf (typesOf es []))) mostElements (omega arith))

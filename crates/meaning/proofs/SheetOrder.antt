@@ -11,7 +11,8 @@ use lib.Seq.{append-snoc, split-at}
 use Rattle.meaning.specs.Base.{if_then_else_}
 use Rattle.meaning.specs.Types.{Ty, Ty-discrete, unknown, int, bool, string, float, nonetype, range, function, list, dict, tuple, mapIter, filterIter, Tys, no-types, _⊕_, kind, parts}
 use Rattle.meaning.specs.Sheet.{Entry, addNew, met, metAll, typesOf, position, number}
-use Rattle.meaning.proofs.SheetTypes.{Added, old, fresh, added, same-yes, same-no, Known, Next, Ordered, Reached, given, part-of, Met, types-met, number-plain, number-above, found}
+use Rattle.meaning.proofs.Choices.{same-yes, same-no}
+use Rattle.meaning.proofs.SheetTypes.{Added, old, fresh, added, Known, Next, Ordered, Reached, given, part-of, Met, types-met, number-plain, number-above, found}
 
 -- at each place: what may come next after what stands before
 next-at : (ps ts : List Ty) → Ordered ps ts → (i : ℕ) → i < length ts → Next (ps ++ take i ts) (getD ts i unknown)

@@ -9,7 +9,8 @@ use lib.ListN.{length, length-append}
 use Rattle.meaning.specs.Base.{if_then_else_}
 use Rattle.meaning.specs.Types.{Ty, Ty-discrete, same, kind, parts}
 use Rattle.meaning.specs.Sheet.{Entry, typesOf, elementsIn, elementsOf}
-use Rattle.meaning.proofs.SheetTypes.{same-yes, same-no, Known, Next, Ordered, Reached, given, part-of, Met, types-met}
+use Rattle.meaning.proofs.Choices.{same-yes, same-no}
+use Rattle.meaning.proofs.SheetTypes.{Known, Next, Ordered, Reached, given, part-of, Met, types-met}
 use Rattle.meaning.proofs.SheetOrder.{stands, has-parts}
 
 weight : (Ty → ℕ) → List Ty → ℕ

@@ -13,24 +13,7 @@ use Rattle.meaning.specs.Base.{if_then_else_}
 use Rattle.meaning.specs.Types.{Ty, Ty-discrete, unknown, int, bool, string, float, nonetype, range, function, list, dict, tuple, mapIter, filterIter, Tys, no-types, _⊕_, same, kind, plain, parts, elements}
 use Rattle.meaning.specs.Sheet.{Entry, addNew, met, metAll, typesOf, position, number}
 use Rattle.meaning.specs.Read.{numbered}
-
--- ---- `same` is equality
-
-pub same-yes : (a b : Ty) → a ≡ b → same a b ≡ true
-unfolding same
-same-yes a b e = go (Ty-discrete a b)
-  where
-    go : (d : Dec (a ≡ b)) → elim d as (λ x. Bool) [ yes p ↦ true | no q ↦ false ] ≡ true
-    go (yes p) = refl
-    go (no q) = absurd (q e)
-
-pub same-no : (a b : Ty) → (a ≡ b → ⊥) → same a b ≡ false
-unfolding same
-same-no a b n = go (Ty-discrete a b)
-  where
-    go : (d : Dec (a ≡ b)) → elim d as (λ x. Bool) [ yes p ↦ true | no q ↦ false ] ≡ false
-    go (yes p) = absurd (n p)
-    go (no q) = refl
+use Rattle.meaning.proofs.Choices.{same-yes, same-no, plain-kind}
 
 -- ---- what addNew does
 
@@ -178,22 +161,6 @@ found t (u ∷ us) vs m = elim (Ty-discrete t u) [
   | yes p ↦ rw (same-yes t u p) (sym p, omega arith)
   | no q ↦ let h = found t us vs (⊎-elim (λ e. absurd (q e)) (λ r. r) (List·Memᴰ·cases-cons m)) in rw (same-no t u q) (h .0, omega arith)
 ]
-
-pub plain-kind : (t : Ty) → kind t < 8 → plain (kind t) ≡ t
-unfolding plain kind
-plain-kind unknown h = refl
-plain-kind int h = refl
-plain-kind bool h = refl
-plain-kind string h = refl
-plain-kind float h = refl
-plain-kind nonetype h = refl
-plain-kind range h = refl
-plain-kind function h = refl
-plain-kind (list t) h = absurd (omega arith)
-plain-kind (dict k v) h = absurd (omega arith)
-plain-kind (tuple ts) h = absurd (omega arith)
-plain-kind (mapIter t) h = absurd (omega arith)
-plain-kind (filterIter t) h = absurd (omega arith)
 
 plain-read : (us : List Ty) (t : Ty) → kind t < 8 → numbered us (kind t) ≡ t
 unfolding numbered if_then_else_

@@ -86,18 +86,21 @@ unaryAnswer notOp a = if isIn a (kind bool ∷ kind unknown ∷ []) then kind bo
 unaryAnswer negate a = if isIn a (kind int ∷ kind float ∷ kind unknown ∷ []) then a else 34
 unaryAnswer pos a = if isIn a (kind int ∷ kind float ∷ kind unknown ∷ []) then a else 34
 
--- ---- the rules: what an answer x means at node n
+-- ---- the rules, at node n
 
-unfoldable pub binaryRule : ℕ → BinaryOp → Ty → Ty → Checked
-binaryRule n o a b =
-    let x : ℕ = operatorAnswer o (kind a) (kind b) in
+-- what an answer x means for operands of types a and b
+unfoldable pub answered : ℕ → Ty → Ty → ℕ → Checked
+answered n a b x =
     let both : List Piece = aType a ∷ aType b ∷ [] in
     if ltb x wholeTypes then ok (plain x) else if eqb x wholeTypes then when (same a b) bool 32 n both else refused (refusal x n both)
+
+unfoldable pub binaryRule : ℕ → BinaryOp → Ty → Ty → Checked
+binaryRule n o a b = answered n a b (operatorAnswer o (kind a) (kind b))
 
 unfoldable pub unaryRule : ℕ → UnaryOp → Ty → Checked
 unaryRule n o t =
     let x : ℕ = unaryAnswer o (kind t) in if ltb x wholeTypes then ok (plain x) else refused (refusal x n (aType t ∷ []))
 
 unfoldable pub operators-open : Unit {0}
-unfolding _>>=_ when numbers sums products byRows instead equated operatorAnswer unaryAnswer binaryRule unaryRule
+unfolding _>>=_ when numbers sums products byRows instead equated operatorAnswer unaryAnswer answered binaryRule unaryRule
 operators-open = tt
