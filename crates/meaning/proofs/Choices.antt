@@ -30,6 +30,11 @@ pub both : (a b : Bool) → a ≡ true → b ≡ true → (a and b) ≡ true
 unfolding _and_
 both a b p q = rw (p, q)
 
+pub or-either : (a b : Bool) → (a or b) ≡ true → (a ≡ true) ⊎ (b ≡ true)
+unfolding _or_
+or-either true b e = inl refl
+or-either false b e = inr e
+
 pub not-so : (b : Bool) → (b ≡ true → ⊥) → b ≡ false
 not-so true h = absurd (h refl)
 not-so false h = refl

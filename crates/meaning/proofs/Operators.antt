@@ -1,6 +1,6 @@
 -- The operators: their answers are few, and what they say of whole types is what T says.
 use mathlib.Core.Path.{_≡_, refl, _∙_, ap, sym}
-use mathlib.Core.Bool.{Bool, true, false}
+use mathlib.Core.Bool.{Bool, true, false, false≢true}
 use mathlib.Core.Logic.{_⊎_, inl, inr, ⊎-elim}
 use mathlib.Core.List.{List, [], _∷_}
 use Prim.Native.Nat.{ℕ, suc, _+_, _≤_, _<_}
@@ -13,7 +13,7 @@ use Rattle.meaning.specs.Types.{Ty, Ty-discrete, unknown, int, bool, flo
 use Rattle.meaning.specs.Tree.{UnaryOp, notOp, negate, pos, BinaryOp, add, subtract, multiply, divide, floorDivide, modulo, equal, notEqual, less, lessEqual, greater, greaterEqual, andOp, orOp}
 use Rattle.meaning.specs.Message.{Piece, aType, refusal}
 use Rattle.meaning.specs.Operators.{Checked, ok, refused, when, Rows, numbers, sums, products, wholeTypes, byRows, instead, equated, operatorAnswer, unaryAnswer, answered, binaryRule, unaryRule}
-use Rattle.meaning.proofs.Choices.{and-left, and-right, same-yes, same-no, plain-one, same-plain}
+use Rattle.meaning.proofs.Choices.{and-left, and-right, or-either, same-yes, same-no, plain-one, same-plain}
 
 -- ---- an answer is a plain type or a code, and for == and != it may be that the whole types decide
 
@@ -93,6 +93,27 @@ answer-range greater a b = ordered-range a b
 answer-range greaterEqual a b = ordered-range a b
 answer-range andOp a b = low-range 2 (omega arith)
 answer-range orOp a b = low-range 2 (omega arith)
+
+-- not, - and +: a plain type, 34 or 35
+pub record UnaryRange (x : ℕ) : Type 0 where
+  pub says : (x < 8) ⊎ ((34 ≤ x) × (x ≤ 35))
+
+low-in : (k : ℕ) (xs : List ℕ) → all (λ x. ltb x 8) xs ≡ true → isIn k xs ≡ true → k < 8
+unfolding all isIn
+low-in k [] h e = absurd (false≢true e)
+low-in k (x ∷ xs) h e =
+    ⊎-elim (λ q. omega (arith, eqb-true k x q, ltb-true x 8 (and-left _ _ h))) (λ q. low-in k xs (and-right _ _ h) q) (or-either _ _ e)
+
+if-unary : (b : Bool) (x c : ℕ) → (b ≡ true → x < 8) → 34 ≤ c → c ≤ 35 → UnaryRange (if b then x else c)
+unfolding if_then_else_
+if-unary true x c h l u = record { says = inl (h refl) }
+if-unary false x c h l u = record { says = inr (l, u) }
+
+pub unary-range : (o : UnaryOp) (k : ℕ) → UnaryRange (unaryAnswer o k)
+unfolding unaryAnswer kind all _and_
+unary-range notOp k = if-unary _ 2 35 (λ e. omega arith) (omega arith) (omega arith)
+unary-range negate k = if-unary _ k 34 (low-in k (1 ∷ 4 ∷ 0 ∷ []) refl) (omega arith) (omega arith)
+unary-range pos k = if-unary _ k 34 (low-in k (1 ∷ 4 ∷ 0 ∷ []) refl) (omega arith) (omega arith)
 
 -- ---- == and != in T's words (expect_same_or_unknown)
 

@@ -1,0 +1,294 @@
+-- A statement that ends well leaves as many frames as it found, and one that is refused has a typing code. So an accepted program ends
+-- with exactly one frame.
+use mathlib.Core.Path.{_≡_, refl, _∙_, ap}
+use mathlib.Core.Bool.{Bool, true, false}
+use mathlib.Core.List.{List, [], _∷_, _++_, tail}
+use mathlib.Core.Option.{Option, none, some}
+use Prim.Native.Nat.{ℕ, suc, _≤_}
+use native.Mathlib.Omega.{arith}
+use lib.ListN.{length}
+use Rattle.meaning.specs.Base.{if_then_else_, ifSome}
+use Rattle.meaning.specs.Types.{Ty, unknown}
+use Rattle.meaning.specs.Tree.{Expr, at, Form, literal, variable, unary, binary, call, attribute, listOf, dictOf, tupleOf, setOf, index, lambda, Exprs, no-exprs, _also_, Stmt, line, Act, break, continue, pass, class, assign, expr, return, ifThen, while, for, def, Stmts, no-stmts, _next_, Arms, no-arms, _or-else_, Arm, on, otherwise, firstCondition}
+use Rattle.meaning.specs.Image.{Name}
+use Rattle.meaning.specs.Message.{Piece, Refusal}
+use Rattle.meaning.specs.Frames.{Frame, Frames, empty, write}
+use Rattle.meaning.specs.Operators.{Checked, ok, refused}
+use Rattle.meaning.specs.Rules.{elementOf, check}
+use Rattle.meaning.specs.Walk.{State, End, done, wrong, tooDeep, refuse, _>>=_, onward, after, typed, withFrames, withReturns, bind, agreed, assignName, unpacked, unpackInto, returnRule, assigned, mergeName, mergeNames, merge, enter, popped, ifRoom, onlyIn, overElements, checked, condition, assignTo, assignForm, assignEach, walk, act, body, arm, branches, program, start}
+use Rattle.meaning.proofs.Codes.{Typing, typing, Fair, fair-typing, check-fair}
+
+-- how a part of the walk that began with n frames may end
+pub Kept : ℕ → End → Type 0
+Kept n (done s) = length (s .frames) ≡ n
+Kept n (wrong r s) = Typing r
+Kept n (tooDeep m) = Unit {0}
+
+-- the same, with any number of frames
+Coded : End → Type 0
+Coded (done s) = Unit {0}
+Coded (wrong r s) = Typing r
+Coded (tooDeep m) = Unit {0}
+
+-- ---- one law for each way to put ends together
+
+done-kept : (n : ℕ) (s : State) → length (s .frames) ≡ n → Kept n (done s)
+unfolding Kept
+done-kept n s h = h
+
+refuse-kept : (n c m : ℕ) (ps : List Piece) (s : State) → 20 ≤ c → c ≤ 50 → Kept n (refuse c m ps s)
+unfolding Kept
+refuse-kept n c m ps s l u = typing c m ps l u
+
+-- what follows keeps the number whatever came before
+whatever : (n : ℕ) (e : End) (k : State → End) → Coded e → ((s : State) → Kept n (k s)) → Kept n (e >>= k)
+unfolding Kept Coded _>>=_
+whatever n (done s) k h g = g s
+whatever n (wrong r s) k h g = h
+whatever n (tooDeep m) k h g = tt
+
+onwards : (n : ℕ) (e : End) (k : State → End) → Kept n e → ((s : State) → length (s .frames) ≡ n → Kept n (k s)) → Kept n (e >>= k)
+unfolding Kept _>>=_
+onwards n (done s) k h g = g s h
+onwards n (wrong r s) k h g = h
+onwards n (tooDeep m) k h g = tt
+
+returned : (n : ℕ) (e : End) (k : State → End) → Kept n e → ((s : State) → length (s .frames) ≡ n → Kept n (k s)) → Kept n (onward false e k)
+unfolding Kept onward
+returned n (done s) k h g = g s h
+returned n (wrong r s) k h g = h
+returned n (tooDeep m) k h g = tt
+
+-- what drops errors is never wrong
+dropped : (e : End) (k : State → End) → ((s : State) → Coded (k s)) → Coded (onward true e k)
+unfolding Coded onward
+dropped (done s) k g = g s
+dropped (wrong r s) k g = g s
+dropped (tooDeep m) k g = tt
+
+then-coded : (e : End) (k : State → End) → Coded e → ((s : State) → Coded (k s)) → Coded (e >>= k)
+unfolding Coded _>>=_
+then-coded (done s) k h g = g s
+then-coded (wrong r s) k h g = h
+then-coded (tooDeep m) k h g = tt
+
+done-coded : (s : State) → Coded (done s)
+unfolding Coded
+done-coded s = tt
+
+kept-coded : (n : ℕ) (e : End) → Kept n e → Coded e
+unfolding Kept Coded
+kept-coded n (done s) h = tt
+kept-coded n (wrong r s) h = h
+kept-coded n (tooDeep m) h = tt
+
+typed-kept : (n : ℕ) (c : Checked) (s : State) (k : Ty → End) → Fair c → ((t : Ty) → Kept n (k t)) → Kept n (typed c s k)
+unfolding Kept typed
+typed-kept n (ok t) s k f h = h t
+typed-kept n (refused r) s k f h = fair-typing f
+
+-- frames that are put back
+back-kept : (n : ℕ) (s : State) (e : End) → length (s .frames) ≡ n → Coded e → Kept n (after (withFrames (s .frames)) e)
+unfolding Kept Coded after
+back-kept n s (done s₁) h c = h
+back-kept n s (wrong r s₁) h c = c
+back-kept n s (tooDeep m) h c = tt
+
+returns-kept : (n : ℕ) (t : Ty) (e : End) → Kept n e → Kept n (after (withReturns t) e)
+unfolding Kept after
+returns-kept n t (done s) h = h
+returns-kept n t (wrong r s) h = h
+returns-kept n t (tooDeep m) h = tt
+
+popped-kept : (n : ℕ) (e : End) → Kept (suc n) e → Kept n (popped e)
+unfolding Kept popped
+popped-kept n (done s) h = tail-length (s .frames) h
+  where
+    tail-length : (Γ : Frames) → length Γ ≡ suc n → length (tail Γ) ≡ n
+    tail-length [] e = omega arith
+    tail-length (f ∷ fs) e = omega arith
+popped-kept n (wrong r s) h = h
+popped-kept n (tooDeep m) h = tt
+
+if-kept : (n : ℕ) (b : Bool) (d e : End) → Kept n d → Kept n e → Kept n (if b then d else e)
+unfolding if_then_else_
+if-kept n true d e h k = h
+if-kept n false d e h k = k
+
+some-kept : {A : Type 0} (n : ℕ) (o : Option A) (f : A → End) (e : End) → ((a : A) → Kept n (f a)) → Kept n e → Kept n (ifSome o f e)
+unfolding ifSome
+some-kept n none f e h k = k
+some-kept n (some a) f e h k = h a
+
+-- ---- what writes
+
+write-kept : (x : ℕ) (t : Ty) (Γ : Frames) → length (write x t Γ) ≡ length Γ
+unfolding write
+write-kept x t [] = refl
+write-kept x t (f ∷ fs) = refl
+
+bind-kept : (n x : ℕ) (t : Ty) (s : State) → length (s .frames) ≡ n → Kept n (done (bind x t s))
+bind-kept n x t s h = done-kept n _ (write-kept x t (s .frames) ∙ h)
+
+-- ---- what may refuse
+
+only-kept : (n : ℕ) (loop : Bool) (c m : ℕ) (s : State) → 20 ≤ c → c ≤ 50 → length (s .frames) ≡ n → Kept n (onlyIn loop c m s)
+unfolding onlyIn
+only-kept n loop c m s l u h = if-kept n loop _ _ (done-kept n s h) (refuse-kept n c m [] s l u)
+
+over-kept : (n m : ℕ) (t : Ty) (s : State) (k : Ty → End) → ((u : Ty) → Kept n (k u)) → Kept n (overElements m t s k)
+unfolding overElements
+over-kept n m t s k h = some-kept n (elementOf t) _ _ h (refuse-kept n 24 m _ s (omega arith) (omega arith))
+
+deep-kept : (n m : ℕ) → Kept n (tooDeep m)
+unfolding Kept
+deep-kept n m = tt
+
+room-kept : (n m : ℕ) (s : State) (e : End) → Kept n e → Kept n (ifRoom m s e)
+unfolding ifRoom
+room-kept n m s e h = if-kept n _ _ _ h (deep-kept n m)
+
+enter-kept : (n : ℕ) (xs : List ℕ) (s : State) → length (s .frames) ≡ n → length (enter xs s .frames) ≡ suc n
+unfolding enter
+enter-kept n xs s h = ap suc h
+
+-- ---- what a kept end says
+
+kept-done : (n : ℕ) {e : End} {s : State} → Kept n e → e ≡ done s → length (s .frames) ≡ n
+unfolding Kept
+kept-done n k e = rw e at k
+
+kept-wrong : (n : ℕ) {e : End} {r : Refusal} {s : State} → Kept n e → e ≡ wrong r s → Typing r
+unfolding Kept
+kept-wrong n k e = rw e at k
+
+module _ (ws : List Name) where
+  merge-name-kept : (n c x : ℕ) (ts : List Ty) (s : State) → length (s .frames) ≡ n → Kept n (mergeName ws c x ts s)
+  unfolding mergeName
+  merge-name-kept n c x [] s h = done-kept n s h
+  merge-name-kept n c x (t ∷ ts) s h = if-kept n _ _ _ (bind-kept n x t s h) (refuse-kept n 23 c _ s (omega arith) (omega arith))
+
+  merge-names-kept : (n c : ℕ) (Γ : Frames) (Δs : List Frames) (xs : List ℕ) (s : State) → length (s .frames) ≡ n
+      → Kept n (mergeNames ws c Γ Δs xs s)
+  unfolding mergeNames
+  merge-names-kept n c Γ Δs [] s h = done-kept n s h
+  merge-names-kept n c Γ Δs (x ∷ xs) s h =
+      onwards n (mergeName ws c x (assigned Γ x Δs) s) _ (merge-name-kept n c x (assigned Γ x Δs) s h)
+      (λ s₁ h₁. merge-names-kept n c Γ Δs xs s₁ h₁)
+
+  merge-kept : (n c : ℕ) (Δs : List Frames) (s : State) → length (s .frames) ≡ n → Kept n (merge ws c Δs s)
+  unfolding merge
+  merge-kept n c Δs s h = merge-names-kept n c (s .frames) Δs _ s h
+
+  assign-name-kept : (n m x : ℕ) (t : Ty) (s : State) → length (s .frames) ≡ n → Kept n (assignName m x t s)
+  unfolding assignName
+  assign-name-kept n m x t s h =
+      some-kept n (agreed _ t) _ _ (λ u. bind-kept n x u s h) (refuse-kept n 25 m _ s (omega arith) (omega arith))
+
+  return-kept : (n m : ℕ) (t : Ty) (s : State) → length (s .frames) ≡ n → Kept n (returnRule m t s)
+  unfolding returnRule
+  return-kept n m t s h =
+      some-kept n (agreed _ t) _ _ (λ u. done-kept n _ h) (refuse-kept n 22 m _ s (omega arith) (omega arith))
+
+  checked-kept : (n : ℕ) (e : Expr) (s : State) (k : Ty → End) → ((t : Ty) → Kept n (k t)) → Kept n (checked ws e s k)
+  unfolding checked
+  checked-kept n e s k h = typed-kept n _ s k (check-fair ws (s .frames) e) h
+
+  condition-kept : (n : ℕ) (e : Expr) (s : State) → length (s .frames) ≡ n → Kept n (condition ws e s)
+  unfolding condition
+  condition-kept n e s h =
+      checked-kept n e s _ (λ t. if-kept n _ _ _ (done-kept n s h) (refuse-kept n 36 _ _ s (omega arith) (omega arith)))
+
+  no-target : (n m : ℕ) (s : State) → Kept n (refuse 28 m [] s)
+  no-target n m s = refuse-kept n 28 m [] s (omega arith) (omega arith)
+
+  mutual
+    unfolding assignTo unpackInto
+
+    assign-kept : (n : ℕ) (e : Expr) (t : Ty) (s : State) → length (s .frames) ≡ n → Kept n (assignTo ws e t s)
+    assign-kept n (at m f) t s h = form-kept n m f t s h
+
+    form-kept : (n m : ℕ) (f : Form) (t : Ty) (s : State) → length (s .frames) ≡ n → Kept n (assignForm ws m f t s)
+    form-kept n m (literal l) t s h = no-target n m s
+    form-kept n m (variable x) t s h = assign-name-kept n m x t s h
+    form-kept n m (unary o e) t s h = no-target n m s
+    form-kept n m (binary o l r) t s h = no-target n m s
+    form-kept n m (call f es) t s h = no-target n m s
+    form-kept n m (attribute e) t s h = checked-kept n _ s _ (λ u. done-kept n s h)
+    form-kept n m (listOf es) t s h = no-target n m s
+    form-kept n m (dictOf es) t s h = no-target n m s
+    form-kept n m (tupleOf es) t s h =
+        some-kept n (unpacked _ t) _ _ (λ ts. if-kept n _ _ _ (each-kept n es ts s h) (refuse-kept n 26 m _ s (omega arith) (omega arith)))
+        (refuse-kept n 27 m _ s (omega arith) (omega arith))
+    form-kept n m (setOf es) t s h = no-target n m s
+    form-kept n m (index o i) t s h = checked-kept n _ s _ (λ u. done-kept n s h)
+    form-kept n m lambda t s h = no-target n m s
+
+    each-kept : (n : ℕ) (es : Exprs) (ts : List Ty) (s : State) → length (s .frames) ≡ n → Kept n (assignEach ws es ts s)
+    each-kept n no-exprs ts s h = done-kept n s h
+    each-kept n (e also es) ts s h = onwards n (assignTo ws e _ s) _ (assign-kept n e _ s h) (λ s₁ h₁. each-kept n es (tail ts) s₁ h₁)
+
+  -- ---- statements
+
+  drops-coded : (loop : Bool) (b : Stmts) (s : State) → Coded (body ws loop true b s)
+  unfolding body
+  drops-coded loop no-stmts s = done-coded s
+  drops-coded loop (a next b) s = dropped (walk ws loop a s) _ (λ s₁. drops-coded loop b s₁)
+
+  arm-coded : (loop : Bool) (a : Arm) (s : State) → Coded (arm ws loop a s)
+  unfolding arm
+  arm-coded loop (on c b) s =
+      then-coded (condition ws c s) _ (kept-coded (length (s .frames)) _ (condition-kept _ c s refl)) (λ s₁. drops-coded loop b s₁)
+  arm-coded loop (otherwise b) s = drops-coded loop b s
+
+  branches-kept : (n : ℕ) (loop : Bool) (c : ℕ) (Δs : List Frames) (as′ : Arms) (s : State) → length (s .frames) ≡ n
+      → Kept n (branches ws loop c Δs as′ s)
+  unfolding branches
+  branches-kept n loop c Δs no-arms s h = merge-kept n c Δs s h
+  branches-kept n loop c Δs (a or-else rest) s h =
+      whatever n (arm ws loop a s) _ (arm-coded loop a s) (λ s₁. branches-kept n loop c _ rest _ h)
+
+  mutual
+    unfolding walk
+
+    walk-kept : (n : ℕ) (loop : Bool) (a : Stmt) (s : State) → length (s .frames) ≡ n → Kept n (walk ws loop a s)
+    walk-kept n loop (line m a) s h = act-kept n loop m a s h
+
+    act-kept : (n : ℕ) (loop : Bool) (m : ℕ) (a : Act) (s : State) → length (s .frames) ≡ n → Kept n (act ws loop m a s)
+    act-kept n loop m break s h = only-kept n loop 20 m s (omega arith) (omega arith) h
+    act-kept n loop m continue s h = only-kept n loop 21 m s (omega arith) (omega arith) h
+    act-kept n loop m pass s h = done-kept n s h
+    act-kept n loop m class s h = done-kept n s h
+    act-kept n loop m (assign e v) s h = checked-kept n v s _ (λ t. assign-kept n e t s h)
+    act-kept n loop m (expr e) s h = checked-kept n e s _ (λ t. done-kept n s h)
+    act-kept n loop m (return e) s h = checked-kept n e s _ (λ t. return-kept n _ t s h)
+    act-kept n loop m (ifThen as′) s h = branches-kept n loop _ [] as′ s h
+    act-kept n loop m (while c b) s h =
+        onwards n (condition ws c s) _ (condition-kept n c s h) (λ s₁ h₁. back-kept n s _ h (drops-coded true b s₁))
+    act-kept n loop m (for x e b) s h =
+        checked-kept n e s _ (λ t. over-kept n _ t s _ (λ u. back-kept n s _ h (kept-coded n _ (body-kept n true b _ (write-kept x u (s .frames) ∙ h)))))
+    act-kept n loop m (def xs b) s h =
+        room-kept n m s _ (returns-kept n (s .returns) _ (popped-kept n _ (body-kept (suc n) false b _ (enter-kept n xs s h))))
+
+    -- a body whose errors are returned
+    body-kept : (n : ℕ) (loop : Bool) (b : Stmts) (s : State) → length (s .frames) ≡ n → Kept n (body ws loop false b s)
+    body-kept n loop no-stmts s h = done-kept n s h
+    body-kept n loop (a next b) s h = returned n (walk ws loop a s) _ (walk-kept n loop a s h) (λ s₁ h₁. body-kept n loop b s₁ h₁)
+
+  pub program-kept : (n : ℕ) (b : Stmts) (s : State) → length (s .frames) ≡ n → Kept n (program ws b s)
+  unfolding program
+  program-kept n no-stmts s h = done-kept n s h
+  program-kept n (a next b) s h = onwards n (walk ws false a _) _ (walk-kept n false a _ h) (λ s₁ h₁. program-kept n b s₁ h₁)
+
+  -- ---- the program
+
+  start-one : length (start .frames) ≡ 1
+  unfolding start
+  start-one = refl
+
+  -- "An accepted program ends with exactly one frame", and a refused one with a typing code
+  pub accepted-one-frame : (b : Stmts) (s : State) → program ws b start ≡ done s → length (s .frames) ≡ 1
+  accepted-one-frame b s e = kept-done 1 (program-kept 1 b start start-one) e
+
+  pub refused-typing : (b : Stmts) (r : Refusal) (s : State) → program ws b start ≡ wrong r s → Typing r
+  refused-typing b r s e = kept-wrong 1 (program-kept 1 b start start-one) e
