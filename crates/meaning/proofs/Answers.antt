@@ -1,0 +1,139 @@
+-- The answer: its code is one of document 01's numbers, and what it leaves at 0 or empty is told by the code.
+use mathlib.Core.Path.{_≡_, refl, _∙_, ap, sym}
+use mathlib.Core.Bool.{Bool, true, false}
+use mathlib.Core.Logic.{_⊎_, inl, inr, ⊎-elim}
+use mathlib.Core.Option.{Option, none, some}
+use mathlib.Core.List.{List, [], _∷_, _++_}
+use Prim.Native.Nat.{ℕ, _+_, _≤_, _<_}
+use native.Mathlib.Omega.{arith}
+use borrow.Author.Tests.{leb-true, le-leb}
+use lib.Dec.{leb}
+use lib.ListN.{length, drop, length-append, length-drop}
+use Rattle.meaning.specs.Base.{if_then_else_, ifSome}
+use Rattle.meaning.specs.Image.{Fault, Name, Node, imageFault, namesOf, nodesOf}
+use Rattle.meaning.specs.Message.{Refusal}
+use Rattle.meaning.specs.Walk.{State, End, done, wrong, tooDeep}
+use Rattle.meaning.specs.Sheet.{Entry, sheetOf, withinLimits}
+use Rattle.meaning.specs.Read.{readSheet, SheetOf}
+use Rattle.meaning.specs.Answer.{Answer, bare, written, fitting, ended, walked, answer, readAnswer, writeAnswer, overlaid}
+use Rattle.meaning.proofs.Faults.{Told, fault-told}
+use Rattle.meaning.proofs.Codes.{Typing}
+use Rattle.meaning.proofs.Kept.{accepted-one-frame, refused-typing}
+use Rattle.meaning.proofs.SheetForm.{read-some, sheet-length}
+
+-- an answer to a caller who lends so much room
+pub record Answered (sheetRoom messageRoom : ℕ) (a : Answer) : Type 0 where
+  -- 0 to 10, or 20 to 50
+  pub code : (a .code ≤ 10) ⊎ ((20 ≤ a .code) × (a .code ≤ 50))
+  -- "Codes outside 20..50 have span 0,0"
+  pub span : a .code < 20 → (a .spanStart ≡ 0) × (a .spanEnd ≡ 0)
+  -- "and place 0 where none is told"
+  pub place : (a .code < 4) ⊎ (a .code ≡ 10) → a .place ≡ 0
+  -- "every other code has sheet length 0"
+  pub sheet : 0 < a .code → a .sheet ≡ []
+  -- "for other codes, length is 0"
+  pub message : a .code < 20 → a .message ≡ []
+  pub sheet-fits : length (a .sheet) ≤ sheetRoom
+  pub message-fits : length (a .message) ≤ messageRoom
+
+module _ (sheetRoom messageRoom : ℕ) where
+  bare-answered : (c n : ℕ) → c ≤ 10 → ((c < 4) ⊎ (c ≡ 10) → n ≡ 0) → Answered sheetRoom messageRoom (bare c n)
+  bare-answered c n h p =
+      record {
+        code = inl h;
+        span = λ l. (refl, refl);
+        place = p;
+        sheet = λ l. refl;
+        message = λ l. refl;
+        sheet-fits = omega arith;
+        message-fits = omega arith;
+      }
+
+  full-answered : (bs : List ℕ) → length bs ≤ sheetRoom
+      → Answered sheetRoom messageRoom (record { code = 0; place = 0; spanStart = 0; spanEnd = 0; sheet = bs; message = [] })
+  full-answered bs h =
+      record {
+        code = inl (omega arith);
+        span = λ l. (refl, refl);
+        place = λ l. refl;
+        sheet = λ l. absurd (omega arith);
+        message = λ l. refl;
+        sheet-fits = h;
+        message-fits = omega arith;
+      }
+
+  if-answered : (b : Bool) (x y : Answer) → (b ≡ true → Answered sheetRoom messageRoom x) → Answered sheetRoom messageRoom y
+      → Answered sheetRoom messageRoom (if b then x else y)
+  unfolding if_then_else_
+  if-answered true x y f g = f refl
+  if-answered false x y f g = g
+
+  pub written-answered : (bs : List ℕ) → Answered sheetRoom messageRoom (written sheetRoom bs)
+  unfolding written
+  written-answered bs =
+      if-answered _ _ _ (λ e. full-answered bs (leb-true (length bs) sheetRoom e)) (bare-answered 10 0 (omega arith) (λ l. refl))
+
+  fitting-fits : (bs : List ℕ) → length (fitting messageRoom bs) ≤ messageRoom
+  unfolding fitting if_then_else_
+  fitting-fits bs = by (leb (length bs) messageRoom) refl
+    where
+      by : (b : Bool) → leb (length bs) messageRoom ≡ b → length (if b then bs else []) ≤ messageRoom
+      by true e = leb-true (length bs) messageRoom e
+      by false e = omega arith
+
+  ended-answered : (ws : List Name) (ds : List Node) (e : End) → ((r : Refusal) (s : State) → e ≡ wrong r s → Typing r)
+      → Answered sheetRoom messageRoom (ended ws ds sheetRoom messageRoom e)
+  unfolding ended
+  ended-answered ws ds (done s) h = written-answered _
+  ended-answered ws ds (wrong r s) h =
+      let t = h r s refl in
+      record {
+        code = inr (t .above, t .below);
+        span = λ l. absurd (omega (arith, t .above));
+        place = λ l. absurd (⊎-elim (λ a. omega (arith, t .above)) (λ a. omega (arith, t .above)) l);
+        sheet = λ l. refl;
+        message = λ l. absurd (omega (arith, t .above));
+        sheet-fits = omega arith;
+        message-fits = fitting-fits _;
+      }
+  ended-answered ws ds (tooDeep n) h = bare-answered 9 n (omega arith) (λ l. absurd (⊎-elim (λ a. omega arith) (λ a. omega arith) l))
+
+  fault-answered : (o : Option Fault) (a : Answer) → ((f : Fault) → o ≡ some f → Told f) → Answered sheetRoom messageRoom a
+      → Answered sheetRoom messageRoom (ifSome o (λ f. bare (f .code) (f .place)) a)
+  unfolding ifSome
+  fault-answered none a t h = h
+  fault-answered (some f) a t h =
+      let u = t f refl in
+      bare-answered (f .code) (f .place) (omega (arith, u .below)) (λ l. ⊎-elim (λ e. u .nowhere e) (λ e. absurd (omega (arith, u .below))) l)
+
+  pub answered : (bs : List ℕ) → Answered sheetRoom messageRoom (answer bs sheetRoom messageRoom)
+  unfolding answer walked
+  answered bs =
+      fault-answered (imageFault bs) _ (λ f e. fault-told bs f e)
+      (ended-answered (namesOf bs) (nodesOf bs) _ (λ r s e. refused-typing (namesOf bs) _ r s e))
+
+-- ---- the sheet's reader and writer
+
+-- "writing what it read gives the same bytes"
+pub write-read : (bs : List ℕ) (es : List Entry) (room : ℕ) → readSheet bs ≡ some es → writeAnswer es room ≡ written room bs
+unfolding writeAnswer
+write-read bs es room e = ap (written room) (sym (read-some bs es .0 e .written))
+
+-- it takes every sheet, and 12 is for anything else
+pub read-code : (bs : List ℕ) → (readAnswer bs ≡ bare 0 0) ⊎ (readAnswer bs ≡ bare 12 0)
+unfolding readAnswer ifSome
+read-code bs = by (readSheet bs)
+  where
+    by : (o : Option (List Entry)) → (ifSome o (λ es. bare 0 0) (bare 12 0) ≡ bare 0 0) ⊎ (ifSome o (λ es. bare 0 0) (bare 12 0) ≡ bare 12 0)
+    by none = inr refl
+    by (some es) = inl refl
+
+-- ---- the buffers
+
+pub overlaid-length : (bs old : List ℕ) → length bs ≤ length old → length (overlaid bs old) ≡ length old
+unfolding overlaid
+overlaid-length bs old h = omega (arith, length-append bs (drop (length bs) old), length-drop (length bs) old)
+
+pub overlaid-none : (old : List ℕ) → overlaid [] old ≡ old
+unfolding overlaid
+overlaid-none old = refl
