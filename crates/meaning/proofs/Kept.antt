@@ -138,7 +138,7 @@ only-kept n loop c m s l u h = if-kept n loop _ _ (done-kept n s h) (refuse-kept
 
 over-kept : (n m : ℕ) (t : Ty) (s : State) (k : Ty → End) → ((u : Ty) → Kept n (k u)) → Kept n (overElements m t s k)
 unfolding overElements
-over-kept n m t s k h = some-kept n (elementOf t) _ _ h (refuse-kept n 24 m _ s (omega arith) (omega arith))
+over-kept n m t s k h = some-kept n (elementOf t) _ _ h (refuse-kept n _ m _ s (omega arith) (omega arith))
 
 deep-kept : (n m : ℕ) → Kept n (tooDeep m)
 unfolding Kept
@@ -166,7 +166,7 @@ module _ (ws : List Name) where
   merge-name-kept : (n c x : ℕ) (ts : List Ty) (s : State) → length (s .frames) ≡ n → Kept n (mergeName ws c x ts s)
   unfolding mergeName
   merge-name-kept n c x [] s h = done-kept n s h
-  merge-name-kept n c x (t ∷ ts) s h = if-kept n _ _ _ (bind-kept n x t s h) (refuse-kept n 23 c _ s (omega arith) (omega arith))
+  merge-name-kept n c x (t ∷ ts) s h = if-kept n _ _ _ (bind-kept n x t s h) (refuse-kept n _ c _ s (omega arith) (omega arith))
 
   merge-names-kept : (n c : ℕ) (Γ : Frames) (Δs : List Frames) (xs : List ℕ) (s : State) → length (s .frames) ≡ n
       → Kept n (mergeNames ws c Γ Δs xs s)
@@ -183,12 +183,12 @@ module _ (ws : List Name) where
   assign-name-kept : (n m x : ℕ) (t : Ty) (s : State) → length (s .frames) ≡ n → Kept n (assignName m x t s)
   unfolding assignName
   assign-name-kept n m x t s h =
-      some-kept n (agreed _ t) _ _ (λ u. bind-kept n x u s h) (refuse-kept n 25 m _ s (omega arith) (omega arith))
+      some-kept n (agreed _ t) _ _ (λ u. bind-kept n x u s h) (refuse-kept n _ m _ s (omega arith) (omega arith))
 
   return-kept : (n m : ℕ) (t : Ty) (s : State) → length (s .frames) ≡ n → Kept n (returnRule m t s)
   unfolding returnRule
   return-kept n m t s h =
-      some-kept n (agreed _ t) _ _ (λ u. done-kept n _ h) (refuse-kept n 22 m _ s (omega arith) (omega arith))
+      some-kept n (agreed _ t) _ _ (λ u. done-kept n _ h) (refuse-kept n _ m _ s (omega arith) (omega arith))
 
   checked-kept : (n : ℕ) (e : Expr) (s : State) (k : Ty → End) → ((t : Ty) → Kept n (k t)) → Kept n (checked ws e s k)
   unfolding checked
@@ -197,7 +197,7 @@ module _ (ws : List Name) where
   condition-kept : (n : ℕ) (e : Expr) (s : State) → length (s .frames) ≡ n → Kept n (condition ws e s)
   unfolding condition
   condition-kept n e s h =
-      checked-kept n e s _ (λ t. if-kept n _ _ _ (done-kept n s h) (refuse-kept n 36 _ _ s (omega arith) (omega arith)))
+      checked-kept n e s _ (λ t. if-kept n _ _ _ (done-kept n s h) (refuse-kept n _ _ _ s (omega arith) (omega arith)))
 
   no-target : (n m : ℕ) (s : State) → Kept n (refuse 28 m [] s)
   no-target n m s = refuse-kept n 28 m [] s (omega arith) (omega arith)
@@ -218,8 +218,8 @@ module _ (ws : List Name) where
     form-kept n m (listOf es) t s h = no-target n m s
     form-kept n m (dictOf es) t s h = no-target n m s
     form-kept n m (tupleOf es) t s h =
-        some-kept n (unpacked _ t) _ _ (λ ts. if-kept n _ _ _ (each-kept n es ts s h) (refuse-kept n 26 m _ s (omega arith) (omega arith)))
-        (refuse-kept n 27 m _ s (omega arith) (omega arith))
+        some-kept n (unpacked _ t) _ _ (λ ts. if-kept n _ _ _ (each-kept n es ts s h) (refuse-kept n _ m _ s (omega arith) (omega arith)))
+        (refuse-kept n _ m _ s (omega arith) (omega arith))
     form-kept n m (setOf es) t s h = no-target n m s
     form-kept n m (index o i) t s h = checked-kept n _ s _ (λ u. done-kept n s h)
     form-kept n m lambda t s h = no-target n m s

@@ -1,9 +1,12 @@
--- The starred runs of the scope: one statement.
+-- Document 01's runs with known ends: the starred ones as one statement, the others likewise, and the two lines that it prints.
 use mathlib.Core.Path.{_≡_, refl}
 use mathlib.Core.List.{List, [], _∷_, _++_, map}
+use Prim.Native.Nat.{ℕ}
+use Prim.Native.String.{String}
 use Rattle.meaning.specs.Limits.{sheetBuffer, messageBuffer}
 use Rattle.meaning.specs.Base.{bytes, words}
 use Rattle.meaning.specs.Answer.{Answer, answer, meaning-open}
+use Rattle.meaning.specs.Line.{printed, line-open}
 use Rattle.meaning.proofs.Rows.{Run, image, accepts, refuses}
 
 abbrev noNames : Answer
@@ -76,3 +79,69 @@ runs =
 pub runs-end : map (λ r. answer (r .0) sheetBuffer messageBuffer) runs ≡ map (λ r. r .1) runs
 unfolding meaning-open
 runs-end = refl
+
+-- ---- "Also: .."
+
+abbrev also : List Run
+also =
+    ((
+      image []
+          ((12 ∷ 0 ∷ 1 ∷ 8 ∷ 0 ∷ 0 ∷ []) ∷ (6 ∷ 0 ∷ 1 ∷ 8 ∷ 0 ∷ 17 ∷ []) ∷ (26 ∷ 0 ∷ 3 ∷ 8 ∷ 0 ∷ 17 ∷ []) ∷ (20 ∷ 1 ∷ 0 ∷ 4 ∷ 1 ∷ 2 ∷ []) ∷ (20 ∷ 2 ∷ 0 ∷ 5 ∷ 4 ∷ 7 ∷ []) ∷ (23 ∷ 0 ∷ 2 ∷ 8 ∷ 9 ∷ 16 ∷ []) ∷ (20 ∷ 1 ∷ 0 ∷ 7 ∷ 9 ∷ 10 ∷ []) ∷ (20 ∷ 2 ∷ 0 ∷ 8 ∷ 13 ∷ 16 ∷ []) ∷ []),
+      noNames,
+    )  -- [1, "a", 1 + "b"]: the list ended before 1 + "b"
+    ∷ (
+      image (("i", 0, 0, 0) ∷ [])
+          ((12 ∷ 0 ∷ 1 ∷ 9 ∷ 0 ∷ 0 ∷ []) ∷ (10 ∷ 0 ∷ 2 ∷ 9 ∷ 0 ∷ 35 ∷ []) ∷ (26 ∷ 0 ∷ 1 ∷ 4 ∷ 9 ∷ 12 ∷ []) ∷ (20 ∷ 1 ∷ 0 ∷ 4 ∷ 10 ∷ 11 ∷ []) ∷ (12 ∷ 0 ∷ 2 ∷ 9 ∷ 0 ∷ 0 ∷ []) ∷ (7 ∷ 0 ∷ 1 ∷ 7 ∷ 15 ∷ 23 ∷ []) ∷ (20 ∷ 1 ∷ 0 ∷ 7 ∷ 22 ∷ 23 ∷ []) ∷ (7 ∷ 0 ∷ 1 ∷ 9 ∷ 25 ∷ 35 ∷ []) ∷ (20 ∷ 2 ∷ 0 ∷ 9 ∷ 32 ∷ 35 ∷ []) ∷ []),
+      refuses 22 8 32 35 (bytes "TypeError: inconsistent return types in function: Int vs String"),
+    )  -- for i in [1]: with return 1 and return "a"
+    ∷ (
+      image []
+          ((12 ∷ 0 ∷ 2 ∷ 5 ∷ 0 ∷ 0 ∷ []) ∷ (7 ∷ 0 ∷ 1 ∷ 3 ∷ 0 ∷ 8 ∷ []) ∷ (20 ∷ 1 ∷ 0 ∷ 3 ∷ 7 ∷ 8 ∷ []) ∷ (7 ∷ 0 ∷ 1 ∷ 5 ∷ 9 ∷ 19 ∷ []) ∷ (20 ∷ 2 ∷ 0 ∷ 5 ∷ 16 ∷ 19 ∷ []) ∷ []),
+      noNames,
+    )  -- return 1, return "a": each statement of the module has a return type afresh
+    ∷ (
+      image (("a", 0, 0, 0) ∷ ("b", 0, 0, 0) ∷ [])
+          ((12 ∷ 0 ∷ 1 ∷ 17 ∷ 0 ∷ 0 ∷ []) ∷ (8 ∷ 0 ∷ 3 ∷ 17 ∷ 0 ∷ 46 ∷ []) ∷ (20 ∷ 0 ∷ 0 ∷ 3 ∷ 3 ∷ 7 ∷ []) ∷ (12 ∷ 0 ∷ 2 ∷ 10 ∷ 0 ∷ 0 ∷ []) ∷ (5 ∷ 0 ∷ 2 ∷ 7 ∷ 10 ∷ 15 ∷ []) ∷ (21 ∷ 1 ∷ 0 ∷ 6 ∷ 10 ∷ 11 ∷ []) ∷ (20 ∷ 1 ∷ 0 ∷ 7 ∷ 14 ∷ 15 ∷ []) ∷ (5 ∷ 0 ∷ 2 ∷ 10 ∷ 17 ∷ 22 ∷ []) ∷ (21 ∷ 0 ∷ 0 ∷ 9 ∷ 17 ∷ 18 ∷ []) ∷ (20 ∷ 1 ∷ 0 ∷ 10 ∷ 21 ∷ 22 ∷ []) ∷ (12 ∷ 0 ∷ 2 ∷ 17 ∷ 0 ∷ 0 ∷ []) ∷ (5 ∷ 0 ∷ 2 ∷ 14 ∷ 30 ∷ 37 ∷ []) ∷ (21 ∷ 1 ∷ 0 ∷ 13 ∷ 30 ∷ 31 ∷ []) ∷ (20 ∷ 2 ∷ 0 ∷ 14 ∷ 34 ∷ 37 ∷ []) ∷ (5 ∷ 0 ∷ 2 ∷ 17 ∷ 39 ∷ 46 ∷ []) ∷ (21 ∷ 0 ∷ 0 ∷ 16 ∷ 39 ∷ 40 ∷ []) ∷ (20 ∷ 2 ∷ 0 ∷ 17 ∷ 43 ∷ 46 ∷ []) ∷ []),
+      refuses 23 2 3 7 (bytes "TypeError: variable 'a' has incompatible types across branches"),
+    )  -- branches that differ on b and a: a is named
+    ∷ (
+      image (("f0", 4, 0, 0) ∷ ("f1", 4, 0, 0) ∷ ("f2", 4, 0, 0) ∷ ("f3", 4, 0, 0) ∷ ("f4", 4, 0, 0) ∷ ("f5", 4, 0, 0) ∷ ("f6", 4, 0, 0) ∷ [])
+          ((12 ∷ 0 ∷ 1 ∷ 16 ∷ 0 ∷ 0 ∷ []) ∷ (11 ∷ 0 ∷ 1 ∷ 16 ∷ 0 ∷ 102 ∷ []) ∷ (12 ∷ 0 ∷ 1 ∷ 16 ∷ 0 ∷ 0 ∷ []) ∷ (11 ∷ 1 ∷ 1 ∷ 16 ∷ 11 ∷ 102 ∷ []) ∷ (12 ∷ 0 ∷ 1 ∷ 16 ∷ 0 ∷ 0 ∷ []) ∷ (11 ∷ 2 ∷ 1 ∷ 16 ∷ 23 ∷ 102 ∷ []) ∷ (12 ∷ 0 ∷ 1 ∷ 16 ∷ 0 ∷ 0 ∷ []) ∷ (11 ∷ 3 ∷ 1 ∷ 16 ∷ 36 ∷ 102 ∷ []) ∷ (12 ∷ 0 ∷ 1 ∷ 16 ∷ 0 ∷ 0 ∷ []) ∷ (11 ∷ 4 ∷ 1 ∷ 16 ∷ 50 ∷ 102 ∷ []) ∷ (12 ∷ 0 ∷ 1 ∷ 16 ∷ 0 ∷ 0 ∷ []) ∷ (11 ∷ 5 ∷ 1 ∷ 16 ∷ 65 ∷ 102 ∷ []) ∷ (12 ∷ 0 ∷ 1 ∷ 16 ∷ 0 ∷ 0 ∷ []) ∷ (11 ∷ 6 ∷ 1 ∷ 16 ∷ 81 ∷ 102 ∷ []) ∷ (12 ∷ 0 ∷ 1 ∷ 16 ∷ 0 ∷ 0 ∷ []) ∷ (3 ∷ 0 ∷ 0 ∷ 16 ∷ 98 ∷ 102 ∷ []) ∷ []),
+      noNames,
+    )  -- seven nested Defs
+    ∷ (
+      image (("f0", 4, 0, 0) ∷ ("f1", 4, 0, 0) ∷ ("f2", 4, 0, 0) ∷ ("f3", 4, 0, 0) ∷ ("f4", 4, 0, 0) ∷ ("f5", 4, 0, 0) ∷ ("f6", 4, 0, 0) ∷ ("f7", 4, 0, 0) ∷ [])
+          ((12 ∷ 0 ∷ 1 ∷ 18 ∷ 0 ∷ 0 ∷ []) ∷ (11 ∷ 0 ∷ 1 ∷ 18 ∷ 0 ∷ 120 ∷ []) ∷ (12 ∷ 0 ∷ 1 ∷ 18 ∷ 0 ∷ 0 ∷ []) ∷ (11 ∷ 1 ∷ 1 ∷ 18 ∷ 11 ∷ 120 ∷ []) ∷ (12 ∷ 0 ∷ 1 ∷ 18 ∷ 0 ∷ 0 ∷ []) ∷ (11 ∷ 2 ∷ 1 ∷ 18 ∷ 23 ∷ 120 ∷ []) ∷ (12 ∷ 0 ∷ 1 ∷ 18 ∷ 0 ∷ 0 ∷ []) ∷ (11 ∷ 3 ∷ 1 ∷ 18 ∷ 36 ∷ 120 ∷ []) ∷ (12 ∷ 0 ∷ 1 ∷ 18 ∷ 0 ∷ 0 ∷ []) ∷ (11 ∷ 4 ∷ 1 ∷ 18 ∷ 50 ∷ 120 ∷ []) ∷ (12 ∷ 0 ∷ 1 ∷ 18 ∷ 0 ∷ 0 ∷ []) ∷ (11 ∷ 5 ∷ 1 ∷ 18 ∷ 65 ∷ 120 ∷ []) ∷ (12 ∷ 0 ∷ 1 ∷ 18 ∷ 0 ∷ 0 ∷ []) ∷ (11 ∷ 6 ∷ 1 ∷ 18 ∷ 81 ∷ 120 ∷ []) ∷ (12 ∷ 0 ∷ 1 ∷ 18 ∷ 0 ∷ 0 ∷ []) ∷ (11 ∷ 7 ∷ 1 ∷ 18 ∷ 98 ∷ 120 ∷ []) ∷ (12 ∷ 0 ∷ 1 ∷ 18 ∷ 0 ∷ 0 ∷ []) ∷ (3 ∷ 0 ∷ 0 ∷ 18 ∷ 116 ∷ 120 ∷ []) ∷ []),
+      refuses 9 15 0 0 [],
+    )  -- eight nested Defs: the eighth needs a ninth frame
+    ∷ (
+      image (("len", 3, 0, 0) ∷ [])
+          ((12 ∷ 0 ∷ 1 ∷ 5 ∷ 0 ∷ 0 ∷ []) ∷ (6 ∷ 0 ∷ 1 ∷ 5 ∷ 9 ∷ 17 ∷ []) ∷ (24 ∷ 0 ∷ 2 ∷ 5 ∷ 9 ∷ 17 ∷ []) ∷ (21 ∷ 0 ∷ 0 ∷ 4 ∷ 9 ∷ 12 ∷ []) ∷ (20 ∷ 2 ∷ 0 ∷ 5 ∷ 13 ∷ 16 ∷ []) ∷ []),
+      refuses 5 0 0 0 [],
+    )  -- len with role 3
+    ∷ [])
+
+pub also-end : map (λ r. answer (r .0) sheetBuffer messageBuffer) also ≡ map (λ r. r .1) also
+unfolding meaning-open
+also-end = refl
+
+-- ---- what `typecheck` prints: "For `1 + "a"`, its Binary span 0..7", and "case 2"
+
+abbrev lines : List (List ℕ × String)
+lines =
+    ((
+      image []
+          ((12 ∷ 0 ∷ 1 ∷ 5 ∷ 0 ∷ 0 ∷ []) ∷ (6 ∷ 0 ∷ 1 ∷ 5 ∷ 0 ∷ 7 ∷ []) ∷ (23 ∷ 0 ∷ 2 ∷ 5 ∷ 0 ∷ 7 ∷ []) ∷ (20 ∷ 1 ∷ 0 ∷ 4 ∷ 0 ∷ 1 ∷ []) ∷ (20 ∷ 2 ∷ 0 ∷ 5 ∷ 4 ∷ 7 ∷ []) ∷ []),
+      "refused 29 2 0 7 TypeError: unsupported operand types for +: Int and String\n",
+    )
+    ∷ (
+      image (("x", 0, 0, 0) ∷ [])
+          ((12 ∷ 0 ∷ 1 ∷ 4 ∷ 0 ∷ 0 ∷ []) ∷ (5 ∷ 0 ∷ 2 ∷ 4 ∷ 0 ∷ 5 ∷ []) ∷ (21 ∷ 0 ∷ 0 ∷ 3 ∷ 0 ∷ 1 ∷ []) ∷ (20 ∷ 1 ∷ 0 ∷ 4 ∷ 4 ∷ 5 ∷ []) ∷ []),
+      "accepted 1 0 53\n",
+    )
+    ∷ ([], "refused 1 0 0 0 -\n")
+    ∷ [])
+
+pub lines-end : map (λ r. printed (r .0)) lines ≡ map (λ r. bytes (r .1)) lines
+unfolding meaning-open line-open
+lines-end = refl

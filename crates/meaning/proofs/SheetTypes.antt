@@ -14,23 +14,7 @@ use Rattle.meaning.specs.Types.{Ty, Ty-discrete, unknown, int, bool, str
 use Rattle.meaning.specs.Sheet.{Entry, addNew, met, metAll, typesOf, position, number}
 use Rattle.meaning.specs.Read.{numbered}
 use Rattle.meaning.proofs.Choices.{same-yes, same-no, plain-kind}
-
--- ---- what addNew does
-
-pub data Added (t : Ty) (us vs : List Ty) : Type 0 where
-  old : List·Memᴰ t us → vs ≡ us → Added t us vs
-  fresh : (List·Memᴰ t us → ⊥) → vs ≡ us ++ (t ∷ []) → Added t us vs
-
-added-cons : {t u : Ty} {us : List Ty} → Dec (t ≡ u) → Added t us (addNew t us) → Added t (u ∷ us) (addNew t (u ∷ us))
-unfolding addNew if_then_else_
-added-cons (yes p) a = old (List·Memᴰ·head p) (rw (same-yes _ _ p))
-added-cons (no q) (old m e) = old (List·Memᴰ·tail m) (rw (same-no _ _ q, e))
-added-cons (no q) (fresh n e) = fresh (λ m. ⊎-elim q n (List·Memᴰ·cases-cons m)) (rw (same-no _ _ q, e))
-
-pub added : (t : Ty) (us : List Ty) → Added t us (addNew t us)
-unfolding addNew
-added t [] = fresh List·Memᴰ·not-nil refl
-added t (u ∷ us) = added-cons (Ty-discrete t u) (added t us)
+use Rattle.meaning.proofs.SheetWalk.{Added, old, fresh, added, found}
 
 -- ---- the order of the walk
 
@@ -151,15 +135,6 @@ pub number-le : (us : List Ty) (t : Ty) → number us t ≤ 8 + length us
 number-le us t = elim (decLt (kind t) 8) [
   | yes h ↦ omega (arith, number-plain us t h)
   | no h ↦ omega (arith, number-above us t (omega arith), position-le t us)
-]
-
--- what stands in the first part of a list has its place there
-pub found : (t : Ty) (us vs : List Ty) → List·Memᴰ t us → (getD us (position t (us ++ vs)) unknown ≡ t) × (position t (us ++ vs) < length us)
-unfolding position if_then_else_
-found t [] vs m = absurd (List·Memᴰ·not-nil m)
-found t (u ∷ us) vs m = elim (Ty-discrete t u) [
-  | yes p ↦ rw (same-yes t u p) (sym p, omega arith)
-  | no q ↦ let h = found t us vs (⊎-elim (λ e. absurd (q e)) (λ r. r) (List·Memᴰ·cases-cons m)) in rw (same-no t u q) (h .0, omega arith)
 ]
 
 plain-read : (us : List Ty) (t : Ty) → kind t < 8 → numbered us (kind t) ≡ t
