@@ -1,2 +1,3 @@
 mod Programs
 mod Damaged
+mod Decisions
