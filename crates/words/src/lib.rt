@@ -1,0 +1,138 @@
+// Bytes and words: read, written, compared, copied, and numbers in decimal. Everything stands in a slice that the caller lends.
+ghost use mathlib.Core.Path.{_≡_};
+ghost use mathlib.Core.List.{[], _∷_};
+ghost use Prim.Native.Nat.{_+_, _<_, _≤_};
+ghost use lib.ListN.{length, take, drop};
+ghost use Rattle.meaning.specs.Base.{word, words, sameText, before as comesBefore, decimal};
+ghost use Rattle.words.specs.Words.{putAt};
+
+// ---- words of four bytes, the lowest byte first
+
+// As a call of its own, a byte asks no proof that it fits a word.
+fn wide(b: u8) -> u32
+    ensures { λ r. ⌜ (r ≡ b) × (r < 256) ⌝ }
+{
+    b as u32
+}
+
+pub fn get_word(s: &[u8], at: usize) -> u32
+    requires { ⌜ at + 4 ≤ length (now s) ⌝ }
+    ensures { λ r. ⌜ r ≡ word (now (s .entry)) at ⌝ }
+{
+    let b0 = wide(s[at]);
+    let b1 = wide(s[at + 1]);
+    let b2 = wide(s[at + 2]);
+    let b3 = wide(s[at + 3]);
+    b0 + 256 * b1 + 65536 * b2 + 16777216 * b3
+}
+
+// The last `% 256` changes nothing: with it each byte is what `words` says.
+pub fn put_word(buf: &mut [u8], at: usize, w: u32)
+    requires { ⌜ at + 4 ≤ length (now buf) ⌝ }
+    ensures { λ _. ⌜ now (buf .exit) ≡ putAt (now (buf .entry)) at (words (w ∷ [])) ⌝ }
+    ensures { λ _. ⌜ length (now (buf .exit)) ≡ length (now (buf .entry)) ⌝ }
+{
+    buf[at] = (w % 256) as u8;
+    buf[at + 1] = (w / 256 % 256) as u8;
+    buf[at + 2] = (w / 256 / 256 % 256) as u8;
+    buf[at + 3] = (w / 256 / 256 / 256 % 256) as u8;
+}
+
+// ---- texts
+
+// A part of s, not a copy.
+pub fn text(s: &[u8], start: usize, len: usize) -> &[u8]
+    requires { ⌜ start + len ≤ length (now s) ⌝ }
+    ensures { λ r. ⌜ now r ≡ take len (drop start (now (s .entry))) ⌝ }
+{
+    &s[start..start + len]
+}
+
+// b may be a byte string: under `unfolding bytes`, what a caller has of `same(t, b"print")` is `sameText (now t) (bytes "print")`.
+pub fn same(a: &[u8], b: &[u8]) -> bool
+    ensures { λ r. ⌜ r ≡ sameText (now (a .entry)) (now (b .entry)) ⌝ }
+{
+    if a.len() != b.len() {
+        return false;
+    }
+    let mut i = 0;
+    while i < a.len() {
+        if a[i] != b[i] {
+            return false;
+        }
+        i += 1;
+    }
+    true
+}
+
+pub fn before(a: &[u8], b: &[u8]) -> bool
+    ensures { λ r. ⌜ r ≡ comesBefore (now (a .entry)) (now (b .entry)) ⌝ }
+{
+    let mut i = 0;
+    while i < a.len() {
+        if b.len() <= i {
+            return false;
+        }
+        if a[i] != b[i] {
+            return a[i] < b[i];
+        }
+        i += 1;
+    }
+    i < b.len()
+}
+
+// ---- copies
+
+// Returns where s ends in buf.
+pub fn put(buf: &mut [u8], at: usize, s: &[u8]) -> usize
+    requires { ⌜ at + length (now s) ≤ length (now buf) ⌝ }
+    ensures { λ _. ⌜ now (buf .exit) ≡ putAt (now (buf .entry)) at (now (s .entry)) ⌝ }
+    ensures { λ r. ⌜ r ≡ at + length (now (s .entry)) ⌝ }
+{
+    let mut j = 0;
+    while j < s.len() {
+        buf[at + j] = s[j];
+        j += 1;
+    }
+    at + j
+}
+
+// ---- numbers in decimal
+
+pub fn decimal_length(n: u32) -> usize
+    ensures { λ r. ⌜ r ≡ length (decimal n) ⌝ }
+    ensures { λ r. ⌜ (1 ≤ r) × (r ≤ 10) ⌝ }
+{
+    let mut len = 1;
+    let mut rest = n;
+    while 10 <= rest {
+        rest /= 10;
+        len += 1;
+    }
+    len
+}
+
+fn digit(d: u32) -> u8
+    requires { ⌜ d < 10 ⌝ }
+    ensures { λ r. ⌜ r ≡ 48 + d ⌝ }
+{
+    b'0' + d as u8
+}
+
+// Division gives the last digit first, so the digits are written from the last to the first. Returns where they end in buf.
+pub fn put_decimal(buf: &mut [u8], at: usize, n: u32) -> usize
+    requires { ⌜ at + length (decimal n) ≤ length (now buf) ⌝ }
+    ensures { λ _. ⌜ now (buf .exit) ≡ putAt (now (buf .entry)) at (decimal n) ⌝ }
+    ensures { λ r. ⌜ r ≡ at + length (decimal n) ⌝ }
+{
+    let len = decimal_length(n);
+    let mut left = len;
+    let mut rest = n;
+    while 10 <= rest {
+        left -= 1;
+        buf[at + left] = digit(rest % 10);
+        rest /= 10;
+    }
+    buf[at] = digit(rest);
+    at + len
+}
