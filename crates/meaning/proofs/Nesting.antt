@@ -1,0 +1,140 @@
+-- What the nodes of a sound image obey: each stands by itself, its children lie inside it in order, its subtree ends where its record
+-- says, and a child lies deeper than its parent.
+use mathlib.Core.Path.{_≡_, refl, _∙_, ap, sym}
+use mathlib.Core.Bool.{Bool, true, false}
+use mathlib.Core.List.{List, [], _∷_}
+use Prim.Native.Nat.{ℕ, zero, suc, _+_, _-_, _≤_, _<_}
+use native.Mathlib.Nat.{zero-add, add-zero, add-suc, suc-add}
+use native.Mathlib.Omega.{arith}
+use native.Mathlib.Decide.{ℕ-discrete, decLt}
+use borrow.Author.Tests.{leb-true, le-leb, lt-leb, ltb-true, lt-ltb, le-ltb, eqb-true}
+use lib.Dec.{eqb, leb, ltb}
+use lib.ListN.{length, getD}
+use Rattle.meaning.specs.Limits.{deepest}
+use Rattle.meaning.specs.Base.{_and_, _or_, if_then_else_}
+use Rattle.meaning.specs.Image.{Node, nodeOf, nodesOf, node, nameCount, nodeCount, nodesFrom, isStatement, isSpanless, isExpression, argBelow, countStands, nodeStands, belongs, lands, nests, depth, brokenNode, badlyNested, tooDeepNode}
+use Rattle.meaning.specs.Decode.{stopOf, past}
+use Rattle.meaning.proofs.Choices.{and-left, and-right, both, none-failing, records-many}
+use Rattle.meaning.proofs.Faults.{Sound}
+
+-- ---- all nodes of a sound image, with N names
+
+pub record Nested (N : ℕ) (ds : List Node) : Type 0 where
+  pub each-stands : (i : ℕ) → i < length ds → nodeStands N (length ds) i (nodeOf ds i) ≡ true
+  pub each-nests : (i : ℕ) → i < length ds → nests ds i (nodeOf ds i) ≡ true
+  pub shallow : (i : ℕ) → i < length ds → depth i 0 ds ≤ deepest
+
+pub nodes-many : (bs : List ℕ) → length (nodesOf bs) ≡ nodeCount bs
+unfolding nodesOf
+nodes-many bs = records-many node 24 (nodeCount bs) _
+
+pub sound-nested : {bs : List ℕ} → Sound bs → Nested (nameCount bs) (nodesOf bs)
+unfolding nodeOf brokenNode badlyNested tooDeepNode
+sound-nested {bs} s =
+    let ds = nodesOf bs in
+    let d : Node = record { kind = 0; arg = 0; children = 0; stop = 0; spanStart = 0; spanEnd = 0 } in
+    record {
+      each-stands = λ i h. rw zero-add at (rw (← nodes-many bs) at (none-failing _ 0 ds d (s .nodes) i h));
+      each-nests = λ i h. rw zero-add at (none-failing _ 0 ds d (s .nested) i h);
+      shallow = λ i h. leb-true _ deepest (rw zero-add at (none-failing _ 0 ds d (s .shallow) i h));
+    }
+
+-- ---- one node
+
+pub record Stands (N M i : ℕ) (d : Node) : Type 0 where
+  pub known : (isStatement (d .kind) or isSpanless (d .kind) or isExpression (d .kind)) ≡ true
+  pub arg : d .arg < argBelow N (d .kind)
+  pub count : countStands (d .kind) (d .children) ≡ true
+  pub forward : i < d .stop
+  pub within : d .stop ≤ M
+
+pub stands : (N M i : ℕ) (d : Node) → nodeStands N M i d ≡ true → Stands N M i d
+unfolding nodeStands
+stands N M i d h =
+    record {
+      known = and-left _ _ (and-left _ _ (and-left _ _ (and-left _ _ (and-left _ _ h))));
+      arg = ltb-true (d .arg) (argBelow N (d .kind)) (and-right _ _ (and-left _ _ (and-left _ _ (and-left _ _ (and-left _ _ h)))));
+      count = and-right _ _ (and-left _ _ (and-left _ _ (and-left _ _ h)));
+      forward = ltb-true i (d .stop) (and-right _ _ (and-left _ _ h));
+      within = leb-true (d .stop) M (and-right _ _ h);
+    }
+
+-- ---- a node's children: the last n of node d's start at i
+
+pub record Children (ds : List Node) (d : Node) (i n : ℕ) : Type 0 where
+  pub landing : lands ds d i n ≡ true
+
+pub children-end : {ds : List Node} {d : Node} {i : ℕ} → Children ds d i 0 → i ≡ d .stop
+unfolding lands
+children-end c = eqb-true _ _ (c .landing)
+
+-- the next one lies inside d, and has business there; the rest start where it ends
+pub record Child (ds : List Node) (d : Node) (i n : ℕ) : Type 0 where
+  pub inside : i < d .stop
+  pub business : belongs (d .kind) (d .children) (d .children - suc n) (nodeOf ds i .kind) ≡ true
+  pub rest : Children ds d (stopOf ds i) n
+
+pub child : {ds : List Node} {d : Node} {i n : ℕ} → Children ds d i (suc n) → Child ds d i n
+unfolding lands stopOf
+child {ds} {d} {i} {n} c =
+    let t = c .landing in
+    record {
+      inside = ltb-true i (d .stop) (and-left _ _ (and-left _ _ t));
+      business = and-right _ _ (and-left _ _ t);
+      rest = record { landing = and-right _ _ t };
+    }
+
+pub children-le : {ds : List Node} {d : Node} {i : ℕ} (n : ℕ) → Children ds d i n → i ≤ d .stop
+children-le zero c = omega (arith, children-end c)
+children-le (suc n) c = omega (arith, child c .inside)
+
+-- a subtree ends where its record says
+pub children-past : {ds : List Node} {d : Node} (n i : ℕ) → Children ds d i n → past ds n i ≡ d .stop
+unfolding past
+children-past zero i c = children-end c
+children-past (suc n) i c = children-past n _ (child c .rest)
+
+-- ---- in a sound image
+
+module _ {N : ℕ} {ds : List Node} (sound : Nested N ds) where
+  pub node-stands : (i : ℕ) → i < length ds → Stands N (length ds) i (nodeOf ds i)
+  node-stands i h = stands N (length ds) i (nodeOf ds i) (sound .each-stands i h)
+
+  pub children : (i : ℕ) → i < length ds → Children ds (nodeOf ds i) (suc i) (nodeOf ds i .children)
+  unfolding nests
+  children i h = record { landing = and-left _ _ (sound .each-nests i h) }
+
+  -- "Node 0 is a Block ending at M."
+  pub root : 0 < length ds → (nodeOf ds 0 .kind ≡ 12) × (nodeOf ds 0 .stop ≡ length ds)
+  unfolding nests _or_
+  root h =
+      let t = and-right _ _ (sound .each-nests 0 h) in
+      (eqb-true _ _ (and-left _ _ t), eqb-true _ _ (and-right _ _ t))
+
+  -- what begins inside a node ends inside it
+  from-child : (i j : ℕ) → ((c : ℕ) → j < c → c < i → i < stopOf ds c → stopOf ds i ≤ stopOf ds c)
+      → (d : Node) (n c : ℕ) → j < c → Children ds d c n → d .stop ≤ length ds → c ≤ i → i < d .stop → stopOf ds i ≤ d .stop
+  unfolding stopOf
+  from-child i j ih d zero c l k m a b = absurd (omega (arith, children-end k))
+  from-child i j ih d (suc n) c l k m a b =
+      let r = child k in
+      let e : stopOf ds c ≤ d .stop = children-le n (r .rest) in
+      let f : c < stopOf ds c = node-stands c (omega arith) .forward in
+      elim (decLt i (stopOf ds c)) [
+        | yes p ↦ elim (decLt c i) [
+          | yes q ↦ omega (arith, ih c l q p, e)
+          | no q ↦ let s : c ≡ i = omega arith in rw s at e
+        ]
+        | no p ↦ from-child i j ih d n (stopOf ds c) (omega arith) (r .rest) m (omega arith) b
+      ]
+
+  within-by : (k j i : ℕ) → i ≤ j + k → j < i → j < length ds → i < stopOf ds j → stopOf ds i ≤ stopOf ds j
+  unfolding stopOf
+  within-by zero j i h l m b = absurd (omega arith)
+  within-by (suc k) j i h l m b =
+      let s = node-stands j m in
+      from-child i j (λ c p q r. within-by k c i (omega arith) q (omega (arith, s .within)) r) (nodeOf ds j) (nodeOf ds j .children) (suc j) (omega arith)
+      (children j m) (s .within) (omega arith) b
+
+  pub within : (j i : ℕ) → j < i → j < length ds → i < stopOf ds j → stopOf ds i ≤ stopOf ds j
+  within j i l m b = within-by i j i (omega arith) l m b
