@@ -5,7 +5,7 @@ use mathlib.Core.Logic.{_⊎_, inl, inr}
 use mathlib.Core.Option.{Option, none, some, Option·none-ne-some, Option·some-injective}
 use mathlib.Core.List.{List, [], _∷_}
 use Prim.Native.Nat.{ℕ, zero, suc, _+_, _≤_, _<_}
-use native.Mathlib.Nat.{add-zero, add-suc, suc-add, not-suc-le-zero, le-of-suc-le-suc}
+use native.Mathlib.Nat.{zero-add, add-zero, add-suc, suc-add, not-suc-le-zero, le-of-suc-le-suc}
 use native.Mathlib.Omega.{arith}
 use borrow.Author.Tests.{eqb-true, eq-eqb, ne-eqb}
 use lib.Dec.{eqb}
@@ -66,6 +66,9 @@ none-failing f i [] d e k h = absurd (not-suc-le-zero h)
 none-failing f i (x ∷ xs) d e zero h = rw add-zero (if-none _ _ _ e .0)
 none-failing f i (x ∷ xs) d e (suc k) h =
     rw (add-suc, ← suc-add) (none-failing f (suc i) xs d (if-none _ _ _ e .1) k (le-of-suc-le-suc h))
+
+pub all-pass : {A : Type 0} (f : ℕ → A → Bool) (xs : List A) (d : A) → firstNot f 0 xs ≡ none → (k : ℕ) → k < length xs → f k (getD xs k d) ≡ true
+all-pass f xs d e k h = rw zero-add at (none-failing f 0 xs d e k h)
 
 pub records-many : {A : Type 0} (read : List ℕ → A) (size n : ℕ) (bs : List ℕ) → length (records read size n bs) ≡ n
 unfolding records

@@ -4,7 +4,7 @@ use mathlib.Core.Path.{_≡_, refl, _∙_, ap, sym}
 use mathlib.Core.Bool.{Bool, true, false}
 use mathlib.Core.List.{List, [], _∷_}
 use Prim.Native.Nat.{ℕ, zero, suc, _+_, _-_, _≤_, _<_}
-use native.Mathlib.Nat.{zero-add, add-zero, add-suc, suc-add}
+use native.Mathlib.Nat.{add-zero, add-suc, suc-add}
 use native.Mathlib.Omega.{arith}
 use native.Mathlib.Decide.{ℕ-discrete, decLt}
 use borrow.Author.Tests.{leb-true, le-leb, lt-leb, ltb-true, lt-ltb, le-ltb, eqb-true}
@@ -14,7 +14,7 @@ use Rattle.meaning.specs.Limits.{deepest}
 use Rattle.meaning.specs.Base.{_and_, _or_, if_then_else_}
 use Rattle.meaning.specs.Image.{Node, nodeOf, nodesOf, node, nameCount, nodeCount, nodesFrom, isStatement, isSpanless, isExpression, argBelow, countStands, nodeStands, belongs, lands, nests, depth, brokenNode, badlyNested, tooDeepNode}
 use Rattle.meaning.specs.Decode.{stopOf, past}
-use Rattle.meaning.proofs.Choices.{and-left, and-right, both, none-failing, records-many}
+use Rattle.meaning.proofs.Choices.{and-left, and-right, both, all-pass, records-many}
 use Rattle.meaning.proofs.Faults.{Sound}
 
 -- ---- all nodes of a sound image, with N names
@@ -34,9 +34,9 @@ sound-nested {bs} s =
     let ds = nodesOf bs in
     let d : Node = record { kind = 0; arg = 0; children = 0; stop = 0; spanStart = 0; spanEnd = 0 } in
     record {
-      each-stands = λ i h. rw zero-add at (rw (← nodes-many bs) at (none-failing _ 0 ds d (s .nodes) i h));
-      each-nests = λ i h. rw zero-add at (none-failing _ 0 ds d (s .nested) i h);
-      shallow = λ i h. leb-true _ deepest (rw zero-add at (none-failing _ 0 ds d (s .shallow) i h));
+      each-stands = λ i h. rw (← nodes-many bs) at (all-pass _ ds d (s .nodes) i h);
+      each-nests = λ i h. all-pass _ ds d (s .nested) i h;
+      shallow = λ i h. leb-true _ deepest (all-pass _ ds d (s .shallow) i h);
     }
 
 -- ---- one node

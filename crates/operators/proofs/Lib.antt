@@ -1,0 +1,4 @@
+-- Callers use Laws alone; the rest is the inside of the lookups.
+mod Lists
+mod Rules
+pub mod Laws
