@@ -8,6 +8,7 @@ use native.Mathlib.Nat.{add-zero, add-suc, suc-add}
 use native.Mathlib.Omega.{arith}
 use native.Mathlib.Decide.{ℕ-discrete, decLt}
 use borrow.Author.Tests.{leb-true, le-leb, lt-leb, ltb-true, lt-ltb, le-ltb, eqb-true}
+use lib.Arith.{lt-of-le-ne}
 use lib.Dec.{eqb, leb, ltb}
 use lib.ListN.{length, getD}
 use Rattle.meaning.specs.Limits.{deepest}
@@ -138,3 +139,68 @@ module _ {N : ℕ} {ds : List Node} (sound : Nested N ds) where
 
   pub within : (j i : ℕ) → j < i → j < length ds → i < stopOf ds j → stopOf ds i ≤ stopOf ds j
   within j i l m b = within-by i j i (omega arith) l m b
+
+-- ---- depth: a node inside another lies deeper
+
+bit : Bool → ℕ
+bit b = if b then 1 else 0
+
+bit-le : (a b : Bool) → (a ≡ true → b ≡ true) → bit a ≤ bit b
+unfolding bit if_then_else_
+bit-le true b h = rw (h refl) (omega arith)
+bit-le false b h = omega arith
+
+-- i and c, and the nodes xs, numbered from k: each that holds i holds c
+module _ (i c : ℕ) (l : i < c) where
+  Holds : ℕ → List Node → Type 0
+  Holds k [] = Unit {0}
+  Holds k (d ∷ ds) = ((k ≤ i) → i < d .stop → c < d .stop) × Holds (suc k) ds
+
+  here-le : (k : ℕ) (d : Node) → ((k ≤ i) → i < d .stop → c < d .stop) → bit (leb k i and ltb i (d .stop)) ≤ bit (leb k c and ltb c (d .stop))
+  here-le k d h =
+      bit-le _ _
+      (λ t. let a = leb-true k i (and-left _ _ t) in both _ _ (le-leb k c (omega arith)) (lt-ltb c (d .stop) (h a (ltb-true i (d .stop) (and-right _ _ t)))))
+
+  depth-le : (k : ℕ) (xs : List Node) → Holds k xs → depth i k xs ≤ depth c k xs
+  unfolding depth Holds bit
+  depth-le k [] h = omega arith
+  depth-le k (d ∷ ds) h = omega (arith, here-le k d (h .0), depth-le (suc k) ds (h .1))
+
+  -- c itself holds c and not i
+  Own : ℕ → List Node → Type 0
+  Own k [] = Unit {0}
+  Own k (d ∷ ds) = (k ≡ c → c < d .stop) × Own (suc k) ds
+
+  own-bits : (k : ℕ) (d : Node) → k ≡ c → c < d .stop → (bit (leb k i and ltb i (d .stop)) ≡ 0) × (bit (leb k c and ltb c (d .stop)) ≡ 1)
+  unfolding bit if_then_else_ _and_
+  own-bits k d e h = (rw (lt-leb k i (omega arith)), rw (le-leb k c (omega arith), lt-ltb c (d .stop) h))
+
+  one-more : (k : ℕ) (xs : List Node) → Holds k xs → Own k xs → k ≤ c → c < k + length xs → suc (depth i k xs) ≤ depth c k xs
+  unfolding depth Holds Own bit
+  one-more k [] h o a b = absurd (omega arith)
+  one-more k (d ∷ ds) h o a b = elim (ℕ-discrete k c) [
+    | yes e ↦ let t = own-bits k d e (o .0 e) in omega (arith, t .0, t .1, depth-le (suc k) ds (h .1))
+    | no e ↦ let m : k < c = omega (arith, lt-of-le-ne a e) in
+        omega (arith, here-le k d (h .0), one-more (suc k) ds (h .1) (o .1) m (omega arith))
+  ]
+
+  holds-from : (k : ℕ) (xs : List Node) (d : Node) → ((m : ℕ) → m < length xs → k + m ≤ i → i < getD xs m d .stop → c < getD xs m d .stop) → Holds k xs
+  unfolding Holds
+  holds-from k [] d f = tt
+  holds-from k (x ∷ xs) d f = (λ a b. f 0 (omega arith) (omega arith) b, holds-from (suc k) xs d (λ m h a b. f (suc m) (omega arith) (omega arith) b))
+
+  own-from : (k : ℕ) (xs : List Node) (d : Node) → ((m : ℕ) → m < length xs → k + m ≡ c → c < getD xs m d .stop) → Own k xs
+  unfolding Own
+  own-from k [] d f = tt
+  own-from k (x ∷ xs) d f = (λ e. f 0 (omega arith) (omega arith), own-from (suc k) xs d (λ m h e. f (suc m) (omega arith) (omega arith)))
+
+-- a node inside node i lies deeper than i
+pub deeper : {N : ℕ} {ds : List Node} → Nested N ds → (i c : ℕ) → i < c → i < length ds → c < stopOf ds i → suc (depth i 0 ds) ≤ depth c 0 ds
+unfolding stopOf nodeOf
+deeper {N} {ds} s i c l m b =
+    let none : Node = record { kind = 0; arg = 0; children = 0; stop = 0; spanStart = 0; spanEnd = 0 } in
+    let top = node-stands s i m .within in
+    one-more i c l 0 ds
+    (holds-from i c l 0 ds none (λ j h a k. elim (decLt j i) [ yes p ↦ omega (arith, within s j i p h k) | no p ↦ let e : j ≡ i = omega arith in rw e b ]))
+    (own-from i c l 0 ds none (λ j h e. omega (arith, node-stands s j h .forward)))
+    (omega arith) (omega arith)
