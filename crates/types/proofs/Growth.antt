@@ -1,0 +1,131 @@
+-- One more record: where it is low and its type is new, the table is sound again and every old number means what it meant.
+use mathlib.Core.Path.{_≡_, refl, sym, ap, _∙_, subst}
+use Prim.Native.Nat.{ℕ, _+_, _*_, _≤_, _<_}
+use native.Mathlib.Nat.{add-assoc}
+use native.Mathlib.Omega.{arith}
+use native.Mathlib.Decide.{decLt}
+use lib.ListN.{length, getD}
+use Rattle.meaning.specs.Types.{Ty, tys}
+use Rattle.types.specs.Table.{Tab, kindAt, firstAt, secondAt, elementAt, shape, denote, Low, Wf, Grown, Made}
+use Rattle.types.proofs.Shapes.{shaped-cong}
+use Rattle.types.proofs.Pieces.{piece-map}
+use Rattle.types.proofs.Rows.{shape-cong, denote-sound, denote-agree}
+use Rattle.types.proofs.Laws.{grown-refl}
+
+-- u is t with one more record, which is low and means no type that has a number
+pub record Next (t u : Tab) : Type 0 where
+  pub long : length u.cells ≡ length t.cells
+  pub count : u.n ≡ t.n + 1
+  pub room : u.n ≤ 2056
+  pub wider : t.m ≤ u.m
+  pub space : u.m ≤ 2048
+  pub records : (x : ℕ) → x < 4 * t.n → getD u.cells x 0 ≡ getD t.cells x 0
+  pub elements : (j : ℕ) → j < t.m → elementAt u j ≡ elementAt t j
+  pub low : Low u t.n
+  pub fresh : (i : ℕ) → i < t.n → denote t i ≡ shape u (denote t) t.n → ⊥
+
+module _ (t u : Tab) (w : Wf t) (x : Next t u) where
+  kind-kept : (i : ℕ) → i < t.n → kindAt u i ≡ kindAt t i
+  kind-kept i h = x .records (4 * i) (omega arith)
+
+  first-kept : (i : ℕ) → i < t.n → firstAt u i ≡ firstAt t i
+  first-kept i h = x .records (4 * i + 1) (omega arith)
+
+  second-kept : (i : ℕ) → i < t.n → secondAt u i ≡ secondAt t i
+  second-kept i h = x .records (4 * i + 2) (omega arith)
+
+  -- an element of an old Tuple
+  element-kept : (i j : ℕ) → i < t.n → kindAt t i ≡ 10 → j < secondAt t i
+      → getD u.cells (8224 + firstAt t i + j) 0 ≡ getD t.cells (8224 + firstAt t i + j) 0
+  element-kept i j h e l = rw add-assoc (x .elements (firstAt t i + j) (omega (arith, w .low i h .inside e)))
+
+  agree : (i : ℕ) → i < t.n → (f : ℕ → Ty) → shape u f i ≡ shape t f i
+  unfolding shape
+  agree i h f =
+      let lu = x .long in
+      rw (kind-kept i h, first-kept i h, second-kept i h)
+      (shaped-cong (kindAt t i) (w .low i h .known) (λ e n. refl) (λ e. refl)
+      (λ e. ap tys
+      (piece-map f f u.cells t.cells (8224 + firstAt t i) (8224 + firstAt t i) (secondAt t i)
+      (omega (arith, w .low i h .inside e, w .long, w .space)) (omega (arith, w .low i h .inside e, w .long, w .space))
+      (λ j l. ap f (element-kept i j h e l)))))
+
+  next-low : (i : ℕ) → i < u.n → Low u i
+  next-low i h = elim (decLt i t.n) [
+    | yes a ↦
+        let l = w .low i a in
+        record {
+          known = rw (kind-kept i a) (l .known);
+          none = rw (kind-kept i a, first-kept i a) (l .none);
+          unused = rw (kind-kept i a, second-kept i a) (l .unused);
+          first = rw (kind-kept i a, first-kept i a) (l .first);
+          second = rw (kind-kept i a, second-kept i a) (l .second);
+          inside = rw (kind-kept i a, first-kept i a, second-kept i a) (λ e. omega (arith, l .inside e, x .wider));
+          elements = rw (kind-kept i a, first-kept i a, second-kept i a) (λ e j b. rw (element-kept i j a e b) (l .elements e j b));
+        }
+    | no a ↦ subst (Low u) (omega (arith, x .count)) (x .low)
+  ]
+
+  next-same : (i : ℕ) → i < t.n → denote u i ≡ denote t i
+  next-same = denote-agree t u (omega (arith, x .count)) agree
+
+  next-last : denote u t.n ≡ shape u (denote t) t.n
+  next-last =
+      let long : length u.cells ≡ 10272 = x .long ∙ w .long in
+      denote-sound u (record { long = long; space = x .space; low = next-low }) t.n (omega (arith, x .count))
+      ∙ shape-cong u long (x .space) (denote u) (denote t) t.n (x .low) next-same
+
+  next-inj : (i j : ℕ) → i < u.n → j < u.n → denote u i ≡ denote u j → i ≡ j
+  next-inj i j a b e = elim (decLt i t.n) [
+    | yes c ↦ elim (decLt j t.n) [
+      | yes d ↦ w .inj i j c d (sym (next-same i c) ∙ e ∙ next-same j d)
+      | no d ↦
+          let k : j ≡ t.n = omega (arith, x .count) in
+          absurd (x .fresh i c (sym (next-same i c) ∙ e ∙ ap (denote u) k ∙ next-last))
+    ]
+    | no c ↦
+        let l : i ≡ t.n = omega (arith, x .count) in
+        elim (decLt j t.n) [
+          | yes d ↦ absurd (x .fresh j d (sym (next-same j d) ∙ sym e ∙ ap (denote u) l ∙ next-last))
+          | no d ↦ omega (arith, x .count)
+        ]
+  ]
+
+  next-grown : Grown t u
+  next-grown = record {
+    wf = record {
+      long = x .long ∙ w .long;
+      base = omega (arith, x .count, w .base);
+      room = x .room;
+      space = x .space;
+      plains = λ i h. kind-kept i (omega (arith, w .base)) ∙ w .plains i h;
+      low = next-low;
+      inj = next-inj;
+    };
+    more = omega (arith, x .count);
+    wider = x .wider;
+    same = next-same;
+    records = x .records;
+    elements = x .elements;
+  }
+
+  pub next-made : (ty : Ty) (spent : ℕ) → shape u (denote t) t.n ≡ ty → u.m ≤ t.m + spent → Made t u t.n ty spent
+  next-made ty spent e s = record {
+    grown = next-grown;
+    room = omega (arith, x .count);
+    space = s;
+    below = omega (arith, x .count);
+    means = next-last ∙ e;
+    once = λ i h d. absurd (x .fresh i h (d ∙ sym e));
+  }
+
+-- the type has a number already: nothing is added
+pub made-old : {t : Tab} {r : ℕ} {ty : Ty} (spent : ℕ) → Wf t → r < t.n → denote t r ≡ ty → Made t t r ty spent
+made-old spent w h e = record {
+  grown = grown-refl w;
+  room = omega arith;
+  space = omega arith;
+  below = h;
+  means = e;
+  once = λ i a d. (refl, refl);
+}

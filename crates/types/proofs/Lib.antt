@@ -1,0 +1,13 @@
+-- Laws, Forming, Readers and Answers are what callers cite.
+pub mod Laws
+pub mod Forming
+pub mod Readers
+pub mod Answers
+mod Shapes
+mod Pieces
+mod Rows
+mod Growth
+mod Writing
+mod Tuples
+mod Sharing
+mod Walks

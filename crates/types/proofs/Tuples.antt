@@ -1,0 +1,125 @@
+-- Forming a Tuple: its record is there already, or its elements and its record are written at the end.
+use mathlib.Core.Path.{_≡_, refl, sym, ap, _∙_, subst}
+use mathlib.Core.Bool.{Bool, false, false≢true}
+use mathlib.Core.List.{List, map}
+use Prim.Native.Nat.{ℕ, _+_, _*_, _≤_, _<_}
+use native.Mathlib.Omega.{arith}
+use native.Mathlib.Decide.{decLt}
+use borrow.Author.Count.{below-more}
+use lib.ListN.{length, getD, set, take, drop, length-set}
+use lib.Seq.{getD-set-same, getD-set-other}
+use Rattle.meaning.specs.Base.{choose, if_then_else_}
+use Rattle.meaning.specs.Types.{Ty, tuple, tys, kind, parts}
+use Rattle.types.specs.Table.{Tab, tab, kindAt, firstAt, secondAt, shaped, shape, denote, Made}
+use Rattle.types.specs.Steps.{Written, Listed, Equal, Alike, TupleAt, Matches, FoundTuple, Copied}
+use Rattle.types.proofs.Pieces.{piece, piece-map, piece-inj, tuple-parts}
+use Rattle.types.proofs.Laws.{record-kind, tuple-is, parts-of}
+use Rattle.types.proofs.Growth.{next-made, made-old}
+
+-- ---- the copy's turns
+
+pub copied-none : (cs : List ℕ) (m : ℕ) (st : List ℕ) (s : ℕ) → Copied cs cs m st s 0
+copied-none cs m st s = record { long = refl; before = λ x h. refl; elements = record { at = λ j h. absurd (omega arith) } }
+
+pub copied-more : {cs ds : List ℕ} {m : ℕ} {st : List ℕ} {s j : ℕ} → Copied cs ds m st s j → length cs ≡ 10272 → m + j < 2048
+    → Copied cs (set ds (8224 + m + j) (getD st (s + j) 0)) m st s (j + 1)
+copied-more {cs} {ds} {m} {st} {s} {j} c l h = record {
+  long = length-set ds (8224 + m + j) _ ∙ c .long;
+  before = λ x a. getD-set-other ds (8224 + m + j) x _ 0 (omega arith) ∙ c .before x a;
+  elements = record {
+    at = below-more _ j (λ i a. getD-set-other ds (8224 + m + j) (8224 + m + i) _ 0 (omega arith) ∙ c .elements .at i a)
+        (getD-set-same ds (8224 + m + j) _ 0 (omega (arith, c .long)));
+  };
+}
+
+-- ---- whether a record is the Tuple asked for
+
+pub matches-not : {cs st : List ℕ} {i s q : ℕ} → (TupleAt cs i st s q → ⊥) → Matches cs i st s q false
+matches-not h = record { yes = λ e. absurd (false≢true e); no = λ e. h }
+
+pub matches-alike : {cs st : List ℕ} {i s q p : ℕ} {b : Bool} → getD cs (4 * i) 0 ≡ 10 → getD cs (4 * i + 2) 0 ≡ q
+    → p ≡ getD cs (4 * i + 1) 0 → Alike cs (8224 + p) st s q b → Matches cs i st s q b
+matches-alike {cs} {st} {i} {s} {q} k n e a = record {
+  yes = λ h. record { kind-is = k; second-is = n; elements = subst (λ x. Equal cs (8224 + x) st s q) e (a .yes h) };
+  no = λ h m. a .no h (subst (λ x. Equal cs (8224 + x) st s q) (sym e) (m .elements));
+}
+
+-- ---- what is asked for
+
+module _ (t : Tab) (st : List ℕ) (s q : ℕ) (x : Listed t st s q) where
+  abbrev asked : Ty
+  asked = tuple (tys (map (denote t) (take q (drop s st))))
+
+  -- equal numbers mean equal types
+  meant : (cs : List ℕ) (a : ℕ) → a + q ≤ length cs → Equal cs a st s q → map (denote t) (piece a q cs) ≡ map (denote t) (piece s q st)
+  meant cs a l e =
+      piece-map (denote t) (denote t) cs st a s q l (omega (arith, x .inside, x .long)) (λ j h. ap (denote t) (e .at j h))
+
+  pub tuple-old : (r : ℕ) → r < t.n → TupleAt t.cells r st s q → Made t t r (tuple (tys (map (denote t) (take q (drop s st))))) q
+  tuple-old r h e =
+      let w = x .wf in
+      let i = w .low r h .inside (e .kind-is) in
+      let m = meant t.cells (8224 + firstAt t r) (omega (arith, w .long, w .space, e .second-is)) (e .elements) in
+      made-old q w h (tuple-is w r h (e .kind-is) ∙ rw (e .second-is) (ap (λ ts. tuple (tys ts)) m))
+
+  -- a number that means the type has its record, since equal types have equal numbers
+  told : (i : ℕ) → i < t.n → denote t i ≡ asked → TupleAt t.cells i st s q
+  unfolding kind
+  told i h e =
+      let w = x .wf in
+      let k : kindAt t i ≡ 10 = record-kind w i h (ap kind e) in
+      let low = w .low i h in
+      let p = piece-inj (denote t) t.cells st (8224 + firstAt t i) s (secondAt t i) q
+      (omega (arith, low .inside k, w .long, w .space)) (omega (arith, x .inside, x .long))
+      (sym (parts-of w i h k) ∙ ap parts e ∙ tuple-parts _) in
+      record {
+        kind-is = k;
+        second-is = p .0;
+        elements = record {
+          at = λ j a.
+              let b : j < secondAt t i = omega (arith, p .0) in
+              w .inj _ _ (omega (arith, low .elements k j b)) (x .known j a) (p .1 j b);
+        };
+      }
+
+  pub tuple-new : {r : ℕ} {ds es : List ℕ} → FoundTuple t.cells t.n st s q r → t.n ≤ r → Copied t.cells ds t.m st s q
+      → Written ds es t.n 10 t.m q → Made t (tab es (t.n + 1) (t.m + q)) t.n (tuple (tys (map (denote t) (take q (drop s st))))) q
+  unfolding shape shaped choose if_then_else_
+  tuple-new {r} {ds} {es} f h c v =
+      let u : Tab = tab es (t.n + 1) (t.m + q) in
+      let w = x .wf in
+      let ki = v .kind-is in
+      let fi = v .first-is in
+      let si = v .second-is in
+      let equal : Equal es (8224 + t.m) st s q =
+      record { at = λ j a. v .after (8224 + t.m + j) (omega (arith, x .room)) ∙ c .elements .at j a } in
+      let m = meant es (8224 + t.m) (omega (arith, v .long, c .long, w .long, x .space)) equal in
+      let y : shape u (denote t) t.n ≡ asked = rw (ki, fi, si) (ap (λ ts. tuple (tys ts)) m) in
+      next-made t u w
+      (record {
+        long = v .long ∙ c .long;
+        count = refl;
+        room = omega (arith, x .room);
+        wider = omega arith;
+        space = x .space;
+        records = λ z a. v .before z a ∙ c .before z (omega (arith, x .room));
+        elements = λ j a. v .after (8224 + j) (omega (arith, x .room)) ∙ c .before (8224 + j) (omega arith);
+        low = record {
+          known = omega arith;
+          none = λ e. absurd (omega arith);
+          unused = λ e n. absurd (n ki);
+          first = λ e n. absurd (n ki);
+          second = λ e. absurd (omega arith);
+          inside = λ e. omega arith;
+          elements = λ e j a.
+              let b : j < q = omega arith in
+              rw (fi, equal .at j b) (x .known j b);
+        };
+        fresh = λ i a e.
+            let l = told i a (e ∙ y) in
+            elim (decLt i 8) [
+              | yes b ↦ omega (arith, w .plains i b, l .kind-is)
+              | no b ↦ f .none i (omega arith) (omega arith) l
+            ];
+      })
+      _ q y (omega arith)

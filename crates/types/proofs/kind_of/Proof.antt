@@ -1,0 +1,17 @@
+use Rattle.types.proofs.Readers.{kind-told}
+use borrow.Author.Needs.{needs}
+use Rattle.types.proofs.kind_of.Statement.{statement}
+use Rattle.types.proofs.kind_of.Tie as tie
+
+mul-cell : tie.Need-mul-cell
+mul-cell c = search needs
+
+cell-requires : tie.Need-cell-requires
+cell-requires c κs = search needs
+
+returns : tie.Need-returns
+returns c =
+    kind-told _ _ _ (c .cell .ensures)
+
+pub kind-of-spec : {M : Type 1} → statement M
+kind-of-spec = tie.close (tie.spec mul-cell cell-requires returns)

@@ -1,0 +1,20 @@
+use Rattle.types.proofs.Readers.{first-told}
+use borrow.Author.Needs.{needs}
+use Rattle.types.proofs.part_of.Statement.{statement}
+use Rattle.types.proofs.part_of.Tie as tie
+
+mul-cell : tie.Need-mul-cell
+mul-cell c = search needs
+
+add-cell : tie.Need-add-cell
+add-cell c = search needs
+
+cell-requires : tie.Need-cell-requires
+cell-requires c κs = search needs
+
+returns : tie.Need-returns
+returns c =
+    first-told _ _ _ (c .cell .ensures)
+
+pub part-of-spec : {M : Type 1} → statement M
+part-of-spec = tie.close (tie.spec mul-cell add-cell cell-requires returns)

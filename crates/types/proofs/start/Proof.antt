@@ -1,0 +1,44 @@
+use Rattle.types.proofs.Writing.{started-none, started-more, started-wf}
+use Rattle.types.specs.Steps.{Started}
+use Prim.Native.Nat.{_≤_, _-_}
+use mathlib.Core.Path.{subst}
+use native.Mathlib.Omega.{arith}
+use borrow.Author.Needs.{needs}
+use Rattle.types.proofs.start.Statement.{statement}
+use Rattle.types.proofs.start.Tie as tie
+
+abbrev Inv-loop : tie.InvT-loop
+Inv-loop table₀ i₀ table i = (i ≤ 8) × Started table i
+
+abbrev μ-loop : tie.MeasureT-loop
+μ-loop table₀ i₀ table i = 8 - i
+
+loop-holds : tie.Need-loop-holds Inv-loop μ-loop
+loop-holds c =
+    (search needs, started-none (c .args .table .now) (c .pre))
+
+cast-put : tie.Need-cast-put Inv-loop μ-loop
+cast-put c = search needs
+
+put-requires : tie.Need-put-requires Inv-loop μ-loop
+put-requires c κs =
+    (omega arith, c .before .before .loop .inv .1 .long)
+
+add-i : tie.Need-add-i Inv-loop μ-loop
+add-i c = search needs
+
+loop-less : tie.Need-loop-less Inv-loop μ-loop
+loop-less c = search needs
+
+loop-again : tie.Need-loop-again Inv-loop μ-loop
+loop-again c =
+    (search needs, started-more (c .before .before .before .loop .inv .1) (c .put .ensures))
+
+returns : tie.Need-returns Inv-loop μ-loop
+returns c =
+    started-wf (c .before .loop .table) (subst (Started _) (omega arith) (c .before .loop .inv .1))
+
+pub start-spec : {M : Type 1} → statement M
+start-spec =
+    tie.close
+    (tie.spec Inv-loop μ-loop loop-holds cast-put put-requires add-i loop-less loop-again returns)

@@ -1,0 +1,108 @@
+-- The table of numbered types: what a number means, when a table is sound, and what may become of one.
+use mathlib.Core.Path.{_≡_}
+use mathlib.Core.List.{List, [], _∷_, _++_, map}
+use Prim.Native.Nat.{ℕ, zero, suc, _+_, _*_, _≤_, _<_}
+use lib.ListN.{length, getD, take, drop}
+use Rattle.meaning.specs.Base.{choose}
+use Rattle.meaning.specs.Types.{Ty, Tys, unknown, list, dict, tuple, mapIter, filterIter, tys, no-types, plain}
+
+-- ---- the cells: record i at 4 · i (kind, p, q, and one to spare), element j at 8224 + j; n records and m elements are in use
+
+pub record Tab : Type 0 where
+  pub cells : List ℕ
+  pub n : ℕ
+  pub m : ℕ
+
+abbrev pub tab : List ℕ → ℕ → ℕ → Tab
+tab cells n m = record { cells = cells; n = n; m = m }
+
+abbrev pub kindAt : Tab → ℕ → ℕ
+kindAt t i = getD t.cells (4 * i) 0
+
+abbrev pub firstAt : Tab → ℕ → ℕ
+firstAt t i = getD t.cells (4 * i + 1) 0
+
+abbrev pub secondAt : Tab → ℕ → ℕ
+secondAt t i = getD t.cells (4 * i + 2) 0
+
+abbrev pub elementAt : Tab → ℕ → ℕ
+elementAt t j = getD t.cells (8224 + j) 0
+
+-- the numbers that a Tuple's record i names
+abbrev pub elementsAt : Tab → ℕ → List ℕ
+elementsAt t i = take (secondAt t i) (drop (8224 + firstAt t i) t.cells)
+
+-- ---- what a number means
+
+-- the type of a kind: a and b are its parts, or ts its elements
+unfoldable pub shaped : ℕ → Ty → Ty → Tys → Ty
+shaped k a b ts =
+    choose k (plain k)
+    ((8, list a)
+    ∷ (9, dict a b)
+    ∷ (10, tuple ts)
+    ∷ (11, mapIter a)
+    ∷ (12, filterIter a)
+    ∷ [])
+
+-- the type of a kind that has no elements
+unfoldable pub built : ℕ → Ty → Ty → Ty
+built k a b = shaped k a b no-types
+
+-- what record i says, where f says what the numbers mean that it names
+unfoldable pub shape : Tab → (ℕ → Ty) → ℕ → Ty
+shape t f i = shaped (kindAt t i) (f (firstAt t i)) (f (secondAt t i)) (tys (map f (elementsAt t i)))
+
+-- the types of the first k numbers: a record names only numbers before it
+unfoldable pub trees : Tab → ℕ → List Ty
+trees t zero = []
+trees t (suc k) = trees t k ++ (shape t (λ j. getD (trees t k) j unknown) k ∷ [])
+
+unfoldable pub denote : Tab → ℕ → Ty
+denote t i = getD (trees t (t .n)) i unknown
+
+-- r is a number of the table, and means ty
+pub record Means (t : Tab) (r : ℕ) (ty : Ty) : Type 0 where
+  pub below : r < t.n
+  pub means : denote t r ≡ ty
+
+-- ---- when a table is sound
+
+-- record i has a kind, names lower numbers, has its elements among those in use, and has 0 where it has no part
+pub record Low (t : Tab) (i : ℕ) : Type 0 where
+  pub known : kindAt t i ≤ 12
+  pub none : kindAt t i < 8 → firstAt t i ≡ 0
+  pub unused : (kindAt t i ≡ 9 → ⊥) → (kindAt t i ≡ 10 → ⊥) → secondAt t i ≡ 0
+  pub first : 8 ≤ kindAt t i → (kindAt t i ≡ 10 → ⊥) → firstAt t i < i
+  pub second : kindAt t i ≡ 9 → secondAt t i < i
+  pub inside : kindAt t i ≡ 10 → firstAt t i + secondAt t i ≤ t.m
+  pub elements : kindAt t i ≡ 10 → (j : ℕ) → j < secondAt t i → getD t.cells (8224 + firstAt t i + j) 0 < i
+
+pub record Wf (t : Tab) : Type 0 where
+  pub long : length t.cells ≡ 10272
+  pub base : 8 ≤ t.n
+  pub room : t.n ≤ 2056
+  pub space : t.m ≤ 2048
+  pub plains : (i : ℕ) → i < 8 → kindAt t i ≡ i
+  pub low : (i : ℕ) → i < t.n → Low t i
+  pub inj : (i j : ℕ) → i < t.n → j < t.n → denote t i ≡ denote t j → i ≡ j
+
+-- ---- what may become of a table
+
+-- u is t with perhaps more in it: what stood in use stands, and means what it meant
+pub record Grown (t u : Tab) : Type 0 where
+  pub wf : Wf u
+  pub more : t.n ≤ u.n
+  pub wider : t.m ≤ u.m
+  pub same : (i : ℕ) → i < t.n → denote u i ≡ denote t i
+  pub records : (x : ℕ) → x < 4 * t.n → getD u.cells x 0 ≡ getD t.cells x 0
+  pub elements : (j : ℕ) → j < t.m → elementAt u j ≡ elementAt t j
+
+-- u is t grown by at most one number and so many elements, r means ty there, and a type that had a number got no second one
+pub record Made (t u : Tab) (r : ℕ) (ty : Ty) (spent : ℕ) : Type 0 where
+  pub grown : Grown t u
+  pub room : u.n ≤ t.n + 1
+  pub space : u.m ≤ t.m + spent
+  pub below : r < u.n
+  pub means : denote u r ≡ ty
+  pub once : (i : ℕ) → i < t.n → denote t i ≡ ty → (u.n ≡ t.n) × (u.m ≡ t.m)
