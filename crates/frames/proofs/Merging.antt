@@ -1,0 +1,327 @@
+-- Laws of the merge. Assumes nothing.
+use mathlib.Core.Path.{_≡_, refl, sym, ap, _∙_, subst}
+use mathlib.Core.List.{List, [], _∷_, _++_, map}
+use mathlib.Core.Bool.{Bool, true, false, not}
+use mathlib.Core.Option.{Option, none, some}
+use mathlib.Core.Logic.{inl, inr}
+use Prim.Native.Nat.{ℕ, zero, suc, _+_, _-_, _*_, _≤_, _<_}
+use native.Mathlib.Omega.{arith}
+use native.Mathlib.Decide.{decLt, ℕ-discrete}
+use native.Mathlib.Numerals.{sub-one, add-one}
+use lib.Dec.{eqb, ltb}
+use lib.ListN.{length, getD, set, replicate, length-set, length-replicate, getD-replicate, List·getD-eq-default}
+use lib.Seq.{getD-set-same, getD-set-other}
+use borrow.Author.Tests.{lt-ltb, le-ltb, eq-eqb, ne-eqb, eqb-true, eqb-false}
+use borrow.Author.Count.{below-more}
+use Rattle.meaning.specs.Types.{Ty, unknown, same}
+use Rattle.meaning.proofs.Choices.{same-yes, same-no}
+use Rattle.types.specs.Table.{Tab, denote, Wf, Grown}
+use Rattle.types.proofs.Laws.{unknown-number, same-number}
+use Rattle.meaning.specs.Limits.{mostNames}
+use Rattle.meaning.specs.Base.{_and_, _or_, if_then_else_, ifSome, orElse, all, count}
+use Rattle.meaning.specs.Image.{Name, nameOf}
+use Rattle.meaning.specs.Message.{aText}
+use Rattle.meaning.specs.Frames.{Frame, Frames, newest, slotIn}
+use Rattle.meaning.specs.Walk.{State, state, bind, End, done, wrong, tooDeep, refuse, _>>=_, sameSlot, tells, assigned, mergeName, mergeNames, merge}
+use Rattle.frames.specs.Env.{Rows, cell, put, pick, look, slot, frameOf, below, framesOf, Fit, mergeEnd, tellsCell, noteCell, clashCell, Noted, settleName, settle, Committed}
+use Rattle.frames.proofs.Laws.{zeros, slot-row, slot-grown, frames-put-cell, fit-put}
+
+never : {A : Type 0} → _≡_ {A = Bool} false true → A
+never e = let z : _≡_ {A = ℕ} 0 1 = ap (λ (b : Bool). pick b 1 0) e in absurd (omega arith)
+
+no-some : {A B : Type 0} (a : A) → none ≡ some a → B
+unfolding ifSome
+no-some a e = let z : _≡_ {A = ℕ} 0 1 = ap (λ o. ifSome o (λ a. 1) 0) e in absurd (omega arith)
+
+-- ---- the definition's merge of a name goes by the first type and by whether another differs
+pub firstOf : List Ty → Option Ty
+firstOf [] = none
+firstOf (t ∷ ts) = some t
+
+pub differs : List Ty → Bool
+differs [] = false
+differs (t ∷ ts) = not (all (same t) ts)
+
+merge-name : (ws : List Name) (c x : ℕ) (ts : List Ty) (s : State) → mergeName ws c x ts s ≡ settleName ws c x (firstOf ts) (differs ts) s
+unfolding mergeName settleName firstOf differs if_then_else_
+merge-name ws c x [] s = refl
+merge-name ws c x (t ∷ ts) s = by (all (same t) ts)
+  where
+    by : (q : Bool) → (if q then done (bind x t s) else refuse 23 c (aText (nameOf ws x .spelling) ∷ []) s) ≡ settleName ws c x (some t) (not q) s
+    by true = refl
+    by false = refl
+
+then-cong : (e : End) (k l : State → End) → ((s : State) → k s ≡ l s) → (e >>= k) ≡ (e >>= l)
+unfolding _>>=_
+then-cong (done s) k l h = h s
+then-cong (wrong r s) k l h = refl
+then-cong (tooDeep n) k l h = refl
+
+-- for what the accumulators mean, the definition's merge is the merge by accumulators
+pub merge-settle : (ws : List Name) (c : ℕ) (Γ : Frames) (Δs : List Frames) (f : ℕ → Option Ty) (g : ℕ → Bool) (i n : ℕ) (s : State) → i + n ≤ 128
+    → ((x : ℕ) → x < 128 → f x ≡ firstOf (assigned Γ x Δs)) → ((x : ℕ) → x < 128 → g x ≡ differs (assigned Γ x Δs))
+    → mergeNames ws c Γ Δs (count i n) s ≡ settle ws c f g (count i n) s
+unfolding mergeNames settle count
+merge-settle ws c Γ Δs f g i zero s h p q = refl
+merge-settle ws c Γ Δs f g i (suc n) s h p q =
+    let a : mergeName ws c i (assigned Γ i Δs) s ≡ settleName ws c i (f i) (g i) s = rw (p i (omega arith), q i (omega arith)) (merge-name ws c i (assigned Γ i Δs) s) in
+    rw a (then-cong (settleName ws c i (f i) (g i) s) _ _ (λ s′. merge-settle ws c Γ Δs f g (suc i) n s′ (omega arith) p q))
+
+-- ---- one more branch
+snoc-by : (p q : Bool) (a b : Ty) (ts : List Ty)
+    → (if p then a ∷ (if q then ts ++ (b ∷ []) else ts) else (if q then ts ++ (b ∷ []) else ts))
+    ≡ (if q then (if p then a ∷ ts else ts) ++ (b ∷ []) else (if p then a ∷ ts else ts))
+unfolding if_then_else_
+snoc-by true true a b ts = refl
+snoc-by true false a b ts = refl
+snoc-by false true a b ts = refl
+snoc-by false false a b ts = refl
+
+assigned-snoc : (Γ : Frames) (x : ℕ) (Δs : List Frames) (Δ : Frames)
+    → assigned Γ x (Δs ++ (Δ ∷ [])) ≡ (if tells (slotIn Γ x) (slotIn Δ x) then assigned Γ x Δs ++ (orElse (slotIn Δ x) unknown ∷ []) else assigned Γ x Δs)
+unfolding assigned
+assigned-snoc Γ x [] Δ = refl
+assigned-snoc Γ x (E ∷ Δs) Δ = rw (assigned-snoc Γ x Δs Δ) (snoc-by (tells (slotIn Γ x) (slotIn E x)) (tells (slotIn Γ x) (slotIn Δ x)) _ _ _)
+
+-- a slot of the newest frame is the cell of the top row
+slot-frames : (t : Tab) (fs : Rows) (top x : ℕ) → slotIn (framesOf t fs top) x ≡ slot t (cell fs top x)
+unfolding slotIn framesOf below newest
+slot-frames t fs top x = slot-row t (getD fs top []) x
+
+-- cells tell what slots tell
+tells-known : (t : Tab) → Wf t → (b k : ℕ) → b ≤ t.n → suc k < t.n → (if sameSlot (some (denote t (suc k))) (slot t b) then false else true) ≡ (if eqb (suc (suc k)) b then false else true)
+unfolding sameSlot slot if_then_else_
+tells-known t w zero k h l = rw (ne-eqb (suc (suc k)) 0 (λ z. omega arith))
+tells-known t w (suc j) k h l = by (eqb (suc k) j) refl
+  where
+    by : (q : Bool) → eqb (suc k) j ≡ q → (if same (denote t (suc k)) (denote t j) then false else true) ≡ (if eqb (suc (suc k)) (suc j) then false else true)
+    by true e = rw (same-number w (suc k) j l h, e, eq-eqb (suc (suc k)) (suc j) (ap suc (eqb-true (suc k) j e)))
+    by false e = rw (same-number w (suc k) j l h, e, ne-eqb (suc (suc k)) (suc j) (λ z. eqb-false (suc k) j e (omega arith)))
+
+pub tells-cell : (t : Tab) → Wf t → (b v : ℕ) → b ≤ t.n → v ≤ t.n → tells (slot t b) (slot t v) ≡ tellsCell b v
+unfolding tells tellsCell slot _or_ if_then_else_
+tells-cell t w b zero h l = refl
+tells-cell t w b (suc zero) h l = rw (same-yes (denote t 0) unknown (unknown-number w))
+tells-cell t w b (suc (suc k)) h l =
+    let u : denote t 0 ≡ unknown = unknown-number w in
+    let n : same (denote t (suc k)) unknown ≡ false = same-no _ _ (λ e. let z = w .inj (suc k) 0 l (omega arith) (e ∙ sym u) in absurd (omega arith)) in
+    rw (n, lt-ltb 1 (suc (suc k)) (omega arith)) (tells-known t w b k h l)
+
+-- ---- the accumulators: ms and cs tell of the branches Δs over Γ
+pub record Tally (t : Tab) (Γ : Frames) (Δs : List Frames) (ms : List ℕ) (cs : List Bool) : Type 0 where
+  pub lm : length ms ≡ 128
+  pub lc : length cs ≡ 128
+  pub within : (x : ℕ) → getD ms x 0 ≤ t.n
+  pub first : (x : ℕ) → x < 128 → slot t (getD ms x 0) ≡ firstOf (assigned Γ x Δs)
+  pub clash : (x : ℕ) → x < 128 → getD cs x false ≡ differs (assigned Γ x Δs)
+
+all-snoc : (f : Ty → Bool) (ts : List Ty) (u : Ty) → all f (ts ++ (u ∷ [])) ≡ (all f ts and f u)
+unfolding all _and_
+all-snoc f [] u = by (f u)
+  where
+    by : (q : Bool) → (q and true) ≡ (true and q)
+    by true = refl
+    by false = refl
+all-snoc f (t ∷ ts) u = rw (all-snoc f ts u) (by (f t))
+  where
+    by : (q : Bool) → (q and (all f ts and f u)) ≡ ((q and all f ts) and f u)
+    by true = refl
+    by false = refl
+
+-- what a cell more does to the first type and the flag is what a type more does
+module _ (t : Tab) (w : Wf t) where
+  note-new : (j k : ℕ) (c : Bool) (ts : List Ty) → j < t.n → k < t.n → c ≡ differs (denote t j ∷ ts)
+      → (if eqb (suc j) (suc k) then c else true) ≡ differs (denote t j ∷ (ts ++ (denote t k ∷ [])))
+  unfolding differs if_then_else_ _and_
+  note-new j k c ts a b e = rw (all-snoc (same (denote t j)) ts (denote t k)) (by (eqb (suc j) (suc k)) refl)
+    where
+      and-true : (q : Bool) → (q and true) ≡ q
+      and-true true = refl
+      and-true false = refl
+
+      and-false : (q : Bool) → (q and false) ≡ false
+      and-false true = refl
+      and-false false = refl
+
+      by : (q : Bool) → eqb (suc j) (suc k) ≡ q → (if q then c else true) ≡ not (all (same (denote t j)) ts and same (denote t j) (denote t k))
+      by true z =
+          let i : suc j ≡ suc k = eqb-true (suc j) (suc k) z in
+          let l : j ≡ k = omega arith in
+          rw (same-yes (denote t j) (denote t k) (ap (denote t) l), and-true (all (same (denote t j)) ts)) e
+      by false z =
+          rw (same-no (denote t j) (denote t k) (λ x. eqb-false (suc j) (suc k) z (ap suc (w .inj j k a b x))), and-false (all (same (denote t j)) ts))
+
+  note-told : (v m : ℕ) (c : Bool) (ts : List Ty) → 0 < v → v ≤ t.n → m ≤ t.n → slot t m ≡ firstOf ts → c ≡ differs ts
+      → (slot t (if eqb m 0 then v else m) ≡ firstOf (ts ++ (orElse (slot t v) unknown ∷ [])))
+      × ((if eqb m 0 then c else if eqb m v then c else true) ≡ differs (ts ++ (orElse (slot t v) unknown ∷ [])))
+  unfolding firstOf differs slot orElse if_then_else_ all
+  note-told zero m c ts p h l e f = absurd (omega arith)
+  note-told (suc k) zero c [] p h l e f = (refl, f)
+  note-told (suc k) zero c (a ∷ ts) p h l e f = no-some a e
+  note-told (suc k) (suc j) c [] p h l e f = no-some (denote t j) (sym e)
+  note-told (suc k) (suc j) c (a ∷ ts) p h l e f =
+      let i : denote t j ≡ a = ap (λ o. orElse o unknown) e in
+      rw (ne-eqb (suc j) 0 (λ z. omega arith)) (e, rw (← i) (note-new j k c ts l h (rw i f)))
+
+  note-cell : (b v m : ℕ) (c : Bool) (ts : List Ty) → v ≤ t.n → m ≤ t.n → slot t m ≡ firstOf ts → c ≡ differs ts
+      → (slot t (noteCell b v m) ≡ firstOf (if tellsCell b v then ts ++ (orElse (slot t v) unknown ∷ []) else ts))
+      × (clashCell b v m c ≡ differs (if tellsCell b v then ts ++ (orElse (slot t v) unknown ∷ []) else ts))
+  unfolding noteCell clashCell tellsCell if_then_else_
+  note-cell b v m c ts h l e f = by (tellsCell b v) (told b v)
+    where
+      told : (b v : ℕ) → tellsCell b v ≡ true → 0 < v
+      told b zero z = never z
+      told b (suc v) z = omega arith
+
+      by : (q : Bool) → (q ≡ true → 0 < v)
+          → (slot t (if q then (if eqb m 0 then v else m) else m) ≡ firstOf (if q then ts ++ (orElse (slot t v) unknown ∷ []) else ts))
+          × ((if q then (if eqb m 0 then c else if eqb m v then c else true) else c) ≡ differs (if q then ts ++ (orElse (slot t v) unknown ∷ []) else ts))
+      by true p = note-told v m c ts (p refl) h l e f
+      by false p = (e, f)
+
+if-le : (q : Bool) {a b n : ℕ} → a ≤ n → b ≤ n → (if q then a else b) ≤ n
+unfolding if_then_else_
+if-le true p q = p
+if-le false p q = q
+
+note-le : (b v m n : ℕ) → v ≤ n → m ≤ n → noteCell b v m ≤ n
+unfolding noteCell
+note-le b v m n p q = if-le (tellsCell b v) (if-le (eqb m 0) p q) q
+
+pub tally-none : (t : Tab) (Γ : Frames) → Tally t Γ [] (replicate 128 0) (replicate 128 false)
+unfolding assigned firstOf differs slot
+tally-none t Γ = record {
+  lm = length-replicate {A = ℕ} 128 0;
+  lc = length-replicate 128 false;
+  within = λ x. omega (arith, zeros 128 x);
+  first = λ x h. ap (slot t) (zeros 128 x);
+  clash = λ x h. getD-replicate 128 x false false h;
+}
+
+pub tally-grown : {t u : Tab} {Γ : Frames} {Δs : List Frames} {ms : List ℕ} {cs : List Bool} → Grown t u → Tally t Γ Δs ms cs → Tally u Γ Δs ms cs
+tally-grown {ms = ms} g a = record {
+  lm = a .lm;
+  lc = a .lc;
+  within = λ x. omega (arith, a .within x, g .more);
+  first = λ x h. slot-grown g (getD ms x 0) (a .within x) ∙ a .first x h;
+  clash = a .clash;
+}
+
+pub tally-next : {t : Tab} {base branch : Rows} {top high : ℕ} {Γ : Frames} {Δs : List Frames} {ms ns : List ℕ} {cs ds : List Bool}
+    → Wf t → Fit t base top → Fit t branch high → Γ ≡ framesOf t base top → Tally t Γ Δs ms cs
+    → Noted (getD base top []) (getD branch high []) ms cs ns ds 128
+    → Tally t Γ (Δs ++ (framesOf t branch high ∷ [])) ns ds
+tally-next {t} {base} {branch} {top} {high} {Γ} {Δs} {ms} {ns} {cs} {ds} w f g e a n =
+    let lm : length ns ≡ 128 = n .lm ∙ a .lm in
+    let told : (x : ℕ) → assigned Γ x (Δs ++ (framesOf t branch high ∷ []))
+    ≡ (if tellsCell (cell base top x) (cell branch high x) then assigned Γ x Δs ++ (orElse (slot t (cell branch high x)) unknown ∷ []) else assigned Γ x Δs) =
+    λ x. assigned-snoc Γ x Δs (framesOf t branch high)
+    ∙ rw (
+      slot-frames t branch high x,
+      ap (λ z. slotIn z x) e ∙ slot-frames t base top x,
+      tells-cell t w (cell base top x) (cell branch high x) (f .known top x (f .high)) (g .known high x (g .high)),
+    ) in
+    let c : (x : ℕ) (h : x < 128) → _ = λ x h. note-cell t w (cell base top x) (cell branch high x) (getD ms x 0) (getD cs x false) (assigned Γ x Δs) (g .known high x (g .high)) (a .within x) (a .first x h) (a .clash x h) in
+    record {
+      lm = lm;
+      lc = n .lc ∙ a .lc;
+      within = λ x. elim (decLt x 128) [
+        | yes l ↦ rw (n .new-m x l) (note-le (cell base top x) (cell branch high x) (getD ms x 0) t.n (g .known high x (g .high)) (a .within x))
+        | no l ↦ rw (n .old-m x (omega arith)) (a .within x)
+      ];
+      first = λ x h. ap (slot t) (n .new-m x h) ∙ c x h .0 ∙ ap firstOf (sym (told x));
+      clash = λ x h. n .new-c x h ∙ c x h .1 ∙ ap differs (sym (told x));
+    }
+
+-- ---- the loop of `note_branch`
+pub noted-none : (base branch ms : List ℕ) (cs : List Bool) → Noted base branch ms cs ms cs 0
+noted-none base branch ms cs = record {
+  lm = refl;
+  lc = refl;
+  new-m = λ x h. absurd (omega arith);
+  new-c = λ x h. absurd (omega arith);
+  old-m = λ x h. refl;
+  old-c = λ x h. refl;
+}
+
+pub noted-more : {base branch ms ns : List ℕ} {cs ds : List Bool} {x : ℕ} (r : ℕ) (q : Bool) → Noted base branch ms cs ns ds x
+    → x < length ms → x < length cs
+    → r ≡ noteCell (getD base x 0) (getD branch x 0) (getD ns x 0)
+    → q ≡ clashCell (getD base x 0) (getD branch x 0) (getD ns x 0) (getD ds x false)
+    → Noted base branch ms cs (set ns x r) (set ds x q) (x + 1)
+noted-more {base} {branch} {ms} {ns} {cs} {ds} {x} r q n h l e f =
+    let m = n .old-m x (omega arith) in
+    let c = n .old-c x (omega arith) in
+    record {
+      lm = length-set ns x r ∙ n .lm;
+      lc = length-set ds x q ∙ n .lc;
+      new-m = below-more _ x (λ y p. getD-set-other ns x y r 0 (omega arith) ∙ n .new-m y p) (getD-set-same ns x r 0 (omega (arith, n .lm)) ∙ e ∙ rw m);
+      new-c = below-more _ x (λ y p. getD-set-other ds x y q false (omega arith) ∙ n .new-c y p) (getD-set-same ds x q false (omega (arith, n .lc)) ∙ f ∙ rw (m, c));
+      old-m = λ y p. getD-set-other ns x y r 0 (omega arith) ∙ n .old-m y (omega arith);
+      old-c = λ y p. getD-set-other ds x y q false (omega arith) ∙ n .old-c y (omega arith);
+    }
+
+-- ---- the loop of `commit`
+pub record Committing (fs : Rows) (top : ℕ) (ms : List ℕ) (cs : List Bool) (place : ℕ) (gs : Rows) (x : ℕ) : Type 0 where
+  pub here : x ≤ 128
+  pub long : length gs ≡ 8
+  pub answer : (ws : List Name) (t : Tab) (r : Ty) → settle ws place (λ y. slot t (getD ms y 0)) (λ y. getD cs y false) (count 0 mostNames) (state (framesOf t fs top) r)
+      ≡ settle ws place (λ y. slot t (getD ms y 0)) (λ y. getD cs y false) (count x (128 - x)) (state (framesOf t gs top) r)
+  pub fit : (t : Tab) → Fit t fs top → ((y : ℕ) → getD ms y 0 ≤ t.n) → Fit t gs top
+
+count-down : (x n : ℕ) → 0 < n → count x n ≡ x ∷ count (x + 1) (n - 1)
+unfolding count
+count-down x zero h = absurd (omega arith)
+count-down x (suc n) h = rw (sub-one (suc n), add-one x)
+
+pub committing-first : (fs : Rows) (top : ℕ) (ms : List ℕ) (cs : List Bool) (place : ℕ) → length fs ≡ 8 → Committing fs top ms cs place fs 0
+committing-first fs top ms cs place l = record { here = omega arith; long = l; answer = λ ws t r. refl; fit = λ t f h. f }
+
+slot-some : (t : Tab) (m : ℕ) → (m ≡ 0 → ⊥) → slot t m ≡ some (denote t (m - 1))
+unfolding slot
+slot-some t zero z = absurd (z refl)
+slot-some t (suc m) z = rw (sub-one (suc m))
+
+module _ {fs gs : Rows} {top : ℕ} {ms : List ℕ} {cs : List Bool} {place x : ℕ} (l : Committing fs top ms cs place gs x) (p : x < 128) where
+  committing-answer : (ws : List Name) (t : Tab) (r : Ty) → settle ws place (λ y. slot t (getD ms y 0)) (λ y. getD cs y false) (count 0 mostNames) (state (framesOf t fs top) r)
+      ≡ (settleName ws place x (slot t (getD ms x 0)) (getD cs x false) (state (framesOf t gs top) r)
+      >>= λ s. settle ws place (λ y. slot t (getD ms y 0)) (λ y. getD cs y false) (count (x + 1) (128 - (x + 1))) s)
+  unfolding settle
+  committing-answer ws t r =
+      let e : 128 - x - 1 ≡ 128 - (x + 1) = omega arith in
+      l .answer ws t r ∙ rw (count-down x (128 - x) (omega arith), e)
+
+  pub committing-skip : getD ms x 0 ≡ 0 → Committing fs top ms cs place gs (x + 1)
+  unfolding settleName slot _>>=_
+  committing-skip z = record { here = omega arith; long = l .long; answer = λ ws t r. rw z at (committing-answer ws t r); fit = l .fit }
+
+  pub committing-put : (m : ℕ) → m ≡ getD ms x 0 → (m ≡ 0 → ⊥) → getD cs x false ≡ false → top < 8 → Committing fs top ms cs place (put gs top x m) (x + 1)
+  unfolding settleName _>>=_
+  committing-put m e z c h = record {
+    here = omega arith;
+    long = length-set gs top _ ∙ l .long;
+    answer = λ ws t r. rw (← e, c, slot-some t m z, ← (frames-put-cell t gs top x m (omega (arith, l .long)) z)) at (committing-answer ws t r);
+    fit = λ t f b. fit-put x m (l .fit t f b) (rw e (b x));
+  }
+
+  pub committing-clash : (m : ℕ) → m ≡ getD ms x 0 → (m ≡ 0 → ⊥) → getD cs x false ≡ true → Committed fs gs top ms cs place 23 x
+  unfolding settleName _>>=_ mergeEnd if_then_else_
+  committing-clash m e z c = record {
+    says = λ ws t r. rw (← e, c, slot-some t m z) at (committing-answer ws t r);
+    fit = l .fit;
+    codes = inr refl;
+  }
+
+pub committing-end : {fs gs : Rows} {top : ℕ} {ms : List ℕ} {cs : List Bool} {place x : ℕ} → Committing fs top ms cs place gs x → 128 ≤ x
+    → Committed fs gs top ms cs place 0 0
+unfolding settle mergeEnd if_then_else_ count
+committing-end {x = x} l p =
+    let e : 128 - x ≡ 0 = omega arith in
+    record { says = λ ws t r. rw e at (l .answer ws t r); fit = l .fit; codes = inl refl }
+
+-- ---- what `commit` leaves is what the definition's merge leaves
+pub merged : {t : Tab} {fs gs : Rows} {top : ℕ} {Γ : Frames} {Δs : List Frames} {ms : List ℕ} {cs : List Bool} {place code name : ℕ} (ws : List Name) (y : Ty)
+    → Γ ≡ framesOf t fs top → Tally t Γ Δs ms cs → Committed fs gs top ms cs place code name → merge ws place Δs (state Γ y) ≡ mergeEnd ws t gs top y code place name
+unfolding merge
+merged {t} {fs} {gs} {top} {Γ} {Δs} {ms} {cs} {place} ws y e a c =
+    merge-settle ws place Γ Δs (λ x. slot t (getD ms x 0)) (λ x. getD cs x false) 0 mostNames (state Γ y) (omega arith) (a .first) (a .clash) ∙ rw e (c .says ws t y)
