@@ -6,7 +6,7 @@ use native.Mathlib.Omega.{arith}
 use native.Mathlib.Decide.{decLt}
 use Rattle.meaning.specs.Types.{kind, part}
 use Rattle.types.specs.Table.{Tab, tab, kindAt, firstAt, secondAt, built, shape, denote, Wf, Made}
-use Rattle.types.specs.Steps.{Written, Asked, Found}
+use Rattle.types.specs.Steps.{RecordAt, First, Written, Asked}
 use Rattle.types.proofs.Shapes.{shaped-kind, shaped-first, shaped-second, shaped-cong}
 use Rattle.types.proofs.Laws.{denote-eq, record-kind, first-part, second-part, unknown-number}
 use Rattle.types.proofs.Growth.{next-made, made-old}
@@ -48,12 +48,12 @@ module _ {t : Tab} {p : ℕ} (w : Wf t) (room : t.n < 2056) (first : p < t.n) wh
 
 module _ (t : Tab) (k p q : ℕ) (x : Asked t k p q) where
   -- what a record (k, p, q) says
-  says : (u : Tab) (i : ℕ) → kindAt u i ≡ k → firstAt u i ≡ p → secondAt u i ≡ q → shape u (denote t) i ≡ built k (denote t p) (denote t q)
+  says : (u : Tab) (i : ℕ) → RecordAt u.cells k p q i → shape u (denote t) i ≡ built k (denote t p) (denote t q)
   unfolding shape built
-  says u i a b c = rw (a, b, c) (shaped-cong k (x .most) (λ e n. refl) (λ e. refl) (λ e. absurd (x .no-tuple e)))
+  says u i r = rw (r .kind-is, r .first-is, r .second-is) (shaped-cong k (x .most) (λ e n. refl) (λ e. refl) (λ e. absurd (x .no-tuple e)))
 
   -- a number that means the type has its record: kind and parts tell it, since equal types have equal numbers
-  told : (i : ℕ) → i < t.n → denote t i ≡ built k (denote t p) (denote t q) → (kindAt t i ≡ k) × (firstAt t i ≡ p) × (secondAt t i ≡ q)
+  told : (i : ℕ) → i < t.n → denote t i ≡ built k (denote t p) (denote t q) → RecordAt t.cells k p q i
   unfolding built
   told i h e =
       let w = x .wf in
@@ -66,20 +66,20 @@ module _ (t : Tab) (k p q : ℕ) (x : Asked t k p q) where
       let si : denote t (secondAt t i) ≡ denote t q =
       g .means ∙ ap (part 1) e
       ∙ shaped-second _ _ _ k (x .most) (x .no-tuple) (λ z. ap (denote t) (x .unused z) ∙ unknown-number w) in
-      (ki, w .inj _ _ (f .below) (x .first) fi, w .inj _ _ (g .below) (x .second) si)
+      record { kind-is = ki; first-is = w .inj _ _ (f .below) (x .first) fi; second-is = w .inj _ _ (g .below) (x .second) si }
 
-  pub form-old : (r : ℕ) → Found t.cells t.n k p q r → r < t.n → Made t t r (built k (denote t p) (denote t q)) 0
-  form-old r f h = made-old 0 (x .wf) h (denote-eq (x .wf) r h ∙ says t r (f .kind-is h) (f .first-is h) (f .second-is h))
+  pub form-old : (r : ℕ) → First (RecordAt t.cells k p q) t.n r → r < t.n → Made t t r (built k (denote t p) (denote t q)) 0
+  form-old r f h = made-old 0 (x .wf) h (denote-eq (x .wf) r h ∙ says t r (f .found h))
 
-  pub form-new : {r : ℕ} {ds : List ℕ} → Found t.cells t.n k p q r → t.n ≤ r → Written t.cells ds t.n k p q
+  pub form-new : {r : ℕ} {ds : List ℕ} → First (RecordAt t.cells k p q) t.n r → t.n ≤ r → Written t.cells ds t.n k p q
       → Made t (tab ds (t.n + 1) t.m) t.n (built k (denote t p) (denote t q)) 0
   form-new {r} {ds} f h v =
       let u : Tab = tab ds (t.n + 1) t.m in
       let w = x .wf in
-      let ki = v .kind-is in
-      let fi = v .first-is in
-      let si = v .second-is in
-      let s = says u t.n ki fi si in
+      let ki = v .here .kind-is in
+      let fi = v .here .first-is in
+      let si = v .here .second-is in
+      let s = says u t.n (v .here) in
       next-made t u w
       (record {
         long = v .long;
@@ -101,8 +101,8 @@ module _ (t : Tab) (k p q : ℕ) (x : Asked t k p q) where
         fresh = λ i a e.
             let l = told i a (e ∙ s) in
             elim (decLt i 8) [
-              | yes b ↦ omega (arith, w .plains i b, l .0, x .least)
-              | no b ↦ f .none i (omega arith) (omega arith) (l .0) (l .1) (l .2)
+              | yes b ↦ omega (arith, w .plains i b, l .kind-is, x .least)
+              | no b ↦ f .passed .none i (omega arith) (omega arith) l
             ];
       })
       _ 0 s (omega arith)

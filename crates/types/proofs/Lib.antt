@@ -7,6 +7,7 @@ mod Shapes
 mod Pieces
 mod Rows
 mod Growth
+mod Searching
 mod Writing
 mod Tuples
 mod Sharing

@@ -1,6 +1,6 @@
 -- Forming a Tuple: its record is there already, or its elements and its record are written at the end.
 use mathlib.Core.Path.{_≡_, refl, sym, ap, _∙_, subst}
-use mathlib.Core.Bool.{Bool, false, false≢true}
+use mathlib.Core.Bool.{Bool}
 use mathlib.Core.List.{List, map}
 use Prim.Native.Nat.{ℕ, _+_, _*_, _≤_, _<_}
 use native.Mathlib.Omega.{arith}
@@ -11,9 +11,10 @@ use lib.Seq.{getD-set-same, getD-set-other}
 use Rattle.meaning.specs.Base.{choose, if_then_else_}
 use Rattle.meaning.specs.Types.{Ty, tuple, tys, kind, parts}
 use Rattle.types.specs.Table.{Tab, tab, kindAt, firstAt, secondAt, shaped, shape, denote, Made}
-use Rattle.types.specs.Steps.{Written, Listed, Equal, Alike, TupleAt, Matches, FoundTuple, Copied}
+use Rattle.types.specs.Steps.{Told, First, Written, Listed, Equal, TupleAt, Copied}
 use Rattle.types.proofs.Pieces.{piece, piece-map, piece-inj, tuple-parts}
 use Rattle.types.proofs.Laws.{record-kind, tuple-is, parts-of}
+use Rattle.types.proofs.Searching.{told-as}
 use Rattle.types.proofs.Growth.{next-made, made-old}
 
 -- ---- the copy's turns
@@ -32,17 +33,14 @@ copied-more {cs} {ds} {m} {st} {s} {j} c l h = record {
   };
 }
 
--- ---- whether a record is the Tuple asked for
+-- ---- whether a record is the Tuple asked for, where its kind and its count are
 
-pub matches-not : {cs st : List ℕ} {i s q : ℕ} → (TupleAt cs i st s q → ⊥) → Matches cs i st s q false
-matches-not h = record { yes = λ e. absurd (false≢true e); no = λ e. h }
-
-pub matches-alike : {cs st : List ℕ} {i s q p : ℕ} {b : Bool} → getD cs (4 * i) 0 ≡ 10 → getD cs (4 * i + 2) 0 ≡ q
-    → p ≡ getD cs (4 * i + 1) 0 → Alike cs (8224 + p) st s q b → Matches cs i st s q b
-matches-alike {cs} {st} {i} {s} {q} k n e a = record {
-  yes = λ h. record { kind-is = k; second-is = n; elements = subst (λ x. Equal cs (8224 + x) st s q) e (a .yes h) };
-  no = λ h m. a .no h (subst (λ x. Equal cs (8224 + x) st s q) (sym e) (m .elements));
-}
+pub tuple-told : {cs st : List ℕ} {i s q p : ℕ} {b : Bool} → getD cs (4 * i) 0 ≡ 10 → getD cs (4 * i + 2) 0 ≡ q
+    → p ≡ getD cs (4 * i + 1) 0 → Told (Equal cs (8224 + p) st s q) b → Told (TupleAt cs st s q i) b
+tuple-told {cs} {st} {i} {s} {q} k n e t =
+    told-as (λ h. record { kind-is = k; second-is = n; elements = subst (λ x. Equal cs (8224 + x) st s q) e h })
+    (λ m. subst (λ x. Equal cs (8224 + x) st s q) (sym e) (m .elements))
+    t
 
 -- ---- what is asked for
 
@@ -55,7 +53,7 @@ module _ (t : Tab) (st : List ℕ) (s q : ℕ) (x : Listed t st s q) where
   meant cs a l e =
       piece-map (denote t) (denote t) cs st a s q l (omega (arith, x .inside, x .long)) (λ j h. ap (denote t) (e .at j h))
 
-  pub tuple-old : (r : ℕ) → r < t.n → TupleAt t.cells r st s q → Made t t r (tuple (tys (map (denote t) (take q (drop s st))))) q
+  pub tuple-old : (r : ℕ) → r < t.n → TupleAt t.cells st s q r → Made t t r (tuple (tys (map (denote t) (take q (drop s st))))) q
   tuple-old r h e =
       let w = x .wf in
       let i = w .low r h .inside (e .kind-is) in
@@ -63,7 +61,7 @@ module _ (t : Tab) (st : List ℕ) (s q : ℕ) (x : Listed t st s q) where
       made-old q w h (tuple-is w r h (e .kind-is) ∙ rw (e .second-is) (ap (λ ts. tuple (tys ts)) m))
 
   -- a number that means the type has its record, since equal types have equal numbers
-  told : (i : ℕ) → i < t.n → denote t i ≡ asked → TupleAt t.cells i st s q
+  told : (i : ℕ) → i < t.n → denote t i ≡ asked → TupleAt t.cells st s q i
   unfolding kind
   told i h e =
       let w = x .wf in
@@ -82,15 +80,15 @@ module _ (t : Tab) (st : List ℕ) (s q : ℕ) (x : Listed t st s q) where
         };
       }
 
-  pub tuple-new : {r : ℕ} {ds es : List ℕ} → FoundTuple t.cells t.n st s q r → t.n ≤ r → Copied t.cells ds t.m st s q
+  pub tuple-new : {r : ℕ} {ds es : List ℕ} → First (TupleAt t.cells st s q) t.n r → t.n ≤ r → Copied t.cells ds t.m st s q
       → Written ds es t.n 10 t.m q → Made t (tab es (t.n + 1) (t.m + q)) t.n (tuple (tys (map (denote t) (take q (drop s st))))) q
   unfolding shape shaped choose if_then_else_
   tuple-new {r} {ds} {es} f h c v =
       let u : Tab = tab es (t.n + 1) (t.m + q) in
       let w = x .wf in
-      let ki = v .kind-is in
-      let fi = v .first-is in
-      let si = v .second-is in
+      let ki = v .here .kind-is in
+      let fi = v .here .first-is in
+      let si = v .here .second-is in
       let equal : Equal es (8224 + t.m) st s q =
       record { at = λ j a. v .after (8224 + t.m + j) (omega (arith, x .room)) ∙ c .elements .at j a } in
       let m = meant es (8224 + t.m) (omega (arith, v .long, c .long, w .long, x .space)) equal in
@@ -119,7 +117,7 @@ module _ (t : Tab) (st : List ℕ) (s q : ℕ) (x : Listed t st s q) where
             let l = told i a (e ∙ y) in
             elim (decLt i 8) [
               | yes b ↦ omega (arith, w .plains i b, l .kind-is)
-              | no b ↦ f .none i (omega arith) (omega arith) l
+              | no b ↦ f .passed .none i (omega arith) (omega arith) l
             ];
       })
       _ q y (omega arith)

@@ -6,25 +6,7 @@ use Prim.Native.Nat.{ℕ, _+_, _*_, _≤_, _<_}
 use lib.ListN.{length, getD}
 use Rattle.types.specs.Table.{Tab, Wf}
 
--- ---- writing
-
--- ds is cs with the record (k, p, q) at i
-pub record Written (cs ds : List ℕ) (i k p q : ℕ) : Type 0 where
-  pub long : length ds ≡ length cs
-  pub kind-is : getD ds (4 * i) 0 ≡ k
-  pub first-is : getD ds (4 * i + 1) 0 ≡ p
-  pub second-is : getD ds (4 * i + 2) 0 ≡ q
-  pub before : (x : ℕ) → x < 4 * i → getD ds x 0 ≡ getD cs x 0
-  pub after : (x : ℕ) → 4 * i + 3 ≤ x → getD ds x 0 ≡ getD cs x 0
-
--- the first k records are those of the plain types
-pub record Started (cs : List ℕ) (k : ℕ) : Type 0 where
-  pub long : length cs ≡ 10272
-  pub kinds : (i : ℕ) → i < k → getD cs (4 * i) 0 ≡ i
-  pub firsts : (i : ℕ) → i < k → getD cs (4 * i + 1) 0 ≡ 0
-  pub seconds : (i : ℕ) → i < k → getD cs (4 * i + 2) 0 ≡ 0
-
--- ---- a type of two parts at most
+-- ---- what is asked
 
 -- List, Dict, MapIter or FilterIter of known types, with 0 where there is no second one, and room for one type more
 pub record Asked (t : Tab) (k p q : ℕ) : Type 0 where
@@ -37,17 +19,7 @@ pub record Asked (t : Tab) (k p q : ℕ) : Type 0 where
   pub second : q < t.n
   pub unused : (k ≡ 9 → ⊥) → q ≡ 0
 
--- r is the first number from 8 on whose record is (k, p, q), or n where none below n is
-pub record Found (cs : List ℕ) (n k p q r : ℕ) : Type 0 where
-  pub within : r ≤ n
-  pub kind-is : r < n → getD cs (4 * r) 0 ≡ k
-  pub first-is : r < n → getD cs (4 * r + 1) 0 ≡ p
-  pub second-is : r < n → getD cs (4 * r + 2) 0 ≡ q
-  pub none : (i : ℕ) → i < r → 8 ≤ i → getD cs (4 * i) 0 ≡ k → getD cs (4 * i + 1) 0 ≡ p → getD cs (4 * i + 2) 0 ≡ q → ⊥
-
--- ---- Tuples
-
--- q known types on a stack, from s on, with room for them and for one type more
+-- a Tuple of q known types, on a stack from s on, with room for them and for one type more
 pub record Listed (t : Tab) (st : List ℕ) (s q : ℕ) : Type 0 where
   pub wf : Wf t
   pub room : t.n < 2056
@@ -56,31 +28,54 @@ pub record Listed (t : Tab) (st : List ℕ) (s q : ℕ) : Type 0 where
   pub inside : s + q ≤ 2048
   pub known : (j : ℕ) → j < q → getD st (s + j) 0 < t.n
 
+-- ---- what a record is
+
+-- record i is (k, p, q)
+pub record RecordAt (cs : List ℕ) (k p q i : ℕ) : Type 0 where
+  pub kind-is : getD cs (4 * i) 0 ≡ k
+  pub first-is : getD cs (4 * i + 1) 0 ≡ p
+  pub second-is : getD cs (4 * i + 2) 0 ≡ q
+
 -- the q numbers of cs from a on are those of st from s on
 pub record Equal (cs : List ℕ) (a : ℕ) (st : List ℕ) (s q : ℕ) : Type 0 where
   pub at : (j : ℕ) → j < q → getD cs (a + j) 0 ≡ getD st (s + j) 0
 
--- b tells whether they are
-pub record Alike (cs : List ℕ) (a : ℕ) (st : List ℕ) (s q : ℕ) (b : Bool) : Type 0 where
-  pub yes : b ≡ true → Equal cs a st s q
-  pub no : b ≡ false → Equal cs a st s q → ⊥
-
 -- record i is the Tuple of the q numbers of st from s on
-pub record TupleAt (cs : List ℕ) (i : ℕ) (st : List ℕ) (s q : ℕ) : Type 0 where
+pub record TupleAt (cs st : List ℕ) (s q i : ℕ) : Type 0 where
   pub kind-is : getD cs (4 * i) 0 ≡ 10
   pub second-is : getD cs (4 * i + 2) 0 ≡ q
   pub elements : Equal cs (8224 + getD cs (4 * i + 1) 0) st s q
 
--- b tells whether it is
-pub record Matches (cs : List ℕ) (i : ℕ) (st : List ℕ) (s q : ℕ) (b : Bool) : Type 0 where
-  pub yes : b ≡ true → TupleAt cs i st s q
-  pub no : b ≡ false → TupleAt cs i st s q → ⊥
+-- ---- a search
 
--- r is the first number from 8 on that is this Tuple, or n where none below n is
-pub record FoundTuple (cs : List ℕ) (n : ℕ) (st : List ℕ) (s q r : ℕ) : Type 0 where
+-- b tells whether P holds
+pub record Told (P : Type 0) (b : Bool) : Type 0 where
+  pub yes : b ≡ true → P
+  pub no : b ≡ false → P → ⊥
+
+-- no structured number below i has P
+pub record Passed (P : ℕ → Type 0) (i : ℕ) : Type 0 where
+  pub none : (j : ℕ) → j < i → 8 ≤ j → P j → ⊥
+
+-- r is the first structured number that has P, or n where none below n has
+pub record First (P : ℕ → Type 0) (n r : ℕ) : Type 0 where
   pub within : r ≤ n
-  pub found : r < n → TupleAt cs r st s q
-  pub none : (i : ℕ) → i < r → 8 ≤ i → TupleAt cs i st s q → ⊥
+  pub found : r < n → P r
+  pub passed : Passed P r
+
+-- ---- writing
+
+-- ds is cs with the record (k, p, q) at i
+pub record Written (cs ds : List ℕ) (i k p q : ℕ) : Type 0 where
+  pub long : length ds ≡ length cs
+  pub here : RecordAt ds k p q i
+  pub before : (x : ℕ) → x < 4 * i → getD ds x 0 ≡ getD cs x 0
+  pub after : (x : ℕ) → 4 * i + 3 ≤ x → getD ds x 0 ≡ getD cs x 0
+
+-- the first k records are those of the plain types
+pub record Started (cs : List ℕ) (k : ℕ) : Type 0 where
+  pub long : length cs ≡ 10272
+  pub plains : (i : ℕ) → i < k → RecordAt cs i 0 0 i
 
 -- ds is cs with the q numbers of st from s on as its elements from m on
 pub record Copied (cs ds : List ℕ) (m : ℕ) (st : List ℕ) (s q : ℕ) : Type 0 where

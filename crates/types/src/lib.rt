@@ -7,7 +7,7 @@ ghost use lib.ListN.{length, getD, take, drop};
 ghost use Prim.Native.Nat.{ℕ, _+_, _*_, _≤_, _<_};
 ghost use Rattle.meaning.specs.Types.{tuple, tys};
 ghost use Rattle.types.specs.Table.{Wf, Made, tab, denote, built};
-ghost use Rattle.types.specs.Steps.{Written, Asked, Found, Listed, Alike, Matches, FoundTuple, Copied};
+ghost use Rattle.types.specs.Steps.{Asked, Listed, RecordAt, Equal, TupleAt, Told, First, Written, Copied};
 ghost use Rattle.types.specs.Reading.{KindOf, PartOf, IsNumber, IsTuple, IsElement, CountOf, ElementAt, CommonOf, ElementOf, shared, Agreement};
 
 // The first number that is no plain type's, and the cell of the first tuple element.
@@ -68,19 +68,32 @@ pub fn start(table: &mut [u32; 10272])
     }
 }
 
+// Whether record i is (k, p, q).
+fn holds(table: &[u32; 10272], i: usize, k: u32, p: u32, q: u32) -> bool
+    requires { ⌜ i < 2056 ⌝ }
+    ensures { λ r. ⌜ Told (RecordAt (now (table .entry)) k p q i) r ⌝ }
+{
+    if table[4 * i] != k {
+        return false;
+    }
+    if table[4 * i + 1] != p {
+        return false;
+    }
+    if table[4 * i + 2] != q {
+        return false;
+    }
+    true
+}
+
 // The first number from 8 on whose record is (k, p, q), or `types` where there is none.
 fn find(table: &[u32; 10272], types: usize, k: u32, p: u32, q: u32) -> usize
     requires { ⌜ (8 ≤ types) × (types ≤ 2056) ⌝ }
-    ensures { λ r. ⌜ Found (now (table .entry)) types k p q r ⌝ }
+    ensures { λ r. ⌜ First (RecordAt (now (table .entry)) k p q) types r ⌝ }
 {
     let mut i = STRUCTURED;
     while i < types {
-        if table[4 * i] == k {
-            if table[4 * i + 1] == p {
-                if table[4 * i + 2] == q {
-                    return i;
-                }
-            }
+        if holds(table, i, k, p, q) {
+            return i;
         }
         i += 1;
     }
@@ -116,7 +129,7 @@ pub fn form(table: &mut [u32; 10272], counts: Counts, kind: usize, p: usize, q: 
 // Whether the n elements from p on are the n numbers of the stack from `from` on.
 fn alike(table: &[u32; 10272], p: usize, stack: &[u32; 2048], from: usize, n: usize) -> bool
     requires { ⌜ (p + n ≤ 2048) × (from + n ≤ 2048) ⌝ }
-    ensures { λ r. ⌜ Alike (now (table .entry)) (8224 + p) (now (stack .entry)) from n r ⌝ }
+    ensures { λ r. ⌜ Told (Equal (now (table .entry)) (8224 + p) (now (stack .entry)) from n) r ⌝ }
 {
     let mut j: usize = 0;
     while j < n {
@@ -132,7 +145,7 @@ fn alike(table: &[u32; 10272], p: usize, stack: &[u32; 2048], from: usize, n: us
 fn matches(table: &[u32; 10272], i: usize, stack: &[u32; 2048], from: usize, n: usize) -> bool
     requires { ⌜ IsNumber (now table) i ⌝ }
     requires { ⌜ from + n ≤ 2048 ⌝ }
-    ensures { λ r. ⌜ Matches (now (table .entry)) i (now (stack .entry)) from n r ⌝ }
+    ensures { λ r. ⌜ Told (TupleAt (now (table .entry)) (now (stack .entry)) from n i) r ⌝ }
 {
     if table[4 * i] != 10 {
         return false;
@@ -152,7 +165,7 @@ fn find_tuple(
     n: usize,
 ) -> usize
     requires { ⌜ Listed (tab (now table) (counts .types) (counts .elements)) (now stack) from n ⌝ }
-    ensures { λ r. ⌜ FoundTuple (now (table .entry)) (counts .types) (now (stack .entry)) from n r ⌝ }
+    ensures { λ r. ⌜ First (TupleAt (now (table .entry)) (now (stack .entry)) from n) (counts .types) r ⌝ }
 {
     let types = counts.types;
     let mut i = STRUCTURED;

@@ -1,8 +1,9 @@
+-- `types::alike` meets its contract: the numbers passed are equal; the measure is what is left.
+use Rattle.types.proofs.Searching.{told-no, told-yes}
 use Rattle.types.specs.Steps.{Equal}
 use borrow.Author.Count.{below-more}
 use Prim.Native.Nat.{_+_, _≤_, _-_}
-use mathlib.Core.Bool.{false≢true}
-use mathlib.Core.Path.{subst, sym}
+use mathlib.Core.Path.{subst}
 use native.Mathlib.Omega.{arith}
 use borrow.Author.Needs.{needs}
 use Rattle.types.proofs.alike.Statement.{statement}
@@ -41,7 +42,7 @@ element-copy-out-if1-2 c = search needs
 
 returns : tie.Need-returns Inv-loop μ-loop
 returns c =
-    record { yes = λ e. absurd (false≢true e); no = λ e f. c .if1 .taken (f .at _ (c .before .before .before .loop-test .taken)) }
+    told-no (λ e. c .if1 .taken (e .at _ (c .before .before .before .loop-test .taken)))
 
 add-j : tie.Need-add-j Inv-loop μ-loop
 add-j c = search needs
@@ -55,7 +56,7 @@ loop-again c =
 
 returns-2 : tie.Need-returns-2 Inv-loop μ-loop
 returns-2 c =
-    record { yes = λ e. subst (Equal _ _ _ _) (omega arith) (c .before .loop .inv .1); no = λ e. absurd (false≢true (sym e)) }
+    told-yes (subst (Equal _ _ _ _) (omega arith) (c .before .loop .inv .1))
 
 pub alike-spec : {M : Type 1} → statement M
 alike-spec =

@@ -1,3 +1,4 @@
+-- `types::common_of` meets its contract: its two cells and the shared number are what the law asks.
 use Rattle.types.proofs.Sharing.{common-told}
 use native.Mathlib.Omega.{arith}
 use borrow.Author.Needs.{needs}

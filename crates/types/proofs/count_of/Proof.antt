@@ -1,3 +1,4 @@
+-- `types::count_of` meets its contract: the cell is the count.
 use Rattle.types.proofs.Readers.{count-told}
 use borrow.Author.Needs.{needs}
 use Rattle.types.proofs.count_of.Statement.{statement}

@@ -1,3 +1,4 @@
+-- `types::element_at` meets its contract: the two cells are what the law asks.
 use Rattle.types.proofs.Readers.{element-told}
 use borrow.Author.Needs.{needs}
 use Rattle.types.proofs.element_at.Statement.{statement}

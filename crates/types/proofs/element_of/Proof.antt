@@ -1,3 +1,4 @@
+-- `types::element_of` meets its contract: each branch is one law of Walks.
 use Rattle.types.proofs.Walks.{walk-tuple, walk-part, walk-unknown, walk-string, walk-range, walk-not}
 use mathlib.Core.Path.{sym, _∙_}
 use borrow.Author.Needs.{needs}

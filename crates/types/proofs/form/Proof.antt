@@ -1,3 +1,4 @@
+-- `types::form` meets its contract: the record was found, or it is written at the end.
 use Rattle.types.proofs.Forming.{form-old, form-new}
 use borrow.Author.Needs.{needs}
 use Rattle.types.proofs.form.Statement.{statement}

@@ -1,3 +1,4 @@
+-- `types::kind_of` meets its contract: the cell is the kind.
 use Rattle.types.proofs.Readers.{kind-told}
 use borrow.Author.Needs.{needs}
 use Rattle.types.proofs.kind_of.Statement.{statement}

@@ -1,4 +1,6 @@
-use Rattle.types.proofs.Tuples.{matches-not, matches-alike}
+-- `types::matches` meets its contract: kind, count and elements, one after the other, tell.
+use Rattle.types.proofs.Searching.{told-no}
+use Rattle.types.proofs.Tuples.{tuple-told}
 use mathlib.Core.Path.{sym, _∙_}
 use native.Mathlib.Omega.{arith}
 use borrow.Author.Needs.{needs}
@@ -16,7 +18,7 @@ element-copy-out-if1 c = search needs
 
 returns : tie.Need-returns
 returns c =
-    matches-not (λ e. c .if1 .taken (e .kind-is))
+    told-no (λ e. c .if1 .taken (e .kind-is))
 
 mul-cell : tie.Need-mul-cell
 mul-cell c = search needs
@@ -29,7 +31,7 @@ cell-requires c κs = search needs
 
 returns-2 : tie.Need-returns-2
 returns-2 c =
-    matches-not (λ e. c .if2 .taken (c .before .cell .ensures ∙ e .second-is))
+    told-no (λ e. c .if2 .taken (c .before .cell .ensures ∙ e .second-is))
 
 mul-cell-2 : tie.Need-mul-cell-2
 mul-cell-2 c = search needs
@@ -46,7 +48,7 @@ alike-requires c κs =
 
 returns-3 : tie.Need-returns-3
 returns-3 c =
-    matches-alike (c .before .before .before .before .if1 .left) (sym (c .before .before .before .cell .ensures) ∙ c .before .before .if2 .left) (c .before .cell2 .ensures) (c .alike .ensures)
+    tuple-told (c .before .before .before .before .if1 .left) (sym (c .before .before .before .cell .ensures) ∙ c .before .before .if2 .left) (c .before .cell2 .ensures) (c .alike .ensures)
 
 pub matches-spec : {M : Type 1} → statement M
 matches-spec =

@@ -1,3 +1,4 @@
+-- `types::part_of` meets its contract: the cell is the first part's number.
 use Rattle.types.proofs.Readers.{first-told}
 use borrow.Author.Needs.{needs}
 use Rattle.types.proofs.part_of.Statement.{statement}

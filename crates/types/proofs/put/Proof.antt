@@ -1,3 +1,4 @@
+-- `types::put` meets its contract: three cells are set.
 use Rattle.types.proofs.Writing.{written}
 use borrow.Author.Needs.{needs}
 use Rattle.types.proofs.put.Statement.{statement}

@@ -1,3 +1,4 @@
+-- `types::second_of` meets its contract: the cell is the second part's number.
 use Rattle.types.proofs.Readers.{second-told}
 use borrow.Author.Needs.{needs}
 use Rattle.types.proofs.second_of.Statement.{statement}

@@ -1,3 +1,4 @@
+-- `types::start` meets its contract: the records passed are plain types'; the measure is what is left.
 use Rattle.types.proofs.Writing.{started-none, started-more, started-wf}
 use Rattle.types.specs.Steps.{Started}
 use Prim.Native.Nat.{_≤_, _-_}

@@ -1,3 +1,4 @@
+-- `types::tuple_of` meets its contract: the record was found, or elements and record are written at the end.
 use Rattle.types.proofs.Tuples.{tuple-old, tuple-new}
 use mathlib.Core.Path.{_∙_}
 use borrow.Author.Needs.{needs}
