@@ -1,0 +1,94 @@
+//! What comes back for an image, and the lines that say it.
+
+/// The rooms of document 01's program `typecheck`.
+pub const SHEET_ROOM: usize = 42_532;
+pub const MESSAGE_ROOM: usize = 1_024;
+
+/// How many bytes the caller's two buffers have.
+#[derive(Debug, Clone, Copy, PartialEq, Eq)]
+pub struct Rooms {
+    pub sheet: usize,
+    pub message: usize,
+}
+
+impl Default for Rooms {
+    fn default() -> Self {
+        Rooms { sheet: SHEET_ROOM, message: MESSAGE_ROOM }
+    }
+}
+
+#[derive(Debug, Clone, PartialEq, Eq)]
+pub struct Answer {
+    pub code: u32,
+    pub place: u32,
+    pub span_start: u32,
+    pub span_end: u32,
+    /// What is written at the front of the sheet buffer.
+    pub sheet: Vec<u8>,
+    /// What is written at the front of the message buffer.
+    pub message: Vec<u8>,
+}
+
+impl Answer {
+    /// A refusal outside 20..50.
+    pub fn bare(code: u32, place: u32) -> Answer {
+        Answer { code, place, span_start: 0, span_end: 0, sheet: Vec::new(), message: Vec::new() }
+    }
+
+    /// The line of document 01's program, and for an accepted program ` #` and a checksum of its sheet:
+    /// the line alone would not tell two sheets of equal size apart.
+    pub fn line(&self) -> Vec<u8> {
+        let mut line = self.bare_line();
+        if self.code == 0 {
+            line.extend_from_slice(format!(" #{:016x}", fnv1a(&self.sheet)).as_bytes());
+        }
+        line
+    }
+
+    /// The line of document 01's program, without its newline.
+    pub fn bare_line(&self) -> Vec<u8> {
+        if self.code == 0 {
+            let word = |at: usize| {
+                let s = &self.sheet;
+                u32::from_le_bytes([s[at], s[at + 1], s[at + 2], s[at + 3]])
+            };
+            return format!("accepted {} {} {}", word(20), word(4), self.sheet.len()).into_bytes();
+        }
+        let head = format!("refused {} {} {} {} ", self.code, self.place, self.span_start, self.span_end);
+        let mut line = head.into_bytes();
+        if self.message.is_empty() {
+            line.push(b'-');
+        } else {
+            line.extend_from_slice(&self.message);
+        }
+        line
+    }
+
+    /// The machine form: tab-separated, the buffers in hexadecimal.
+    pub fn full_line(&self, engine: &str) -> Vec<u8> {
+        format!(
+            "{}\t{}\t{}\t{}\t{}\t{}\t{}",
+            self.code,
+            self.place,
+            self.span_start,
+            self.span_end,
+            hex(&self.sheet),
+            hex(&self.message),
+            engine
+        )
+        .into_bytes()
+    }
+}
+
+/// FNV-1a, 64 bits.
+pub fn fnv1a(bytes: &[u8]) -> u64 {
+    bytes.iter().fold(0xcbf2_9ce4_8422_2325, |hash, byte| (hash ^ u64::from(*byte)).wrapping_mul(0x0000_0100_0000_01b3))
+}
+
+/// Bytes in hexadecimal, `-` for none.
+pub fn hex(bytes: &[u8]) -> String {
+    if bytes.is_empty() {
+        return "-".to_string();
+    }
+    bytes.iter().map(|byte| format!("{:02x}", byte)).collect()
+}

@@ -1,0 +1,108 @@
+//! Holding the reference walk against T.
+
+use crate::answer::{Answer, Rooms};
+use crate::exhaust::{All, PAIRS};
+use crate::generate;
+use crate::judge::{self, Engine};
+use crate::mistakes::Mind;
+use crate::reference;
+use crate::show;
+use std::collections::BTreeMap;
+
+/// What was seen.
+#[derive(Default)]
+pub struct Tally {
+    pub images: u64,
+    pub codes: BTreeMap<u32, u64>,
+    pub engines: BTreeMap<&'static str, u64>,
+    pub differences: u64,
+}
+
+/// How many differences are shown.
+const SHOWN: u64 = 5;
+
+impl Tally {
+    /// Judges an image by T and by the reference, and shows the first differences.
+    pub fn compare(&mut self, image: &[u8], rooms: Rooms) -> Answer {
+        let judged = judge::judge(image, rooms);
+        let other = reference::judge(image, rooms, Mind::SOUND).answer;
+        self.images += 1;
+        *self.codes.entry(judged.answer.code).or_insert(0) += 1;
+        *self.engines.entry(judged.engine.name()).or_insert(0) += 1;
+        if other != judged.answer {
+            self.differences += 1;
+            if self.differences <= SHOWN {
+                println!("difference, rooms {:?}:", rooms);
+                println!("  T         {}", String::from_utf8_lossy(&judged.answer.line()));
+                println!("  reference {}", String::from_utf8_lossy(&other.line()));
+                println!("{}", show::image(image));
+            }
+        }
+        judged.answer
+    }
+
+    fn add(&mut self, other: &Tally) {
+        self.images += other.images;
+        self.differences += other.differences;
+        for (code, count) in &other.codes {
+            *self.codes.entry(*code).or_insert(0) += count;
+        }
+        for (engine, count) in &other.engines {
+            *self.engines.entry(*engine).or_insert(0) += count;
+        }
+    }
+
+    fn engines(&self) -> String {
+        let all = [Engine::Image, Engine::AsIs, Engine::Sorted, Engine::Ninth, Engine::TooLarge];
+        let count = |engine: &Engine| self.engines.get(engine.name()).copied().unwrap_or(0);
+        all.iter().map(|engine| format!("{:>9}", count(engine))).collect()
+    }
+
+    pub fn codes(&self) -> String {
+        self.codes.iter().map(|(code, count)| format!("{}:{}", code, count)).collect::<Vec<String>>().join(" ")
+    }
+}
+
+/// `count` images of each family, or of one. Every tenth is judged again in rooms that its sheet or message
+/// just fits, and just doesn't.
+pub fn check_reference(seed: u64, count: u64, only: Option<&str>) -> bool {
+    println!("{:10} {:>9}    image    as-is   sorted    ninth too-large differences", "family", "judged");
+    let mut total = Tally::default();
+    for (family, _) in generate::FAMILIES.iter().filter(|(name, _)| only.map_or(true, |only| only == *name)) {
+        let mut tally = Tally::default();
+        for number in 0..count {
+            let image = generate::image(seed, family, number);
+            let answer = tally.compare(&image, Rooms::default());
+            if number % 10 == 0 {
+                for less in 0..2 {
+                    let sheet = answer.sheet.len().saturating_sub(less);
+                    let message = answer.message.len().saturating_sub(less);
+                    tally.compare(&image, Rooms { sheet, message });
+                }
+            }
+        }
+        println!("{:10} {:>9}{} {:>11}", family, tally.images, tally.engines(), tally.differences);
+        total.add(&tally);
+    }
+    println!("{:10} {:>9}{} {:>11}", "all", total.images, total.engines(), total.differences);
+    println!("codes: {}", total.codes());
+    total.differences == 0
+}
+
+/// Every program of up to `nodes` nodes besides the module's Block, over each pair of names.
+pub fn exhaust(nodes: usize) -> bool {
+    let all = All::new(nodes);
+    let mut total = Tally::default();
+    for pair in PAIRS.iter() {
+        let mut tally = Tally::default();
+        for size in 0..=nodes {
+            all.programs(size, pair, &mut |program| {
+                tally.compare(&program.image(), Rooms::default());
+            });
+        }
+        println!("{} {:?}: {} programs, {} differences", pair[0].0, pair[1].0, tally.images, tally.differences);
+        total.add(&tally);
+    }
+    println!("all: {} programs, {} differences; codes: {}", total.images, total.differences, total.codes());
+    total.differences == 0
+}

@@ -1,0 +1,38 @@
+//! The oracle's own second reading of document 01: reader, walk, messages and sheet over types that are
+//! numbers in a table, so that it can judge what T cannot hold. Written from document 01 and not from the
+//! modules beside it, which it is compared with.
+//!
+//! Each plausible mistake of `mistakes.rs` is a switch in here.
+
+pub mod read;
+pub mod rules;
+pub mod types;
+pub mod walk;
+pub mod write;
+
+use crate::answer::{Answer, Rooms};
+use crate::mistakes::Mind;
+use walk::End;
+
+/// An answer, and what it would have cost T to find it.
+pub struct Judged {
+    pub answer: Answer,
+    /// About how many nodes of type trees T copies on the way.
+    pub weight: u64,
+}
+
+/// Document 01's answer, as far as `mind` gets it right.
+pub fn judge(bytes: &[u8], rooms: Rooms, mind: Mind) -> Judged {
+    let image = match read::read(bytes, mind) {
+        Ok(image) => image,
+        Err((code, place)) => return Judged { answer: Answer::bare(code, place as u32), weight: 0 },
+    };
+    let mut walk = walk::Walk::new(&image, mind);
+    let end = walk.program();
+    let answer = match end {
+        End::Done => write::accepted(&walk, rooms, mind),
+        End::Refused(refusal) => write::refused(&walk, &refusal, rooms, mind),
+        End::NinthFrame(node) => write::ninth_frame(&image, node, mind),
+    };
+    Judged { answer, weight: walk.weight }
+}

@@ -1,0 +1,408 @@
+//! The stored list: images that cover every code, place rule and quirk, and T's answers.
+
+use crate::answer::Rooms;
+use crate::batch;
+use crate::generate::{self, calls, damage, limits};
+use crate::image::kind::*;
+use crate::judge::{self, Engine};
+use crate::program::*;
+use crate::source;
+use std::collections::HashSet;
+use std::fs;
+use std::path::Path;
+
+/// The rooms of the second, small list: its sheets and messages lie on both sides of them.
+pub const TIGHT: Rooms = Rooms { sheet: 98, message: 69 };
+
+/// Images with what they are about.
+pub type List = Vec<(String, Vec<u8>)>;
+
+/// How many images of each family are taken, and how large one may be: many small ones tell more than a few
+/// large ones, and a reader can follow them.
+const DRAWN: [(&str, usize, usize); 16] = [
+    ("well", 40, 2_500),
+    ("errors", 217, 900),
+    ("small", 200, 700),
+    ("chaos", 30, 2_000),
+    ("merge", 110, 1_500),
+    ("stray", 150, 900),
+    ("returns", 130, 900),
+    ("dropped", 130, 900),
+    ("calls", 220, 600),
+    ("types", 80, 1_200),
+    ("sheets", 44, 2_000),
+    ("deep", 22, 2_300),
+    ("doubling", 14, 4_000),
+    ("names", 200, 600),
+    ("damaged", 170, 900),
+    ("large", 1, 60_000),
+];
+
+/// The list that a seed makes, without duplicates.
+pub fn stored_list(seed: u64) -> List {
+    let mut list = List::new();
+    for (title, text) in generate::quirks() {
+        list.push((format!("quirk: {}", title), generate::quirk(text).image()));
+    }
+    for (what, image) in limits::images() {
+        list.push((format!("limit: {}", what), image));
+    }
+    tables(&mut list);
+    damages(&mut list);
+    // Lengths that wrap at 16, 32 and 64 bits come out small, and must not be taken for it.
+    for (steps, end) in
+        [(3, 0), (12, 1), (17, 0), (17, 4), (18, 10), (34, 0), (34, 2), (34, 5), (36, 10), (66, 0), (66, 12), (100, 4)]
+            .iter()
+    {
+        let program = limits::doubled(*steps, 2, end % 4, *end);
+        list.push((format!("doubling: {} steps, end {}", steps, end), program.image()));
+    }
+    for (family, wanted, largest) in DRAWN.iter() {
+        let mut found = 0;
+        let mut number = 0;
+        while found < *wanted {
+            let image = generate::image(seed, family, number);
+            if image.len() <= *largest {
+                list.push((format!("{} {}", family, number), image));
+                found += 1;
+            }
+            number += 1;
+        }
+    }
+    let mut seen: HashSet<Vec<u8>> = HashSet::new();
+    list.retain(|(_, image)| seen.insert(image.clone()));
+    list
+}
+
+/// Every operator on every pair of kinds, and everything that takes one operand on every operand.
+fn tables(list: &mut List) {
+    // One of each kind.
+    let kinds = [0, 1, 2, 3, 4, 5, 6, 7, 8, 10, 12, 15, 16];
+    for (i, left) in kinds.iter().enumerate() {
+        for (j, right) in kinds.iter().enumerate() {
+            let program = calls::operator_program(*left, *right);
+            list.push((format!("operators: {} and {}", left, right), program.image()));
+            // Of each code's operators one in turn, for its message.
+            let op = [[0; 4], [2; 4], [1, 3, 4, 5], [6, 7, 6, 7], [8, 9, 10, 11]][(i + 2 * j) % 5][j % 4];
+            let program = calls::operation(op, *left, *right);
+            list.push((format!("operator {}: {} and {}", op, left, right), program.image()));
+        }
+    }
+    // Types that differ inside.
+    for (left, right) in
+        [(8, 9), (9, 8), (10, 11), (11, 10), (12, 13), (13, 14), (14, 12), (16, 17), (17, 16), (8, 18)].iter()
+    {
+        for op in [0, 6].iter() {
+            let program = calls::operation(*op, *left, *right);
+            list.push((format!("operator {}: {} and {}", op, left, right), program.image()));
+        }
+    }
+    for which in 0..calls::OPERANDS {
+        list.push((format!("operand {}", which), calls::operand_program(which).image()));
+        for thing in 0..calls::things() {
+            list.push((format!("operand {}, thing {}", which, thing), calls::operand_alone(which, thing).image()));
+        }
+        for other in [INT, STRING].iter() {
+            let program = calls::element_program(which, *other);
+            list.push((format!("element of operand {}, assigned {}", which, other), program.image()));
+        }
+    }
+}
+
+/// A program for each node kind, with no more around it than it needs.
+fn kind_program(kind: u32) -> Program {
+    let mut program = Program::new();
+    let (f, x) = (program.name("f"), program.name("x"));
+    program.role("f", 4, 1, 0);
+    let int = || literal(INT);
+    let statement = match kind {
+        BREAK | CONTINUE => for_loop(x, variable(f), vec![simple(kind)]),
+        PASS | CLASS => simple(kind),
+        ASSIGN | VARIABLE => assign(variable(x), int()),
+        EXPR | LITERAL => expr(int()),
+        RETURN => returned(int()),
+        IF => if_else(vec![(literal(BOOL), vec![]), (literal(BOOL), vec![])], Some(vec![simple(PASS)])),
+        WHILE => while_loop(literal(BOOL), vec![simple(PASS)]),
+        FOR => for_loop(x, list(vec![]), vec![]),
+        DEF | PARAM | BLOCK => def(f, &[x], vec![simple(PASS)]),
+        UNARY => expr(unary(1, int())),
+        BINARY => expr(binary(0, int(), int())),
+        CALL => expr(call(variable(f), vec![int()])),
+        ATTRIBUTE => expr(attribute(int())),
+        DICT => expr(dict(vec![int(), int()])),
+        INDEX => expr(index(list(vec![int()]), int())),
+        LAMBDA => expr(lambda()),
+        _ => expr(Item::new(kind, 0, vec![int(), int()])),
+    };
+    program.body = vec![statement];
+    program
+}
+
+fn word(bytes: &[u8], at: usize) -> u32 {
+    u32::from_le_bytes([bytes[at], bytes[at + 1], bytes[at + 2], bytes[at + 3]])
+}
+
+/// Each header word, and each field of each record kind, changed in all the ways that matter.
+fn damages(list: &mut List) {
+    let base = source::parse("@f takes 1\nx = f(1)\nz = x").expect("it is a program").image();
+    let around = |old: u32| {
+        // The last two have the low byte, or the low half, of the right value.
+        let mut values = vec![old.wrapping_add(1), old.wrapping_sub(1), 0, 1, u32::MAX, old ^ 0x100, old ^ 0x1_0000];
+        values.retain(|value| *value != old);
+        values.sort_unstable();
+        values.dedup();
+        values
+    };
+    let with = |bytes: &[u8], at: usize, value: u32| {
+        let mut changed = bytes.to_vec();
+        changed[at..at + 4].copy_from_slice(&value.to_le_bytes());
+        changed
+    };
+    for field in 0..8 {
+        for value in around(word(&base, 4 * field)) {
+            list.push((format!("header word {} is {}", field, value), with(&base, 4 * field, value)));
+        }
+    }
+    let names = word(&base, 4) as usize;
+    for name in 0..names {
+        for field in 0..5 {
+            let at = 32 + 20 * name + 4 * field;
+            for value in around(word(&base, at)) {
+                let image = with(&base, at, value);
+                list.push((format!("field {} of name {} is {}", field, name, value), image));
+            }
+        }
+    }
+    for kind in (BREAK..=PARAM).chain(LITERAL..=LAMBDA) {
+        let good = kind_program(kind).image();
+        let nodes_at = word(&good, 16) as usize;
+        let records = good[nodes_at..word(&good, 24) as usize].chunks(24);
+        let node = records.clone().position(|record| word(record, 0) == kind).expect("the kind is there");
+        // A Block of its own, not the module's.
+        let node = if kind == BLOCK { records.clone().count() - 2 } else { node };
+        for field in 0..6 {
+            let at = nodes_at + 24 * node + 4 * field;
+            let values = match field {
+                // Any word does for a span.
+                4 | 5 => vec![0, 1, u32::MAX],
+                // Beside the neighbours, numbers that are no kind.
+                0 => [&around(kind)[..], &[14, 19, 33]].concat(),
+                _ => around(word(&good, at)),
+            };
+            for value in values {
+                let image = with(&good, at, value);
+                list.push((format!("field {} of a node of kind {} is {}", field, kind, value), image));
+            }
+        }
+    }
+    // Two things wrong: which comes first.
+    for (what, first, second) in [
+        ("a later 4 before a 5", 32 + 20, 32 + 8),
+        ("a 6 before a 7", 92 + 24 * 2 + 12, 92 + 24 * 5),
+        ("the lower of two 6", 92 + 24 * 4 + 8, 92 + 24 * 6 + 8),
+        ("a 4 before a 6", 92 + 24 * 3, 32 + 40),
+        ("a 2 before a 3", 4, 28),
+        ("a 3 before a 4", 24, 32 + 12),
+    ]
+    .iter()
+    {
+        let once = with(&base, *first, u32::MAX);
+        list.push((what.to_string(), with(&once, *second, 99)));
+    }
+    let mut order = orders();
+    list.append(&mut order);
+    for length in (0..base.len()).step_by(9) {
+        list.push((format!("cut to {} bytes", length), base[..length].to_vec()));
+    }
+    for more in [1, 4, 24].iter() {
+        list.push((format!("{} bytes more", more), [&base[..], &vec![0; *more][..]].concat()));
+    }
+    let texts_at = word(&base, 24) as usize;
+    for byte in [0, 10, 31, 32, 33, 34, 126, 127, 128, 255].iter() {
+        let mut changed = base.clone();
+        changed[texts_at + 2] = *byte;
+        list.push((format!("byte {} in a name", byte), changed));
+    }
+    let mut random = crate::random::Random::new(7);
+    for number in 0..24 {
+        list.push((format!("damage {}", number), damage::damaged(&base, number, &mut random)));
+    }
+}
+
+/// Images in which several refusals meet, and shapes of trees that have no business.
+fn orders() -> List {
+    let mut list = List::new();
+    let mut add = |what: &str, names: &[u32], nodes: &[[u32; 6]], texts: &[u8]| {
+        list.push((what.to_string(), lay_out(names, &nodes.concat(), texts)));
+    };
+    let root = |children: u32, end: u32| [BLOCK, 0, children, end, 0, 0];
+    let lambda = |end: u32| [LAMBDA, 0, 0, end, 0, 0];
+    add("5 of name 0 and 4 of name 1", &[0, 3, 3, 0, 0, 3, 1, 9, 0, 0], &[root(0, 1)], b"intx");
+    add("5 of name 0 and texts that stop short", &[0, 3, 3, 0, 0], &[root(0, 1)], b"intx");
+    add("5 of names 0 and 1", &[0, 3, 3, 0, 0, 3, 3, 3, 0, 0], &[root(0, 1)], b"intlen");
+    add("5 and 6", &[0, 3, 3, 0, 0], &[[99, 0, 0, 1, 0, 0]], b"int");
+    add("no names and text", &[], &[root(0, 1)], b"x");
+    add("two names and more text", &[0, 1, 0, 0, 0, 1, 1, 0, 0, 0], &[root(0, 1)], b"xyz");
+    add("a text past the area", &[0, 1, 0, 0, 0, 1, 2, 0, 0, 0], &[root(0, 1)], b"xy");
+    add("equal neighbours", &[0, 1, 0, 0, 0, 1, 1, 0, 0, 0], &[root(0, 1)], b"xx");
+    add("descending neighbours", &[0, 1, 0, 0, 0, 1, 1, 0, 0, 0], &[root(0, 1)], b"yx");
+    add("a long name before a short one", &[0, 2, 0, 0, 0, 2, 1, 0, 0, 0], &[root(0, 1)], b"aab");
+    add("a short name before a long one", &[0, 1, 0, 0, 0, 1, 2, 0, 0, 0], &[root(0, 1)], b"aab");
+    add("an empty name", &[0, 0, 0, 0, 0], &[root(0, 1)], b"");
+    add("an empty name before another", &[0, 0, 0, 0, 0, 0, 1, 0, 0, 0], &[root(0, 1)], b"x");
+    add("text starts that overlap", &[0, 2, 0, 0, 0, 1, 2, 0, 0, 0], &[root(0, 1)], b"xyz");
+    add("text starts in the image", &[76, 1, 0, 0, 0], &[root(0, 1)], b"x");
+    add("a space in a name", &[0, 3, 0, 0, 0], &[root(0, 1)], b"a b");
+    add("a name that is a space", &[0, 1, 0, 0, 0], &[root(0, 1)], b" ");
+    add("byte 127 in a name", &[0, 2, 0, 0, 0], &[root(0, 1)], b"a\x7f");
+    add("byte 128 in a name", &[0, 2, 0, 0, 0], &[root(0, 1)], b"a\x80");
+    add("bytes 33 and 126 in a name", &[0, 2, 0, 0, 0], &[root(0, 1)], b"!~");
+    add("node 0 is a Pass", &[], &[[PASS, 0, 0, 1, 0, 0]], b"");
+    add("node 0 is a Pass with a wrong child", &[], &[[PASS, 0, 0, 2, 0, 0], [PASS, 0, 0, 2, 0, 0]], b"");
+    add("node 0 ends before M", &[], &[root(0, 1), [PASS, 0, 0, 2, 0, 0]], b"");
+    add("node 0 has a child too few", &[], &[root(0, 2), [PASS, 0, 0, 2, 0, 0]], b"");
+    add("node 0 has a child too many", &[], &[root(2, 2), [PASS, 0, 0, 2, 0, 0]], b"");
+    add("a child count far above", &[], &[root(u32::MAX, 2), [PASS, 0, 0, 2, 0, 0]], b"");
+    add("a leaf that ends late", &[], &[root(1, 3), [PASS, 0, 0, 3, 0, 0], [PASS, 0, 0, 3, 0, 0]], b"");
+    add("a leaf that ends past M", &[], &[root(1, 2), [PASS, 0, 0, 3, 0, 0]], b"");
+    add("a leaf that ends at itself", &[], &[root(1, 2), [PASS, 0, 0, 1, 0, 0]], b"");
+    add("a Block in a Block", &[], &[root(1, 2), root(0, 2)], b"");
+    add(
+        "a Block in a Def's Block",
+        &[0, 1, 0, 0, 0],
+        &[root(1, 4), [DEF, 0, 1, 4, 0, 0], root(1, 4), root(0, 4)],
+        b"x",
+    );
+    add("node 0 ends before an Expr", &[], &[root(1, 2), [PASS, 0, 0, 2, 0, 0], [EXPR, 0, 1, 4, 0, 0], lambda(4)], b"");
+    add("an expression in a Block", &[], &[root(1, 2), [LAMBDA, 0, 0, 2, 0, 0]], b"");
+    add("a Param in a Block", &[0, 1, 0, 0, 0], &[root(1, 2), [PARAM, 0, 0, 2, 0, 0]], b"x");
+    add("a statement in an Expr", &[], &[root(1, 3), [EXPR, 0, 1, 3, 0, 0], [PASS, 0, 0, 3, 0, 0]], b"");
+    add("a Block in an Expr", &[], &[root(1, 3), [EXPR, 0, 1, 3, 0, 0], root(0, 3)], b"");
+    add("an If whose body is an expression", &[], &[root(1, 4), [IF, 0, 2, 4, 0, 0], lambda(3), lambda(4)], b"");
+    add(
+        "an If whose else is an expression",
+        &[],
+        &[root(1, 5), [IF, 0, 3, 5, 0, 0], lambda(3), root(0, 4), lambda(5)],
+        b"",
+    );
+    let conditions = [root(1, 6), [IF, 0, 4, 6, 0, 0], lambda(3), root(0, 4), root(0, 5), root(0, 6)];
+    add("an If whose elif condition is a Block", &[], &conditions, b"");
+    add("an If whose condition is a Block", &[], &[root(1, 4), [IF, 0, 2, 4, 0, 0], root(0, 3), root(0, 4)], b"");
+    add("a While whose body is an expression", &[], &[root(1, 4), [WHILE, 0, 2, 4, 0, 0], lambda(3), lambda(4)], b"");
+    add(
+        "a For whose iterable is a Block",
+        &[0, 1, 0, 0, 0],
+        &[root(1, 4), [FOR, 0, 2, 4, 0, 0], root(0, 3), root(0, 4)],
+        b"x",
+    );
+    let def_shapes = [root(1, 4), [DEF, 0, 2, 4, 0, 0], root(0, 3), [PARAM, 0, 0, 4, 0, 0]];
+    add("a Def whose Block comes first", &[0, 1, 0, 0, 0], &def_shapes, b"x");
+    add("a Def of two Blocks", &[0, 1, 0, 0, 0], &[root(1, 4), [DEF, 0, 2, 4, 0, 0], root(0, 3), root(0, 4)], b"x");
+    add(
+        "a Def with an expression for a Param",
+        &[0, 1, 0, 0, 0],
+        &[root(1, 4), [DEF, 0, 2, 4, 0, 0], lambda(3), root(0, 4)],
+        b"x",
+    );
+    add("a Def whose name is N", &[0, 1, 0, 0, 0], &[root(1, 3), [DEF, 1, 1, 3, 0, 0], root(0, 3)], b"x");
+    let overlap = [root(1, 5), [BINARY, 0, 2, 5, 0, 0], [UNARY, 0, 1, 5, 0, 0], lambda(4), lambda(5)];
+    add("a Binary in a Block with children that overlap", &[], &overlap, b"");
+    let late = [root(1, 5), [EXPR, 0, 1, 5, 0, 0], [BINARY, 0, 2, 5, 0, 0], [UNARY, 1, 1, 5, 0, 0], lambda(5)];
+    add("a Binary whose second child is its first's", &[], &late, b"");
+    let past = [root(2, 5), [EXPR, 0, 1, 4, 0, 0], [UNARY, 1, 1, 5, 0, 0], lambda(4), [PASS, 0, 0, 5, 0, 0]];
+    add("a child that ends behind its parent", &[], &past, b"");
+    let six_seven = [root(2, 3), [EXPR, 0, 1, 2, 0, 0], [PASS, 1, 0, 3, 0, 0]];
+    add("a 7 at node 1 and a 6 at node 2", &[], &six_seven, b"");
+    let two_six = [root(2, 3), [PASS, 1, 0, 2, 0, 0], [PASS, 2, 0, 3, 0, 0]];
+    add("6 at nodes 1 and 2", &[], &two_six, b"");
+
+    // 7 behind 8: depth 65 at a low node, and a fault of nesting at a higher one.
+    let mut deep: Vec<[u32; 6]> = vec![root(2, 67), [EXPR, 0, 1, 66, 0, 0]];
+    deep.extend((2..65).map(|_| [LIST, 0, 1, 66, 0, 0]));
+    deep.push(lambda(66));
+    deep.push(lambda(67));
+    add("8 at node 65 and 7 at node 0", &[], &deep, b"");
+    let mut deep: Vec<[u32; 6]> = vec![root(2, 69), [EXPR, 0, 1, 66, 0, 0]];
+    deep.extend((2..65).map(|_| [LIST, 0, 1, 66, 0, 0]));
+    deep.extend([lambda(66), [EXPR, 0, 1, 69, 0, 0], lambda(68), lambda(69)].iter());
+    add("8 at node 65 and 7 at node 66", &[], &deep, b"");
+    list
+}
+
+/// Accepted programs and refusals whose sheets and messages lie on both sides of the tight rooms.
+pub fn tight_list() -> List {
+    let mut texts: Vec<String> = [
+        "",
+        "x = 1",
+        "p = (1, [2.0])\nq = [2.0]",
+        "p = (1, [2.0])\nqq = [2.0]",
+        "p = (1, [2.0])\nq = [2.0]\nr = 1",
+        "a = 1\nb = 2\nc = 3\nd = 4",
+        "abcdef = 1\nb = 2\nc = 3\nd = 4",
+        "abcdefg = 1\nb = 2\nc = 3\nd = 4",
+        "abcdefgh = 1\nb = 2\nc = 3\nd = 4",
+        "x = 1\nx = \"a\"",
+        "x = 1\nx = None",
+        "x = 1\nx = True",
+        "x = 1\nx = 1.0",
+        "x = \"a\"\nx = 1",
+        "x = [1]\nx = 1",
+        "break",
+        "if 1: pass",
+        "-[[1]]",
+        "len()",
+        "def a():\n  def b():\n    def c():\n      def d():\n        def e():\n          def f():\n            def g():\n              def h(): pass",
+    ]
+    .iter()
+    .map(|text| text.to_string())
+    .collect();
+    // 23's message is 61 bytes and the name.
+    for length in 5..12 {
+        let name = "n".repeat(length);
+        texts.push(format!("if True: {} = 1\nelse: {} = \"a\"", name, name));
+    }
+    texts.into_iter().map(|text| (text.clone(), source::parse(&text).expect("it is a program").image())).collect()
+}
+
+/// Writes the two lists, T's answers to them and notes of what each image is about and who judged it.
+pub fn write(seed: u64, folder: &Path) -> Result<String, String> {
+    let mut report = String::new();
+    for (name, list, rooms) in [("", stored_list(seed), Rooms::default()), ("tight-", tight_list(), TIGHT)].iter() {
+        let mut images: Vec<u8> = Vec::new();
+        let mut answers: Vec<u8> = Vec::new();
+        let mut notes = String::new();
+        let mut too_large = 0;
+        let mut codes: std::collections::BTreeMap<u32, usize> = std::collections::BTreeMap::new();
+        for (number, (what, image)) in list.iter().enumerate() {
+            let judged = judge::judge(image, *rooms);
+            batch::write(&mut images, image).map_err(|e| e.to_string())?;
+            answers.extend(judged.answer.line());
+            answers.push(b'\n');
+            if judged.engine == Engine::TooLarge {
+                too_large += 1;
+            }
+            *codes.entry(judged.answer.code).or_insert(0) += 1;
+            notes.push_str(&format!("{}\t{}\t{}\n", number, judged.engine.name(), what.replace('\n', "; ")));
+        }
+        let put = |file: &str, bytes: &[u8]| {
+            let path = folder.join(format!("{}{}", name, file));
+            fs::write(&path, bytes).map_err(|e| format!("{}: {}", path.display(), e))
+        };
+        put("images.batch", &images)?;
+        put("answers.txt", &answers)?;
+        put("notes.txt", notes.as_bytes())?;
+        report.push_str(&format!(
+            "{}images.batch: {} images, {} bytes; answers {} bytes; notes {} bytes; {} too large for T; rooms {} and {}\n  codes: {}\n",
+            name,
+            list.len(),
+            images.len(),
+            answers.len(),
+            notes.len(),
+            too_large,
+            rooms.sheet,
+            rooms.message,
+            codes.iter().map(|(code, count)| format!("{}:{}", code, count)).collect::<Vec<String>>().join(" ")
+        ));
+    }
+    Ok(report)
+}

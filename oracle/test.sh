@@ -1,0 +1,194 @@
+#!/bin/sh
+# Builds the oracle and tests it. T's sources come from PYHYEON_SRC, or from build.rs's default.
+# Every step names what it expects; the first that fails ends the script.
+set -eu
+cd "$(dirname "$0")"
+scratch=$(mktemp -d)
+trap 'rm -rf "$scratch"' EXIT
+
+say() { printf '%s\n' "-- $*"; }
+fail() { printf '%s\n' "FAILED: $*" >&2; exit 1; }
+
+# The seed of the stored list.
+seed=1125
+
+say "it builds"
+cargo build --release --quiet
+oracle=target/release/oracle
+
+say "an altered T fails the build"
+source=${PYHYEON_SRC:-../../shared/docs/src}
+for path in semantic/typecheck.rs parser/ast.rs vm/type_def.rs builtins.rs; do
+    rm -rf "$scratch/altered"
+    mkdir -p "$scratch/altered/src/semantic" "$scratch/altered/src/parser" "$scratch/altered/src/vm"
+    for file in semantic/typecheck.rs parser/ast.rs vm/type_def.rs builtins.rs; do
+        cat "$source/src/$file" > "$scratch/altered/src/$file"
+    done
+    printf '\n' >> "$scratch/altered/src/$path"
+    if PYHYEON_SRC="$scratch/altered" CARGO_TARGET_DIR="$scratch/target" cargo build --release --quiet 2> "$scratch/build.txt"; then
+        fail "it builds with another $path"
+    fi
+    grep -q "is not the text this oracle was written for" "$scratch/build.txt" || fail "the build fails for another reason: $path"
+done
+
+say "an edit that does not change exactly its line fails the build"
+# what is altered in build.rs, and how the build then fails
+while IFS='|' read -r alteration why; do
+    rm -rf "$scratch/oracle"
+    mkdir "$scratch/oracle"
+    cp -r Cargo.toml Cargo.lock src "$scratch/oracle"
+    sed "$alteration" build.rs > "$scratch/oracle/build.rs"
+    if cmp -s build.rs "$scratch/oracle/build.rs"; then fail "nothing altered by $alteration"; fi
+    if PYHYEON_SRC="$(cd "$source" && pwd)" CARGO_TARGET_DIR="$scratch/target" \
+        cargo build --release --quiet --manifest-path "$scratch/oracle/Cargo.toml" 2> "$scratch/build.txt"; then
+        fail "it builds with $alteration"
+    fi
+    grep -q "$why" "$scratch/build.txt" || { cat "$scratch/build.txt"; fail "the build fails for another reason: $alteration"; }
+done <<'ALTERATIONS'
+s/line: 269/line: 270/|the edit meant for line 270 fits at line 269
+s/for var in all_assigned {/for war in all_assigned {/|fits 0 places, not 1
+s/old: "            tenv.push();.n"/old: "            Ok(())\\n"/|places, not 1
+s/new: "            for var in super::in_byte_order(all_assigned) {/new: "\\n            for var in super::in_byte_order(all_assigned) {/|the edit meant for line 197 fits at line 198
+s/new: "            for var in super::in_byte_order(all_assigned) {/new: "            for var in all_assigned {/|the edits changed lines
+ALTERATIONS
+
+say "the runs of document 01"
+# Parted by lines of three dashes, in document 01's order; then its printed example.
+cat > "$scratch/runs.txt" <<'RUNS'
+---
+x = 1
+---
+x = 1
+x = "a"
+---
+if u: pass
+---
+if not u: pass
+---
+break
+---
+if True: break
+---
+for i in [1]: 1 + "a"
+---
+while True: 1 + "a"
+---
+d = {1: 1, "a": 1, "b": 1}
+---
+x = 1
+if True:
+  def f(x):
+    x = "s"
+    1 + "a"
+---
+p = (1, [2.0])
+q = [2.0]
+---
+1 + "a"
+RUNS
+cat > "$scratch/wanted.txt" <<'WANTED'
+accepted 0 0 40
+accepted 1 0 53
+refused 25 5 6 7 TypeError: cannot assign value of type String to variable of type Int
+refused 36 2 3 4 TypeError: condition must be Bool
+accepted 0 0 40
+refused 20 1 0 5 SyntaxError: 'break' outside loop
+accepted 0 0 40
+refused 29 6 14 21 TypeError: unsupported operand types for +: Int and String
+accepted 0 0 40
+accepted 1 1 65
+accepted 1 0 53
+accepted 2 2 98
+refused 29 2 0 7 TypeError: unsupported operand types for +: Int and String
+WANTED
+$oracle encode < "$scratch/runs.txt" > "$scratch/runs.batch"
+$oracle judge < "$scratch/runs.batch" | sed 's/ #[0-9a-f]*$//' | cmp - "$scratch/wanted.txt" || fail "the runs end otherwise"
+# Run 2 and run 12, word by word.
+words() { $oracle judge --full < "$scratch/runs.batch" | sed -n "$1p" | cut -f5; }
+[ "$(words 2)" = "0100000000000000280000000000000028000000010000002800000001000000340000003500000000000000010000000100000078" ] || fail "run 2's sheet"
+[ "$(words 12)" = "010000000200000028000000020000004000000002000000480000000200000060000000620000000800000004000000000000000a000000000000000200000001000000080000000000000001000000090000000100000001000000080000007071" ] || fail "run 12's sheet"
+
+say "images shown as text and read again are judged the same, spans apart"
+for family in well small stray dropped calls types; do
+    $oracle generate --seed 3 --family $family --count 200 > "$scratch/programs.batch"
+    $oracle show --source < "$scratch/programs.batch" | $oracle encode > "$scratch/again.batch"
+    for list in programs again; do
+        $oracle judge < "$scratch/$list.batch" | sed 's/^\(refused [0-9]* [0-9]*\) [0-9]* [0-9]* /\1 /' > "$scratch/$list.txt"
+    done
+    cmp "$scratch/programs.txt" "$scratch/again.txt" || fail "text of $family"
+done
+
+say "the reference agrees with T"
+$oracle check-reference --seed 2 --count 300 > "$scratch/check.txt" || { cat "$scratch/check.txt"; fail "the reference differs from T"; }
+tail -2 "$scratch/check.txt"
+$oracle exhaust --nodes 4 > "$scratch/exhaust.txt" || { cat "$scratch/exhaust.txt"; fail "the reference differs from T"; }
+tail -1 "$scratch/exhaust.txt"
+
+say "the stored list is what its seed makes"
+$oracle store --seed $seed --out "$scratch"
+for file in images.batch answers.txt notes.txt tight-images.batch tight-answers.txt tight-notes.txt; do
+    cmp "$scratch/$file" "stored/$file" || fail "stored/$file is not what seed $seed makes"
+done
+[ "$(cat stored/* | wc -c)" -lt 3000000 ] || fail "the stored lists are 3 MB or more"
+
+say "the stored answers are T's, and the reference's"
+$oracle judge --rules < stored/images.batch | cmp - stored/answers.txt || fail "T answers otherwise"
+$oracle reference < stored/images.batch | cmp - stored/answers.txt || fail "the reference answers otherwise"
+for who in "judge --rules" reference; do
+    $oracle $who --sheet-room 98 --message-room 69 < stored/tight-images.batch | cmp - stored/tight-answers.txt || fail "$who, tight rooms"
+done
+for code in 0 1 2 3 4 5 6 7 8 9 $(seq 20 50); do
+    if [ "$code" = 0 ]; then form="^accepted "; else form="^refused $code "; fi
+    grep -q "$form" stored/answers.txt || fail "no stored image has code $code"
+done
+grep -q "^refused 10 " stored/tight-answers.txt || fail "no stored image has code 10"
+
+say "every mistake is told"
+$oracle mistakes --tight stored/tight-images.batch < stored/images.batch > "$scratch/mistakes.txt" || { grep SURVIVES "$scratch/mistakes.txt"; fail "a mistake survives"; }
+tail -1 "$scratch/mistakes.txt"
+# With no images nothing is told: the suite can fail.
+if $oracle mistakes --tight /dev/null < /dev/null > "$scratch/none.txt"; then fail "no images tell every mistake"; fi
+grep -q "$(tail -1 "$scratch/mistakes.txt" | cut -d' ' -f1) mistakes, $(tail -1 "$scratch/mistakes.txt" | cut -d' ' -f1) survive" "$scratch/none.txt" || fail "no images tell a mistake"
+
+say "compare finds nothing where there is nothing"
+$oracle compare $oracle reference < stored/images.batch > "$scratch/compare.txt" || { cat "$scratch/compare.txt"; fail "the reference compares otherwise"; }
+
+say "compare finds and shrinks planted mistakes"
+# name, and how many bytes the smallest form may have
+while read -r name most; do
+    if $oracle compare --show 1 $oracle mistaken "$name" < stored/images.batch > "$scratch/compare.txt"; then fail "$name is not found"; fi
+    size=$(sed -n 's/^  smallest form (\([0-9]*\) bytes).*/\1/p' "$scratch/compare.txt")
+    [ -n "$size" ] && [ "$size" -le "$most" ] || { cat "$scratch/compare.txt"; fail "$name has a smallest form of $size bytes, not $most"; }
+    printf '%s: %s bytes\n' "$name" "$size"
+done <<'PLANTED'
+pop-failed-def 293
+if-error-returned 152
+version-unread 56
+five-before-four 140
+ninth-allowed 461
+types-as-formed 300
+PLANTED
+
+say "compare tells a program that ends without a line"
+head -c 20000 stored/tight-images.batch > "$scratch/few.batch"
+if $oracle compare --show 0 true < "$scratch/few.batch" > "$scratch/compare.txt"; then fail "a silent program passes"; fi
+grep -q "^27 images, 27 differ" "$scratch/compare.txt" || fail "a silent program passes in part"
+
+say "compare takes a program that judges one image at a time"
+cat > "$scratch/one.sh" <<'ONE'
+#!/bin/sh
+# An image on standard input, document 01's line on standard output.
+image=$(mktemp)
+cat > "$image"
+size=$(wc -c < "$image")
+{ printf "$(printf '\\%03o\\%03o\\%03o\\%03o' $((size % 256)) $((size / 256 % 256)) $((size / 65536 % 256)) $((size / 16777216)))"; cat "$image"; } |
+    "$ORACLE" reference | sed 's/ #[0-9a-f]*$//'
+rm -f "$image"
+ONE
+ORACLE="$(pwd)/$oracle" $oracle compare --single sh "$scratch/one.sh" < "$scratch/runs.batch" > "$scratch/compare.txt" || { cat "$scratch/compare.txt"; fail "one image at a time"; }
+
+say "T as is says different things where the order of a merge shows"
+printf 'if True:\n  if True:\n    a = 1\n    b = 1\n  else:\n    b = "s"\na - 1\na + "s"\n' | $oracle encode > "$scratch/order.batch"
+[ "$($oracle hash-order --runs 400 < "$scratch/order.batch" | wc -l)" -eq 3 ] || fail "T as is always says the same"
+
+say "all is well"
