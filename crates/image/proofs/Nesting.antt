@@ -1,0 +1,74 @@
+-- What one node that stands gives, and a turn of the walk over its children. Assumes nothing.
+use mathlib.Core.Path.{_≡_, refl, sym, ap, _∙_}
+use mathlib.Core.Bool.{Bool, true, false, not}
+use mathlib.Core.Option.{none}
+use mathlib.Core.List.{List}
+use Prim.Native.Nat.{ℕ, zero, suc, _+_, _-_, _<_, _≤_}
+use native.Mathlib.Nat.{zero-add}
+use native.Mathlib.Numerals.{sub-one}
+use native.Mathlib.Omega.{arith}
+use lib.Dec.{eqb}
+use lib.ListN.{length}
+use borrow.Author.Tests.{lt-ltb, le-ltb, ltb-true, leb-true}
+use Rattle.meaning.specs.Base.{_and_, _or_}
+use Rattle.meaning.specs.Image.{Node, nameCount, nodeCount, nodesOf, nodeOf, isStatement, isSpanless, isExpression, argBelow, countStands, nodeStands, belongs, lands, brokenNode}
+use Rattle.meaning.proofs.Choices.{and-left, and-right, none-failing}
+use Rattle.image.proofs.Records.{nodes-many}
+
+-- ---- node i of M, with N names, shows nothing wrong
+
+pub record Stands (N M i : ℕ) (d : Node) : Type 0 where
+  pub known : (isStatement (d .kind) or isSpanless (d .kind) or isExpression (d .kind)) ≡ true
+  pub arg : d .arg < argBelow N (d .kind)
+  pub count : countStands (d .kind) (d .children) ≡ true
+  pub span : (not (isSpanless (d .kind)) or eqb (d .spanStart) 0 and eqb (d .spanEnd) 0) ≡ true
+  pub above : i < d .stop
+  pub within : d .stop ≤ M
+
+pub stands : {N M i : ℕ} {d : Node} → nodeStands N M i d ≡ true → Stands N M i d
+unfolding nodeStands
+stands e =
+    let a = and-left _ _ e in
+    let b = and-left _ _ a in
+    let c = and-left _ _ b in
+    let f = and-left _ _ c in
+    record {
+      known = and-left _ _ f;
+      arg = ltb-true _ _ (and-right _ _ f);
+      count = and-right _ _ c;
+      span = and-right _ _ b;
+      above = ltb-true _ _ (and-right _ _ a);
+      within = leb-true _ _ (and-right _ _ e);
+    }
+
+abbrev pub noNode : Node
+noNode = record { kind = 0; arg = 0; children = 0; stop = 0; spanStart = 0; spanEnd = 0 }
+
+pub node-stands : (bs : List ℕ) → brokenNode bs ≡ none → (i : ℕ) → i < nodeCount bs → Stands (nameCount bs) (nodeCount bs) i (nodeOf (nodesOf bs) i)
+unfolding brokenNode nodeOf
+node-stands bs e i h =
+    stands (rw zero-add at (none-failing (nodeStands (nameCount bs) (nodeCount bs)) 0 (nodesOf bs) noNode e i (rw nodes-many h)))
+
+-- ---- the children of d of which `left` start at i
+
+module _ (ds : List Node) (d : Node) (i : ℕ) where
+  pub lands-end : (left : ℕ) → left ≤ 0 → lands ds d i left ≡ eqb i (d .stop)
+  unfolding lands
+  lands-end zero h = refl
+  lands-end (suc left) h = absurd (omega arith)
+
+  pub lands-past : (left : ℕ) → 0 < left → d .stop ≤ i → lands ds d i left ≡ false
+  unfolding lands _and_
+  lands-past zero h u = absurd (omega arith)
+  lands-past (suc left) h u = rw (le-ltb i (d .stop) u)
+
+  pub lands-wrong : (left : ℕ) → 0 < left → i < d .stop → belongs (d .kind) (d .children) (d .children - left) (nodeOf ds i .kind) ≡ false → lands ds d i left ≡ false
+  unfolding lands _and_
+  lands-wrong zero h u e = absurd (omega arith)
+  lands-wrong (suc left) h u e = rw (lt-ltb i (d .stop) u, e)
+
+  pub lands-next : (left : ℕ) → 0 < left → i < d .stop → belongs (d .kind) (d .children) (d .children - left) (nodeOf ds i .kind) ≡ true
+      → lands ds d i left ≡ lands ds d (nodeOf ds i .stop) (left - 1)
+  unfolding lands _and_
+  lands-next zero h u e = absurd (omega arith)
+  lands-next (suc left) h u e = rw (lt-ltb i (d .stop) u, e, sub-one)

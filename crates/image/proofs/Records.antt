@@ -1,0 +1,137 @@
+-- Where a record's words stand in the image. Assumes nothing.
+use mathlib.Core.Path.{_≡_, refl, sym, ap, _∙_}
+use mathlib.Core.Bool.{true}
+use mathlib.Core.Option.{none}
+use mathlib.Core.List.{List, [], _∷_, map}
+use Prim.Native.Nat.{ℕ, zero, suc, _+_, _-_, _*_, _<_, _≤_}
+use native.Mathlib.Nat.{add-zero, add-assoc, add-comm, mul-zero, mul-suc, not-suc-le-zero, le-of-suc-le-suc}
+use native.Mathlib.Omega.{arith}
+use lib.ListN.{length, getD, take, drop, List·getD-map, length-map, length-drop}
+use lib.Seq.{drop-drop, getD-drop, take-all}
+use borrow.Author.Tests.{leb-true}
+use Rattle.meaning.specs.Base.{_and_, choose, if_then_else_, word, records}
+use Rattle.meaning.specs.Image.{NameRecord, nameRecord, nameRecords, textsOf, nameFrom, roleOf, namesOf, nameOf, node, nodesOf, nodeOf, nameCount, nodeCount, textCount, namesFrom, nodesFrom, textsFrom, total, headStands, brokenName}
+use Rattle.meaning.specs.Image.{Node as ImageNode, Name}
+use Rattle.meaning.proofs.Choices.{and-left, records-many}
+use Rattle.meaning.proofs.Faults.{Headed, sizes}
+use Rattle.image.specs.declared.NameAt.{NameAt}
+use Rattle.image.specs.Parts.{recordOf, nameMeans}
+use Rattle.image.proofs.Searches.{names-fit}
+
+-- record i of those that stand one after the other from a place on
+pub record-at : {A : Type 0} (read : List ℕ → A) (size n from : ℕ) (bs : List ℕ) (i : ℕ) (d : A) → i < n
+    → getD (records read size n (drop from bs)) i d ≡ read (drop (from + size * i) bs)
+unfolding records
+record-at read size zero from bs i d h = absurd (not-suc-le-zero h)
+record-at read size (suc n) from bs zero d h = rw (mul-zero, add-zero)
+record-at read size (suc n) from bs (suc i) d h =
+    let further : from + size * suc i ≡ from + size + size * i = omega (arith, mul-suc size i) in
+    rw (further, drop-drop) (record-at read size n (from + size) bs i d (le-of-suc-le-suc h))
+
+-- a word of what is left from a place on
+word-drop : (bs : List ℕ) (at k : ℕ) → word (drop at bs) k ≡ word bs (at + k)
+word-drop bs at k = simp (getD-drop, add-assoc)
+
+first-word : (bs : List ℕ) (at : ℕ) → word (drop at bs) 0 ≡ word bs at
+first-word bs at = simp (getD-drop, add-zero)
+
+-- ---- nodes
+
+pub node-words : (bs : List ℕ) (at : ℕ) → node (drop at bs) ≡ record {
+  kind = word bs at;
+  arg = word bs (at + 4);
+  children = word bs (at + 8);
+  stop = word bs (at + 12);
+  spanStart = word bs (at + 16);
+  spanEnd = word bs (at + 20);
+}
+unfolding node
+node-words bs at =
+    rw (first-word bs at, word-drop bs at 4, word-drop bs at 8, word-drop bs at 12, word-drop bs at 16, word-drop bs at 20)
+
+pub node-at : (bs : List ℕ) (i : ℕ) → i < nodeCount bs → nodeOf (nodesOf bs) i ≡ node (drop (nodesFrom bs + 24 * i) bs)
+unfolding nodeOf nodesOf
+node-at bs i h = record-at node 24 (nodeCount bs) (nodesFrom bs) bs i _ h
+
+pub nodes-many : (bs : List ℕ) → length (nodesOf bs) ≡ nodeCount bs
+unfolding nodesOf
+nodes-many bs = records-many node 24 (nodeCount bs) (drop (nodesFrom bs) bs)
+
+-- ---- names
+
+pub records-count : (bs : List ℕ) → length (nameRecords bs) ≡ nameCount bs
+unfolding nameRecords
+records-count bs = records-many nameRecord 20 (nameCount bs) (drop namesFrom bs)
+
+pub name-words : (bs : List ℕ) (at : ℕ) → nameRecord (drop at bs) ≡ record {
+  start = word bs at;
+  size = word bs (at + 4);
+  role = word bs (at + 8);
+  p = word bs (at + 12);
+  q = word bs (at + 16);
+}
+unfolding nameRecord
+name-words bs at =
+    rw (first-word bs at, word-drop bs at 4, word-drop bs at 8, word-drop bs at 12, word-drop bs at 16)
+
+pub record-of : (bs : List ℕ) (k : ℕ) → k < nameCount bs → recordOf (nameRecords bs) k ≡ nameRecord (drop (32 + 20 * k) bs)
+unfolding recordOf nameRecords
+record-of bs k h = record-at nameRecord 20 (nameCount bs) namesFrom bs k _ h
+
+-- a name is what its record says, whatever its number
+pub name-of : (bs : List ℕ) (k : ℕ) → nameOf (namesOf bs) k ≡ nameFrom (textsOf bs) (recordOf (nameRecords bs) k)
+unfolding nameOf namesOf recordOf nameFrom roleOf choose if_then_else_
+name-of bs k = List·getD-map (nameFrom (textsOf bs)) (nameRecords bs) k _
+
+pub names-many : (bs : List ℕ) → length (namesOf bs) ≡ nameCount bs
+unfolding namesOf
+names-many bs = length-map (nameRecords bs) _ ∙ records-count bs
+
+-- ---- what the header gives
+
+pub head-length : (bs : List ℕ) → headStands bs ≡ true → 32 ≤ length bs
+unfolding headStands
+head-length bs e = leb-true 32 _ (and-left _ _ e)
+
+pub head-long : {bs : List ℕ} → Headed bs → 32 ≤ length bs
+head-long {bs} h = head-length bs (h .head)
+
+pub node-inside : {bs : List ℕ} → Headed bs → (i : ℕ) → i < nodeCount bs → nodesFrom bs + 24 * i + 24 ≤ length bs
+unfolding total textsFrom
+node-inside h i l = omega (arith, sizes h)
+
+pub name-inside : {bs : List ℕ} → Headed bs → (k : ℕ) → k < nameCount bs → 32 + 20 * k + 20 ≤ length bs
+unfolding total textsFrom nodesFrom
+name-inside h k l = omega (arith, sizes h)
+
+pub text-inside : {bs : List ℕ} → Headed bs → textsFrom bs + textCount bs ≡ length bs
+unfolding total
+text-inside h = omega (arith, sizes h)
+
+-- ---- a name's text and role
+
+texts-all : {bs : List ℕ} → Headed bs → textsOf bs ≡ drop (textsFrom bs) bs
+unfolding textsOf
+texts-all {bs} h = take-all (textCount bs) _ (rw length-drop (omega (arith, text-inside h)))
+
+pub texts-count : {bs : List ℕ} → Headed bs → length (textsOf bs) ≡ textCount bs
+texts-count {bs} h = rw (texts-all h, length-drop) (omega (arith, text-inside h))
+
+module _ {bs : List ℕ} (h : Headed bs) (stand : brokenName bs ≡ none) (k : ℕ) (l : k < nameCount bs) where
+  pub text-fits : recordOf (nameRecords bs) k .start + recordOf (nameRecords bs) k .size ≤ textCount bs
+  unfolding brokenName
+  text-fits = rw (texts-count h) at (names-fit (textsOf bs) 0 0 [] (nameRecords bs) stand k (rw records-count l))
+
+pub text-of : {bs : List ℕ} → Headed bs → (k : ℕ)
+    → nameOf (namesOf bs) k .spelling
+    ≡ take (recordOf (nameRecords bs) k .size) (drop (textsFrom bs + recordOf (nameRecords bs) k .start) bs)
+unfolding nameFrom
+text-of {bs} h k = rw (name-of bs k, texts-all h, drop-drop)
+
+module _ (bs : List ℕ) (k : ℕ) {r : NameAt} (e : nameMeans r ≡ recordOf (nameRecords bs) k) where
+  pub role-of : roleOf (nameMeans r) ≡ nameOf (namesOf bs) k .role
+  unfolding nameFrom
+  role-of = rw (e, name-of bs k)
+
+  pub name-is : {t : List ℕ} → t ≡ nameOf (namesOf bs) k .spelling → _≡_ {A = Name} (record { spelling = t; role = roleOf (nameMeans r) }) (nameOf (namesOf bs) k)
+  name-is p = rw (p, role-of)

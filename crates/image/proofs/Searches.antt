@@ -1,0 +1,103 @@
+-- A turn of each search: what is left answers what all answer. Assumes nothing.
+use mathlib.Core.Path.{_≡_, refl, sym, ap, _∙_}
+use mathlib.Core.Bool.{Bool, true, false}
+use mathlib.Core.Option.{Option, none, some}
+use mathlib.Core.List.{List, [], _∷_}
+use Prim.Native.Nat.{ℕ, zero, suc, _+_, _-_, _*_, _<_, _≤_}
+use native.Mathlib.Nat.{add-sub-cancel-left, not-suc-le-zero, le-of-suc-le-suc}
+use native.Mathlib.Numerals.{add-one}
+use native.Mathlib.Omega.{arith}
+use lib.Dec.{eqb, leb}
+use lib.ListN.{length, getD, take, drop, length-take, length-drop, drop-of-length-le}
+use lib.Seq.{drop-cons}
+use borrow.Author.Tests.{eq-eqb, ne-eqb, le-leb, lt-leb, eqb-true, leb-true}
+use Rattle.meaning.specs.Base.{_and_, if_then_else_, all}
+use Rattle.meaning.specs.Image.{NameRecord, firstNot, wrongName, printable, textStands, roleStands}
+use Rattle.meaning.proofs.Choices.{and-left, and-right, if-none}
+use Rattle.image.specs.Parts.{noRecord, recordOf, nameStands}
+
+-- ---- a test of each element
+
+module _ (f : ℕ → Bool) (s : List ℕ) (i : ℕ) where
+  pub all-end : length s ≤ i → all f (drop i s) ≡ true
+  unfolding all
+  all-end h = rw (drop-of-length-le s h)
+
+  pub all-fails : i < length s → f (getD s i 0) ≡ false → all f (drop i s) ≡ false
+  unfolding all _and_
+  all-fails h e = rw (drop-cons s i 0 h, e)
+
+  pub all-next : i < length s → f (getD s i 0) ≡ true → all f (drop i s) ≡ all f (drop (i + 1) s)
+  unfolding all _and_
+  all-next h e = rw (drop-cons s i 0 h, e, add-one)
+
+-- ---- the first that fails a test
+
+module _ {A : Type 0} (f : ℕ → A → Bool) (xs : List A) (i : ℕ) where
+  pub first-end : length xs ≤ i → firstNot f i (drop i xs) ≡ none
+  unfolding firstNot
+  first-end h = rw (drop-of-length-le xs h)
+
+  pub first-fails : (d : A) → i < length xs → f i (getD xs i d) ≡ false → firstNot f i (drop i xs) ≡ some i
+  unfolding firstNot if_then_else_
+  first-fails d h e = rw (drop-cons xs i d h, e)
+
+  pub first-next : (d : A) → i < length xs → f i (getD xs i d) ≡ true → firstNot f i (drop i xs) ≡ firstNot f (i + 1) (drop (i + 1) xs)
+  unfolding firstNot if_then_else_
+  first-next d h e = rw (drop-cons xs i d h, e, add-one)
+
+-- ---- the first name record that breaks its rules
+
+module _ (texts : List ℕ) (rs : List NameRecord) (i from : ℕ) (last : List ℕ) where
+  pub wrong-short : length rs ≤ i → (from ≡ length texts → ⊥) → wrongName texts i from last (drop i rs) ≡ some i
+  unfolding wrongName if_then_else_
+  wrong-short h e = rw (drop-of-length-le rs h, ne-eqb from _ e)
+
+  pub wrong-end : length rs ≤ i → from ≡ length texts → wrongName texts i from last (drop i rs) ≡ none
+  unfolding wrongName if_then_else_
+  wrong-end h e = rw (drop-of-length-le rs h, eq-eqb from _ e)
+
+  pub wrong-here : i < length rs → nameStands texts from last (recordOf rs i) ≡ false → wrongName texts i from last (drop i rs) ≡ some i
+  unfolding wrongName if_then_else_ nameStands recordOf
+  wrong-here h e = rw (drop-cons rs i noRecord h, e)
+
+  -- the text that was looked at is the last one now: it stands between the old place and the new
+  pub wrong-next : i < length rs → nameStands texts from last (recordOf rs i) ≡ true
+      → wrongName texts i from last (drop i rs)
+      ≡ wrongName texts (i + 1) (from + recordOf rs i .size) (take (from + recordOf rs i .size - from) (drop from texts)) (drop (i + 1) rs)
+  unfolding wrongName if_then_else_ nameStands recordOf
+  wrong-next h e = rw (drop-cons rs i noRecord h, e, add-one, add-sub-cancel-left)
+
+-- a text that stands lies within the area
+pub name-fits : (texts : List ℕ) (from : ℕ) (last : List ℕ) (r : NameRecord) → nameStands texts from last r ≡ true
+    → (r .start ≡ from) × (from + r .size ≤ length texts)
+unfolding nameStands textStands
+name-fits texts from last r e =
+    let s = take (r .size) (drop from texts) in
+    let front = and-left _ _ (and-left _ _ e) in
+    let whole : length s ≡ r .size = eqb-true _ _ (and-right _ _ front) in
+    let some : 1 ≤ length s = leb-true 1 _ (and-left _ _ (and-left _ _ (and-left _ _ (and-right _ _ (and-left _ _ e))))) in
+    (eqb-true _ _ (and-left _ _ front), omega (arith, simp (length-take, length-drop) at whole))
+
+pub names-fit : (texts : List ℕ) (i from : ℕ) (last : List ℕ) (rs : List NameRecord) → wrongName texts i from last rs ≡ none
+    → (k : ℕ) → k < length rs → recordOf rs k .start + recordOf rs k .size ≤ length texts
+unfolding wrongName nameStands recordOf
+names-fit texts i from last [] e k h = absurd (not-suc-le-zero h)
+names-fit texts i from last (r ∷ rs) e zero h = let f = name-fits texts from last r (if-none _ _ _ e .0) in omega arith
+names-fit texts i from last (r ∷ rs) e (suc k) h =
+    names-fit texts (suc i) (from + r .size) (take (r .size) (drop from texts)) rs (if-none _ _ _ e .1) k (le-of-suc-le-suc h)
+
+-- ---- "each byte is 33..126"
+
+module _ (b : ℕ) where
+  pub unprinted-low : b < 33 → printable b ≡ false
+  unfolding printable _and_
+  unprinted-low h = rw (lt-leb 33 b h)
+
+  pub unprinted-high : 126 < b → printable b ≡ false
+  unfolding printable _and_
+  unprinted-high h = rw (le-leb 33 b (omega arith), lt-leb b 126 h)
+
+  pub printed : 33 ≤ b → b ≤ 126 → printable b ≡ true
+  unfolding printable _and_
+  printed l u = rw (le-leb 33 b l, le-leb b 126 u)

@@ -1,0 +1,740 @@
+// The program image: whether a slice of bytes is one, and its parts.
+ghost use mathlib.Core.Path.{_≡_};
+ghost use mathlib.Core.Bool.{not};
+ghost use mathlib.Core.Option.{none};
+ghost use Prim.Native.Nat.{suc, _+_, _-_, _*_, _<_, _≤_};
+ghost use lib.Dec.{eqb};
+ghost use lib.ListN.{length, take, drop};
+ghost use Rattle.meaning.specs.Image.{nameCount, nodeCount, textCount, nodesFrom, textsFrom, node, nodesOf, nodeOf, nameRecord, nameRecords, textsOf, namesOf, nameOf, printable, textStands, roleStands, roleOf, allows, safe, brokenName, unsafeName, isStatement, isSpanless, isExpression, argBelow, countStands, nodeStands, brokenNode, belongs, lands, nests, badlyNested, tooDeepNode, headStands, countsStand, offsetsStand, imageFault};
+ghost use Rattle.meaning.specs.Base.{_and_, _or_, if_then_else_, all, isOneOf};
+ghost use Rattle.meaning.proofs.Faults.{Headed};
+ghost use Rattle.image.specs.Outcome.{faultOf, placeOf};
+ghost use Rattle.image.specs.Parts.{Laid, nodeMeans, nameMeans, recordOf, nameStands, oneArgument, twoArguments, On, Moved};
+use words::before;
+use words::get_word;
+use words::same;
+use words::text;
+
+// What a search over names or nodes found: the first that fails, or none.
+pub enum Found {
+    At(usize),
+    Nowhere,
+}
+
+// A well-formed image, or the refusals 1 to 8, those of a name or a node with its number.
+pub enum Judged {
+    WellFormed,
+    BadHead,
+    BadCount,
+    BadOffset,
+    BadName(usize),
+    UnsafeName(usize),
+    BadNode(usize),
+    BadNesting(usize),
+    TooDeep(usize),
+}
+
+// The header's counts, and where the areas start.
+pub struct Layout {
+    pub names: usize,
+    pub nodes: usize,
+    pub count: usize,
+    pub texts: usize,
+    pub size: usize,
+    pub total: usize,
+}
+
+// A node record: `stop` is its end, `begins` and `ends` are its span.
+pub struct Node {
+    pub kind: u32,
+    pub arg: u32,
+    pub children: u32,
+    pub stop: u32,
+    pub begins: u32,
+    pub ends: u32,
+}
+
+// A name record: its text starts at `start` of the text area.
+pub struct NameAt {
+    pub start: u32,
+    pub len: u32,
+    pub role: u32,
+    pub p: u32,
+    pub q: u32,
+}
+
+// A place in the node area: the node that it stands at, and where the area starts.
+pub struct Cursor {
+    pub at: usize,
+    pub nodes: usize,
+}
+
+// The node that a cursor stood at, and the cursor moved.
+pub struct Read {
+    pub cursor: Cursor,
+    pub node: Node,
+}
+
+// ---- the header
+
+fn head_stands(image: &[u8]) -> bool
+    ensures { λ r. ⌜ r ≡ headStands (now (image .entry)) ⌝ }
+{
+    if image.len() < 32 {
+        return false;
+    }
+    get_word(image, 0) == 1
+}
+
+// The largest sum, the total, stays far below 2^64 whatever the words are.
+pub fn areas(image: &[u8]) -> Layout
+    requires { ⌜ 32 ≤ length (now image) ⌝ }
+    ensures { λ r. ⌜ Laid (now (image .entry)) r ⌝ }
+{
+    let names = get_word(image, 4) as usize;
+    let count = get_word(image, 12) as usize;
+    let size = get_word(image, 20) as usize;
+    let nodes = 32 + 20 * names;
+    let texts = nodes + 24 * count;
+    let total = texts + size;
+    Layout {
+        names,
+        nodes,
+        count,
+        texts,
+        size,
+        total,
+    }
+}
+
+fn counts_stand(image: &[u8], l: Layout) -> bool
+    requires { ⌜ Laid (now image) l ⌝ }
+    ensures { λ r. ⌜ r ≡ countsStand (now (image .entry)) ⌝ }
+{
+    if 128 < l.names {
+        return false;
+    }
+    if l.count < 1 {
+        return false;
+    }
+    if 2048 < l.count {
+        return false;
+    }
+    l.size <= 8192
+}
+
+fn offsets_stand(image: &[u8], l: Layout) -> bool
+    requires { ⌜ 32 ≤ length (now image) ⌝ }
+    requires { ⌜ Laid (now image) l ⌝ }
+    ensures { λ r. ⌜ r ≡ offsetsStand (now (image .entry)) ⌝ }
+{
+    if get_word(image, 8) != 32 {
+        return false;
+    }
+    if get_word(image, 16) as usize != l.nodes {
+        return false;
+    }
+    if get_word(image, 24) as usize != l.texts {
+        return false;
+    }
+    if get_word(image, 28) as usize != l.total {
+        return false;
+    }
+    image.len() == l.total
+}
+
+// ---- records
+
+fn node_words(image: &[u8], at: usize) -> Node
+    requires { ⌜ at + 24 ≤ length (now image) ⌝ }
+    ensures { λ r. ⌜ nodeMeans r ≡ node (drop at (now (image .entry))) ⌝ }
+{
+    let kind = get_word(image, at);
+    let arg = get_word(image, at + 4);
+    let children = get_word(image, at + 8);
+    let stop = get_word(image, at + 12);
+    let begins = get_word(image, at + 16);
+    let ends = get_word(image, at + 20);
+    Node {
+        kind,
+        arg,
+        children,
+        stop,
+        begins,
+        ends,
+    }
+}
+
+fn name_words(image: &[u8], at: usize) -> NameAt
+    requires { ⌜ at + 20 ≤ length (now image) ⌝ }
+    ensures { λ r. ⌜ nameMeans r ≡ nameRecord (drop at (now (image .entry))) ⌝ }
+{
+    let start = get_word(image, at);
+    let len = get_word(image, at + 4);
+    let role = get_word(image, at + 8);
+    let p = get_word(image, at + 12);
+    let q = get_word(image, at + 16);
+    NameAt {
+        start,
+        len,
+        role,
+        p,
+        q,
+    }
+}
+
+// `nodes` is where the node area starts: a walk reads it once.
+pub fn node_at(image: &[u8], nodes: usize, i: usize) -> Node
+    requires { ⌜ Headed (now image) ⌝ }
+    requires { ⌜ (nodes ≡ nodesFrom (now image)) × (i < nodeCount (now image)) ⌝ }
+    ensures { λ r. ⌜ nodeMeans r ≡ nodeOf (nodesOf (now (image .entry))) i ⌝ }
+{
+    node_words(image, nodes + 24 * i)
+}
+
+pub fn name_at(image: &[u8], k: usize) -> NameAt
+    requires { ⌜ Headed (now image) ⌝ }
+    requires { ⌜ k < nameCount (now image) ⌝ }
+    ensures { λ r. ⌜ nameMeans r ≡ recordOf (nameRecords (now (image .entry))) k ⌝ }
+{
+    name_words(image, 32 + 20 * k)
+}
+
+// A name's text is that part of the image, not a copy. `texts` is where the text area starts.
+pub fn name_text(image: &[u8], texts: usize, k: usize) -> &[u8]
+    requires { ⌜ Headed (now image) ⌝ }
+    requires { ⌜ brokenName (now image) ≡ none ⌝ }
+    requires { ⌜ (texts ≡ textsFrom (now image)) × (k < nameCount (now image)) ⌝ }
+    ensures { λ r. ⌜ now r ≡ nameOf (namesOf (now (image .entry))) k .spelling ⌝ }
+{
+    let r = name_at(image, k);
+    text(image, texts + r.start as usize, r.len as usize)
+}
+
+// ---- 4: names and their texts
+
+fn all_printable(s: &[u8]) -> bool
+    ensures { λ r. ⌜ r ≡ all printable (now (s .entry)) ⌝ }
+{
+    let mut i = 0;
+    while i < s.len() {
+        if s[i] < 33 {
+            return false;
+        }
+        if 126 < s[i] {
+            return false;
+        }
+        i += 1;
+    }
+    true
+}
+
+fn text_stands(last: &[u8], s: &[u8]) -> bool
+    ensures { λ r. ⌜ r ≡ textStands (now (last .entry)) (now (s .entry)) ⌝ }
+{
+    if s.len() < 1 {
+        return false;
+    }
+    if 64 < s.len() {
+        return false;
+    }
+    if !all_printable(s) {
+        return false;
+    }
+    before(last, s)
+}
+
+fn role_stands(r: NameAt) -> bool
+    ensures { λ s. ⌜ s ≡ roleStands (nameMeans r) ⌝ }
+{
+    let role = r.role;
+    match role {
+        0 | 3 => {
+            if r.p != 0 {
+                return false;
+            }
+            r.q == 0
+        }
+        1 | 4 => r.q == 0,
+        2 => true,
+        _ => false,
+    }
+}
+
+// The texts lie end to end: the one before is texts[last..from], and before the first it is empty.
+fn name_stands(texts: &[u8], last: usize, from: usize, r: NameAt) -> bool
+    requires { ⌜ (last ≤ from) × (from ≤ length (now texts)) ⌝ }
+    ensures { λ s. ⌜ s ≡ nameStands (now (texts .entry)) from (take (from - last) (drop last (now (texts .entry)))) (nameMeans r) ⌝ }
+{
+    if r.start as usize != from {
+        return false;
+    }
+    let len = r.len as usize;
+    if texts.len() - from < len {
+        return false;
+    }
+    if !text_stands(text(texts, last, from - last), text(texts, from, len)) {
+        return false;
+    }
+    role_stands(r)
+}
+
+fn broken_name(image: &[u8], texts: &[u8], names: usize) -> Found
+    requires { ⌜ Headed (now image) ⌝ }
+    requires { ⌜ (names ≡ nameCount (now image)) × (now texts ≡ textsOf (now image)) ⌝ }
+    ensures { λ r. ⌜ placeOf r ≡ brokenName (now (image .entry)) ⌝ }
+{
+    let mut i = 0;
+    let mut last = 0;
+    let mut from = 0;
+    while i < names {
+        let r = name_at(image, i);
+        if !name_stands(texts, last, from, r) {
+            return Found::At(i);
+        }
+        last = from;
+        from += r.len as usize;
+        i += 1;
+    }
+    if from != texts.len() {
+        return Found::At(i);
+    }
+    Found::Nowhere
+}
+
+// ---- 5: builtins whose rule looks at arguments that their role does not ask for
+
+fn needs_one(t: &[u8]) -> bool
+    ensures { λ r. ⌜ r ≡ isOneOf (now (t .entry)) oneArgument ⌝ }
+{
+    if same(t, b"int") {
+        return true;
+    }
+    if same(t, b"float") {
+        return true;
+    }
+    if same(t, b"bool") {
+        return true;
+    }
+    if same(t, b"str") {
+        return true;
+    }
+    if same(t, b"len") {
+        return true;
+    }
+    if same(t, b"assert") {
+        return true;
+    }
+    false
+}
+
+fn needs_two(t: &[u8]) -> bool
+    ensures { λ r. ⌜ r ≡ isOneOf (now (t .entry)) twoArguments ⌝ }
+{
+    if same(t, b"map") {
+        return true;
+    }
+    if same(t, b"filter") {
+        return true;
+    }
+    false
+}
+
+// Whether a builtin of r's role takes k arguments; only the roles 1 to 3 are builtins.
+fn admits(r: NameAt, k: u32) -> bool
+    ensures { λ s. ⌜ s ≡ allows (roleOf (nameMeans r)) k ⌝ }
+{
+    let role = r.role;
+    match role {
+        1 => k == r.p,
+        2 => {
+            if k < r.p {
+                return false;
+            }
+            k <= r.q
+        }
+        3 => true,
+        _ => false,
+    }
+}
+
+fn lacks_one(t: &[u8], r: NameAt) -> bool
+    ensures { λ s. ⌜ s ≡ (isOneOf (now (t .entry)) oneArgument and allows (roleOf (nameMeans r)) 0) ⌝ }
+{
+    if !needs_one(t) {
+        return false;
+    }
+    admits(r, 0)
+}
+
+fn lacks_two(t: &[u8], r: NameAt) -> bool
+    ensures { λ s. ⌜ s ≡ (isOneOf (now (t .entry)) twoArguments and (allows (roleOf (nameMeans r)) 0 or allows (roleOf (nameMeans r)) 1)) ⌝ }
+{
+    if !needs_two(t) {
+        return false;
+    }
+    if admits(r, 0) {
+        return true;
+    }
+    admits(r, 1)
+}
+
+fn safe_name(t: &[u8], r: NameAt) -> bool
+    ensures { λ s. ⌜ s ≡ safe (record { spelling = now (t .entry); role = roleOf (nameMeans r) }) ⌝ }
+{
+    if lacks_one(t, r) {
+        return false;
+    }
+    !lacks_two(t, r)
+}
+
+fn unsafe_name(image: &[u8], texts: usize, names: usize) -> Found
+    requires { ⌜ Headed (now image) ⌝ }
+    requires { ⌜ brokenName (now image) ≡ none ⌝ }
+    requires { ⌜ (texts ≡ textsFrom (now image)) × (names ≡ nameCount (now image)) ⌝ }
+    ensures { λ r. ⌜ placeOf r ≡ unsafeName (now (image .entry)) ⌝ }
+{
+    let mut k = 0;
+    while k < names {
+        let r = name_at(image, k);
+        if !safe_name(name_text(image, texts, k), r) {
+            return Found::At(k);
+        }
+        k += 1;
+    }
+    Found::Nowhere
+}
+
+// ---- 6: what one node record shows
+
+fn is_known(kind: u32) -> bool
+    ensures { λ r. ⌜ r ≡ (isStatement kind or isSpanless kind or isExpression kind) ⌝ }
+{
+    match kind {
+        1..=13 => true,
+        20..=32 => true,
+        _ => false,
+    }
+}
+
+fn arg_below(names: usize, kind: u32) -> usize
+    ensures { λ r. ⌜ r ≡ argBelow names kind ⌝ }
+{
+    match kind {
+        10..=11 | 13 | 21 => names,
+        20 => 5,
+        22 => 3,
+        23 => 14,
+        _ => 1,
+    }
+}
+
+fn count_stands(kind: u32, c: u32) -> bool
+    ensures { λ r. ⌜ r ≡ countStands kind c ⌝ }
+{
+    match kind {
+        5 => c == 2,
+        6..=7 => c == 1,
+        8 => 2 <= c,
+        9..=10 => c == 2,
+        11 => 1 <= c,
+        12 => true,
+        22 => c == 1,
+        23 => c == 2,
+        24 => 1 <= c,
+        25 => c == 1,
+        26 => true,
+        27 => c % 2 == 0,
+        28..=30 => true,
+        31 => c == 2,
+        _ => c == 0,
+    }
+}
+
+// "The spans of Block and Param are 0."
+fn span_stands(d: Node) -> bool
+    ensures { λ r. ⌜ r ≡ (not (isSpanless (d .kind)) or eqb (d .begins) 0 and eqb (d .ends) 0) ⌝ }
+{
+    let kind = d.kind;
+    match kind {
+        12..=13 => {
+            if d.begins != 0 {
+                return false;
+            }
+            d.ends == 0
+        }
+        _ => true,
+    }
+}
+
+fn node_stands(names: usize, count: usize, i: usize, d: Node) -> bool
+    ensures { λ r. ⌜ r ≡ nodeStands names count i (nodeMeans d) ⌝ }
+{
+    if !is_known(d.kind) {
+        return false;
+    }
+    if arg_below(names, d.kind) <= d.arg as usize {
+        return false;
+    }
+    if !count_stands(d.kind, d.children) {
+        return false;
+    }
+    if !span_stands(d) {
+        return false;
+    }
+    let stop = d.stop as usize;
+    if stop <= i {
+        return false;
+    }
+    stop <= count
+}
+
+fn broken_node(image: &[u8], names: usize, nodes: usize, count: usize) -> Found
+    requires { ⌜ Headed (now image) ⌝ }
+    requires { ⌜ (names ≡ nameCount (now image)) × (nodes ≡ nodesFrom (now image)) × (count ≡ nodeCount (now image)) ⌝ }
+    ensures { λ r. ⌜ placeOf r ≡ brokenNode (now (image .entry)) ⌝ }
+{
+    let mut i = 0;
+    while i < count {
+        let d = node_at(image, nodes, i);
+        if !node_stands(names, count, i, d) {
+            return Found::At(i);
+        }
+        i += 1;
+    }
+    Found::Nowhere
+}
+
+// ---- 7: children
+
+fn is_statement(kind: u32) -> bool
+    ensures { λ r. ⌜ r ≡ isStatement kind ⌝ }
+{
+    match kind {
+        1..=11 => true,
+        _ => false,
+    }
+}
+
+fn is_expression(kind: u32) -> bool
+    ensures { λ r. ⌜ r ≡ isExpression kind ⌝ }
+{
+    match kind {
+        20..=32 => true,
+        _ => false,
+    }
+}
+
+fn block_or_expression(block: bool, kind: u32) -> bool
+    ensures { λ r. ⌜ r ≡ (if block then eqb kind 12 else isExpression kind) ⌝ }
+{
+    if block {
+        return kind == 12;
+    }
+    is_expression(kind)
+}
+
+// Of an If's children those at odd places are Blocks, and so is the last: an even number of them has no else.
+fn has_business(parent: u32, c: u32, j: u32, kind: u32) -> bool
+    requires { ⌜ j < c ⌝ }
+    ensures { λ r. ⌜ r ≡ belongs parent c j kind ⌝ }
+{
+    match parent {
+        8 => {
+            if j % 2 == 1 {
+                return kind == 12;
+            }
+            block_or_expression(j + 1 == c, kind)
+        }
+        9..=10 => block_or_expression(j + 1 == c, kind),
+        11 => {
+            if j + 1 == c {
+                return kind == 12;
+            }
+            kind == 13
+        }
+        12 => is_statement(kind),
+        _ => is_expression(kind),
+    }
+}
+
+// Each child starts at the end of the one before. After 6 an end lies behind its node, so `at` only grows.
+fn lands_on_end(image: &[u8], nodes: usize, i: usize, d: Node) -> bool
+    requires { ⌜ Headed (now image) ⌝ }
+    requires { ⌜ (nodes ≡ nodesFrom (now image)) × (i < nodeCount (now image)) × (d .stop ≤ nodeCount (now image)) ⌝ }
+    ensures { λ r. ⌜ r ≡ lands (nodesOf (now (image .entry))) (nodeMeans d) (suc i) (d .children) ⌝ }
+{
+    let mut at = i + 1;
+    let mut left = d.children;
+    while 0 < left {
+        if d.stop as usize <= at {
+            return false;
+        }
+        let child = node_at(image, nodes, at);
+        if !has_business(d.kind, d.children, d.children - left, child.kind) {
+            return false;
+        }
+        at = child.stop as usize;
+        left -= 1;
+    }
+    at == d.stop as usize
+}
+
+fn nests_well(image: &[u8], nodes: usize, count: usize, i: usize) -> bool
+    requires { ⌜ Headed (now image) ⌝ }
+    requires { ⌜ brokenNode (now image) ≡ none ⌝ }
+    requires { ⌜ (nodes ≡ nodesFrom (now image)) × (count ≡ nodeCount (now image)) × (i < count) ⌝ }
+    ensures { λ r. ⌜ r ≡ nests (nodesOf (now (image .entry))) i (nodeOf (nodesOf (now (image .entry))) i) ⌝ }
+{
+    let d = node_at(image, nodes, i);
+    if !lands_on_end(image, nodes, i, d) {
+        return false;
+    }
+    if 0 < i {
+        return true;
+    }
+    if d.kind != 12 {
+        return false;
+    }
+    d.stop as usize == count
+}
+
+// Linear in all: each parent walks its children once, and the children of parents that nest well are disjoint, so no node is
+// walked by two parents; the first parent that does not ends the search.
+fn badly_nested(image: &[u8], nodes: usize, count: usize) -> Found
+    requires { ⌜ Headed (now image) ⌝ }
+    requires { ⌜ brokenNode (now image) ≡ none ⌝ }
+    requires { ⌜ (nodes ≡ nodesFrom (now image)) × (count ≡ nodeCount (now image)) ⌝ }
+    ensures { λ r. ⌜ placeOf r ≡ badlyNested (now (image .entry)) ⌝ }
+{
+    let mut i = 0;
+    while i < count {
+        if !nests_well(image, nodes, count, i) {
+            return Found::At(i);
+        }
+        i += 1;
+    }
+    Found::Nowhere
+}
+
+// ---- 8: depth
+
+// As a call of its own, a count asks no proof that it fits.
+fn wide(n: u16) -> usize
+    ensures { λ r. ⌜ r ≡ n ⌝ }
+{
+    n as usize
+}
+
+// Linear: `around` nodes before node i end behind it, so it lies at depth around + 1. Of these and itself, those that end at i + 1
+// are around no more, and `ends` has how many they are. After 6 this needs no nesting: it is counting alone.
+fn too_deep(image: &[u8], nodes: usize, count: usize) -> Found
+    requires { ⌜ Headed (now image) ⌝ }
+    requires { ⌜ brokenNode (now image) ≡ none ⌝ }
+    requires { ⌜ (nodes ≡ nodesFrom (now image)) × (count ≡ nodeCount (now image)) ⌝ }
+    ensures { λ r. ⌜ placeOf r ≡ tooDeepNode (now (image .entry)) ⌝ }
+{
+    let mut ends = [0u16; 2049];
+    let mut around = 0;
+    let mut i = 0;
+    while i < count {
+        if 64 <= around {
+            return Found::At(i);
+        }
+        let d = node_at(image, nodes, i);
+        let stop = d.stop as usize;
+        ends[stop] = ends[stop] + 1;
+        i += 1;
+        around = around + 1 - wide(ends[i]);
+    }
+    Found::Nowhere
+}
+
+// ---- the answer
+
+// After a header that stands: 4 for all names, then 5 for all, then 6, 7 and 8, each for all nodes.
+fn judge_body(image: &[u8], l: Layout) -> Judged
+    requires { ⌜ Headed (now image) ⌝ }
+    requires { ⌜ Laid (now image) l ⌝ }
+    ensures { λ r. ⌜ faultOf r ≡ imageFault (now (image .entry)) ⌝ }
+{
+    let texts = text(image, l.texts, l.size);
+    if let Found::At(i) = broken_name(image, texts, l.names) {
+        return Judged::BadName(i);
+    }
+    if let Found::At(i) = unsafe_name(image, l.texts, l.names) {
+        return Judged::UnsafeName(i);
+    }
+    if let Found::At(i) = broken_node(image, l.names, l.nodes, l.count) {
+        return Judged::BadNode(i);
+    }
+    if let Found::At(i) = badly_nested(image, l.nodes, l.count) {
+        return Judged::BadNesting(i);
+    }
+    if let Found::At(i) = too_deep(image, l.nodes, l.count) {
+        return Judged::TooDeep(i);
+    }
+    Judged::WellFormed
+}
+
+pub fn judge(image: &[u8]) -> Judged
+    ensures { λ r. ⌜ faultOf r ≡ imageFault (now (image .entry)) ⌝ }
+{
+    if !head_stands(image) {
+        return Judged::BadHead;
+    }
+    let l = areas(image);
+    if !counts_stand(image, l) {
+        return Judged::BadCount;
+    }
+    if !offsets_stand(image, l) {
+        return Judged::BadOffset;
+    }
+    judge_body(image, l)
+}
+
+// ---- the walk over the nodes of an image that stands
+
+impl Cursor {
+    // At node 0.
+    pub fn first(image: &[u8]) -> Cursor
+        requires { ⌜ Headed (now image) ⌝ }
+        ensures { λ r. ⌜ On (now (image .entry)) r ⌝ }
+        ensures { λ r. ⌜ r .at ≡ 0 ⌝ }
+    {
+        let l = areas(image);
+        Cursor {
+            at: 0,
+            nodes: l.nodes,
+        }
+    }
+
+    // To the next node: the first child, where the node read has one.
+    pub fn next(self, image: &[u8]) -> Read
+        requires { ⌜ Headed (now image) ⌝ }
+        requires { ⌜ On (now image) self ⌝ }
+        ensures { λ r. ⌜ Moved (now (image .entry)) self r (self .at + 1) ⌝ }
+    {
+        let at = self.at;
+        let nodes = self.nodes;
+        let node = node_at(image, nodes, at);
+        let cursor = Cursor { at: at + 1, nodes };
+        Read { cursor, node }
+    }
+
+    // To the end of the node read: the next child of its parent, where there is one.
+    pub fn over(self, image: &[u8]) -> Read
+        requires { ⌜ Headed (now image) ⌝ }
+        requires { ⌜ On (now image) self ⌝ }
+        ensures { λ r. ⌜ Moved (now (image .entry)) self r (nodeOf (nodesOf (now (image .entry))) (self .at) .stop) ⌝ }
+    {
+        let at = self.at;
+        let nodes = self.nodes;
+        let node = node_at(image, nodes, at);
+        let cursor = Cursor {
+            at: node.stop as usize,
+            nodes,
+        };
+        Read { cursor, node }
+    }
+}

@@ -1,0 +1,3 @@
+pub mod Outcome
+pub mod Leaves
+pub mod Builtins
