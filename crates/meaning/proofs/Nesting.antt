@@ -4,7 +4,7 @@ use mathlib.Core.Path.{_≡_, refl, _∙_, ap, sym}
 use mathlib.Core.Bool.{Bool, true, false}
 use mathlib.Core.List.{List, [], _∷_}
 use Prim.Native.Nat.{ℕ, zero, suc, _+_, _-_, _≤_, _<_}
-use native.Mathlib.Nat.{add-zero, add-suc, suc-add}
+use native.Mathlib.Nat.{zero-add}
 use native.Mathlib.Omega.{arith}
 use native.Mathlib.Decide.{ℕ-discrete, decLt}
 use borrow.Author.Tests.{leb-true, le-leb, lt-leb, ltb-true, lt-ltb, le-ltb, eqb-true}
@@ -204,3 +204,76 @@ deeper {N} {ds} s i c l m b =
     (holds-from i c l 0 ds none (λ j h a k. elim (decLt j i) [ yes p ↦ omega (arith, within s j i p h k) | no p ↦ let e : j ≡ i = omega arith in rw e b ]))
     (own-from i c l 0 ds none (λ j h e. omega (arith, node-stands s j h .forward)))
     (omega arith) (omega arith)
+
+-- ---- and a child lies exactly one deeper
+
+-- every node between i and c ends before c: what stands there are c's elder siblings, with all below them
+pub record Between (ds : List Node) (i c : ℕ) : Type 0 where
+  pub ended : (j : ℕ) → i < j → j < c → stopOf ds j ≤ c
+
+pub between-first : {ds : List Node} (i : ℕ) → Between ds i (suc i)
+between-first i = record { ended = λ j a b. absurd (omega arith) }
+
+pub between-next : {N : ℕ} {ds : List Node} → Nested N ds → (i c : ℕ) → c < length ds → Between ds i c → Between ds i (stopOf ds c)
+unfolding stopOf
+between-next {N} {ds} s i c h b =
+    let f = node-stands s c h .forward in
+    record {
+      ended = λ j p q. elim (decLt j c) [
+        | yes l ↦ omega (arith, b .ended j p l)
+        | no l ↦ elim (decLt c j) [ yes m ↦ within s c j m h q | no m ↦ let e : j ≡ c = omega arith in rw e (omega arith) ]
+      ];
+    }
+
+module _ (i c : ℕ) (l : i < c) where
+  -- of the nodes xs, numbered from k: what is at or before i and holds c holds i, and what is between holds not c
+  Passes : ℕ → List Node → Type 0
+  Passes k [] = Unit {0}
+  Passes k (d ∷ ds) = ((i < k) → (k < c) → d .stop ≤ c) × Passes (suc k) ds
+
+  none-behind : (k : ℕ) (xs : List Node) → c < k → depth c k xs ≡ 0
+  unfolding depth bit if_then_else_ _and_
+  none-behind k [] h = refl
+  none-behind k (d ∷ ds) h = rw (lt-leb k c h) (omega (arith, none-behind (suc k) ds (omega arith)))
+
+  and-no : (a b : Bool) → b ≡ false → (a and b) ≡ false
+  unfolding _and_
+  and-no true b e = e
+  and-no false b e = refl
+
+  not-between : (k : ℕ) (d : Node) → d .stop ≤ c → bit (leb k c and ltb c (d .stop)) ≡ 0
+  unfolding bit if_then_else_
+  not-between k d h = rw (and-no (leb k c) (ltb c (d .stop)) (le-ltb c (d .stop) h))
+
+  at-or-before : (k : ℕ) (d : Node) → k ≤ i → bit (leb k c and ltb c (d .stop)) ≤ bit (leb k i and ltb i (d .stop))
+  at-or-before k d h =
+      bit-le _ _ (λ t. both _ _ (le-leb k i h) (lt-ltb i (d .stop) (omega (arith, ltb-true c (d .stop) (and-right _ _ t)))))
+
+  bit-one : (b : Bool) → bit b ≤ 1
+  unfolding bit if_then_else_
+  bit-one true = omega arith
+  bit-one false = omega arith
+
+  one-at-most : (k : ℕ) (xs : List Node) → Passes k xs → depth c k xs ≤ suc (depth i k xs)
+  unfolding depth Passes bit
+  one-at-most k [] p = omega arith
+  one-at-most k (d ∷ ds) p = elim (decLt i k) [
+    | no a ↦ omega (arith, at-or-before k d (omega arith), one-at-most (suc k) ds (p .1))
+    | yes a ↦ elim (decLt k c) [
+      | yes b ↦ omega (arith, not-between k d (p .0 a b), one-at-most (suc k) ds (p .1))
+      | no b ↦ omega (arith, bit-one (leb k c and ltb c (d .stop)), none-behind (suc k) ds (omega arith))
+    ]
+  ]
+
+  passes-from : (k : ℕ) (xs : List Node) (d : Node) → ((m : ℕ) → m < length xs → i < k + m → k + m < c → getD xs m d .stop ≤ c) → Passes k xs
+  unfolding Passes
+  passes-from k [] d f = tt
+  passes-from k (x ∷ xs) d f = (λ a b. f 0 (omega arith) (omega arith) (omega arith), passes-from (suc k) xs d (λ m h a b. f (suc m) (omega arith) (omega arith) (omega arith)))
+
+-- c starts inside node i, and what stands between them has ended: c is a child of i
+pub one-deeper : {N : ℕ} {ds : List Node} → Nested N ds → (i c : ℕ) → i < c → i < length ds → c < stopOf ds i → Between ds i c
+    → depth c 0 ds ≡ suc (depth i 0 ds)
+unfolding stopOf nodeOf
+one-deeper {N} {ds} s i c l m b w =
+    let none : Node = record { kind = 0; arg = 0; children = 0; stop = 0; spanStart = 0; spanEnd = 0 } in
+    omega (arith, deeper s i c l m b, one-at-most i c l 0 ds (passes-from i c l 0 ds none (λ j h p q. rw zero-add at (w .ended (0 + j) p q))))
