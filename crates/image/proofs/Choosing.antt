@@ -1,14 +1,14 @@
 -- The arms of the matches on a role's number and on a node's kind. Assumes nothing.
-use mathlib.Core.Path.{_≡_, refl, sym, ap, _∙_}
+use mathlib.Core.Path.{_≡_, refl}
 use mathlib.Core.Logic.{_⊎_, inl, inr}
-use mathlib.Core.Bool.{Bool, true, false, not}
+use mathlib.Core.Bool.{Bool, true, false}
 use Prim.Native.Nat.{ℕ, suc, _+_, _%_, _<_, _≤_}
 use native.Mathlib.Decide.{decLt}
 use native.Mathlib.Omega.{arith}
 use lib.Dec.{eqb, leb}
 use borrow.Author.Tests.{eq-eqb, ne-eqb, le-leb, lt-leb}
 use Rattle.meaning.specs.Base.{_and_, _or_, choose, if_then_else_}
-use Rattle.meaning.specs.Image.{NameRecord, Role, plain, takes, roleStands, roleOf, allows, isStatement, isSpanless, isExpression, argBelow, countStands, belongs}
+use Rattle.meaning.specs.Image.{NameRecord, plain, takes, roleStands, roleOf, allows, isStatement, isSpanless, isExpression, argBelow, countStands, belongs}
 
 module _ (r : NameRecord) where
   pub role-unused : (r .role ≡ 0) ⊎ (r .role ≡ 3) → roleStands r ≡ (eqb (r .p) 0 and eqb (r .q) 0)

@@ -1,18 +1,18 @@
 -- What one node that stands gives, and a turn of the walk over its children. Assumes nothing.
-use mathlib.Core.Path.{_≡_, refl, sym, ap, _∙_}
-use mathlib.Core.Bool.{Bool, true, false, not}
+use mathlib.Core.Path.{_≡_, refl}
+use mathlib.Core.Bool.{true, false, not}
 use mathlib.Core.Option.{none}
 use mathlib.Core.List.{List}
-use Prim.Native.Nat.{ℕ, zero, suc, _+_, _-_, _<_, _≤_}
+use Prim.Native.Nat.{ℕ, zero, suc, _-_, _<_, _≤_}
 use native.Mathlib.Nat.{zero-add}
 use native.Mathlib.Numerals.{sub-one}
 use native.Mathlib.Omega.{arith}
 use lib.Dec.{eqb}
-use lib.ListN.{length}
 use borrow.Author.Tests.{lt-ltb, le-ltb, ltb-true, leb-true}
 use Rattle.meaning.specs.Base.{_and_, _or_}
 use Rattle.meaning.specs.Image.{Node, nameCount, nodeCount, nodesOf, nodeOf, isStatement, isSpanless, isExpression, argBelow, countStands, nodeStands, belongs, lands, brokenNode}
 use Rattle.meaning.proofs.Choices.{and-left, and-right, none-failing}
+use Rattle.meaning.proofs.Faults.{Headed, sizes}
 use Rattle.image.proofs.Records.{nodes-many}
 
 -- ---- node i of M, with N names, shows nothing wrong
@@ -48,6 +48,10 @@ pub node-stands : (bs : List ℕ) → brokenNode bs ≡ none → (i : ℕ) → i
 unfolding brokenNode nodeOf
 node-stands bs e i h =
     stands (rw zero-add at (none-failing (nodeStands (nameCount bs) (nodeCount bs)) 0 (nodesOf bs) noNode e i (rw nodes-many h)))
+
+-- so each end has its place in a table of 2,049
+pub stop-below : {bs : List ℕ} → Headed bs → brokenNode bs ≡ none → (i : ℕ) → i < nodeCount bs → nodeOf (nodesOf bs) i .stop < 2049
+stop-below {bs} h e i l = omega (arith, node-stands bs e i l .within, sizes h)
 
 -- ---- the children of d of which `left` start at i
 

@@ -1,17 +1,17 @@
 -- Where a record's words stand in the image. Assumes nothing.
-use mathlib.Core.Path.{_≡_, refl, sym, ap, _∙_}
+use mathlib.Core.Path.{_≡_, _∙_}
 use mathlib.Core.Bool.{true}
 use mathlib.Core.Option.{none}
-use mathlib.Core.List.{List, [], _∷_, map}
+use mathlib.Core.List.{List, []}
 use Prim.Native.Nat.{ℕ, zero, suc, _+_, _-_, _*_, _<_, _≤_}
-use native.Mathlib.Nat.{add-zero, add-assoc, add-comm, mul-zero, mul-suc, not-suc-le-zero, le-of-suc-le-suc}
+use native.Mathlib.Nat.{add-zero, add-assoc, mul-zero, mul-suc, not-suc-le-zero, le-of-suc-le-suc}
 use native.Mathlib.Omega.{arith}
 use lib.ListN.{length, getD, take, drop, List·getD-map, length-map, length-drop}
 use lib.Seq.{drop-drop, getD-drop, take-all}
 use borrow.Author.Tests.{leb-true}
 use Rattle.meaning.specs.Base.{_and_, choose, if_then_else_, word, records}
-use Rattle.meaning.specs.Image.{NameRecord, nameRecord, nameRecords, textsOf, nameFrom, roleOf, namesOf, nameOf, node, nodesOf, nodeOf, nameCount, nodeCount, textCount, namesFrom, nodesFrom, textsFrom, total, headStands, brokenName}
-use Rattle.meaning.specs.Image.{Node as ImageNode, Name}
+use Rattle.meaning.specs.Image.{nameRecord, nameRecords, textsOf, nameFrom, roleOf, namesOf, nameOf, node, nodesOf, nodeOf, nameCount, nodeCount, textCount, namesFrom, nodesFrom, textsFrom, total, headStands, brokenName}
+use Rattle.meaning.specs.Image.{Name}
 use Rattle.meaning.proofs.Choices.{and-left, records-many}
 use Rattle.meaning.proofs.Faults.{Headed, sizes}
 use Rattle.image.specs.declared.NameAt.{NameAt}

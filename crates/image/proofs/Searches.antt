@@ -1,18 +1,17 @@
 -- A turn of each search: what is left answers what all answer. Assumes nothing.
-use mathlib.Core.Path.{_≡_, refl, sym, ap, _∙_}
+use mathlib.Core.Path.{_≡_}
 use mathlib.Core.Bool.{Bool, true, false}
-use mathlib.Core.Option.{Option, none, some}
+use mathlib.Core.Option.{none, some}
 use mathlib.Core.List.{List, [], _∷_}
-use Prim.Native.Nat.{ℕ, zero, suc, _+_, _-_, _*_, _<_, _≤_}
+use Prim.Native.Nat.{ℕ, zero, suc, _+_, _-_, _<_, _≤_}
 use native.Mathlib.Nat.{add-sub-cancel-left, not-suc-le-zero, le-of-suc-le-suc}
 use native.Mathlib.Numerals.{add-one}
 use native.Mathlib.Omega.{arith}
-use lib.Dec.{eqb, leb}
 use lib.ListN.{length, getD, take, drop, length-take, length-drop, drop-of-length-le}
 use lib.Seq.{drop-cons}
 use borrow.Author.Tests.{eq-eqb, ne-eqb, le-leb, lt-leb, eqb-true, leb-true}
 use Rattle.meaning.specs.Base.{_and_, if_then_else_, all}
-use Rattle.meaning.specs.Image.{NameRecord, firstNot, wrongName, printable, textStands, roleStands}
+use Rattle.meaning.specs.Image.{NameRecord, firstNot, wrongName, printable, textStands}
 use Rattle.meaning.proofs.Choices.{and-left, and-right, if-none}
 use Rattle.image.specs.Parts.{noRecord, recordOf, nameStands}
 

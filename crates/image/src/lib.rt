@@ -5,7 +5,7 @@ ghost use mathlib.Core.Option.{none};
 ghost use Prim.Native.Nat.{suc, _+_, _-_, _*_, _<_, _≤_};
 ghost use lib.Dec.{eqb};
 ghost use lib.ListN.{length, take, drop};
-ghost use Rattle.meaning.specs.Image.{nameCount, nodeCount, textCount, nodesFrom, textsFrom, node, nodesOf, nodeOf, nameRecord, nameRecords, textsOf, namesOf, nameOf, printable, textStands, roleStands, roleOf, allows, safe, brokenName, unsafeName, isStatement, isSpanless, isExpression, argBelow, countStands, nodeStands, brokenNode, belongs, lands, nests, badlyNested, tooDeepNode, headStands, countsStand, offsetsStand, imageFault};
+ghost use Rattle.meaning.specs.Image.{nameCount, nodeCount, nodesFrom, textsFrom, node, nodesOf, nodeOf, nameRecord, nameRecords, textsOf, namesOf, nameOf, printable, textStands, roleStands, roleOf, allows, safe, brokenName, unsafeName, isStatement, isSpanless, isExpression, argBelow, countStands, nodeStands, brokenNode, belongs, lands, nests, badlyNested, tooDeepNode, headStands, countsStand, offsetsStand, imageFault};
 ghost use Rattle.meaning.specs.Base.{_and_, _or_, if_then_else_, all, isOneOf};
 ghost use Rattle.meaning.proofs.Faults.{Headed};
 ghost use Rattle.image.specs.Outcome.{faultOf, placeOf};

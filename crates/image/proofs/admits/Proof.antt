@@ -1,10 +1,9 @@
+-- The answers stand by name in answers/admits.txt.
 use Rattle.image.proofs.Choosing.{allows-p, allows-range, allows-all, allows-none}
 use Rattle.image.specs.Parts.{nameMeans}
 use Rattle.meaning.specs.Base.{_and_}
-use borrow.Author.Tests.{eq-eqb, ne-eqb, le-leb, lt-leb, not-true, not-false}
-use mathlib.Core.Path.{_≡_, sym, ap, _∙_}
-use native.Mathlib.Omega.{arith}
-use borrow.Author.Needs.{needs}
+use borrow.Author.Tests.{le-leb, lt-leb}
+use mathlib.Core.Path.{sym}
 use Rattle.image.proofs.admits.Statement.{statement}
 use Rattle.image.proofs.admits.Tie as tie
 use Rattle.image.proofs.admits.Reads as reads

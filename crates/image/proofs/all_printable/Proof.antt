@@ -1,9 +1,10 @@
-use Prim.Native.Nat.{_+_, _-_, _≤_}
+-- The answers stand by name in answers/all_printable.txt.
+use Prim.Native.Nat.{_-_, _≤_}
 use lib.ListN.{length, drop}
 use Rattle.meaning.specs.Image.{printable}
 use Rattle.meaning.specs.Base.{all}
 use Rattle.image.proofs.Searches.{all-end, all-fails, all-next, unprinted-low, unprinted-high, printed}
-use mathlib.Core.Path.{_≡_, refl, sym, ap, _∙_}
+use mathlib.Core.Path.{_≡_, sym, _∙_}
 use native.Mathlib.Omega.{arith}
 use borrow.Author.Needs.{needs}
 use Rattle.image.proofs.all_printable.Statement.{statement}
@@ -11,6 +12,7 @@ use Rattle.image.proofs.all_printable.Tie as tie
 use Rattle.image.proofs.all_printable.Reads as reads
 use Rattle.image.proofs.all_printable.Lts as lts
 
+-- what is left of the text answers what all of it answers
 abbrev Inv-loop : tie.InvT-loop
 Inv-loop s i₀ i = (i ≤ length s) × (all printable (drop i s) ≡ all printable s)
 

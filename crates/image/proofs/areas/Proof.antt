@@ -1,5 +1,5 @@
+-- The answers stand by name in answers/areas.txt.
 use Rattle.meaning.specs.Image.{nameCount, nodeCount, textCount, nodesFrom, textsFrom, total}
-use native.Mathlib.Omega.{arith}
 use borrow.Author.Needs.{needs}
 use Rattle.image.proofs.areas.Statement.{statement}
 use Rattle.image.proofs.areas.Tie as tie

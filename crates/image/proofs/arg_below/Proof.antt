@@ -1,7 +1,7 @@
+-- The answers stand by name in answers/arg_below.txt.
 use Rattle.image.proofs.Choosing.{arg-name, arg-bound, arg-fixed, arg-unused}
-use mathlib.Core.Path.{_≡_, sym, ap, _∙_}
+use mathlib.Core.Path.{sym}
 use native.Mathlib.Omega.{arith}
-use borrow.Author.Needs.{needs}
 use Rattle.image.proofs.arg_below.Statement.{statement}
 use Rattle.image.proofs.arg_below.Tie as tie
 use Rattle.image.proofs.arg_below.Reads as reads

@@ -1,10 +1,11 @@
+-- The answers stand by name in answers/badly_nested.txt.
 use Rattle.image.proofs.Searches.{first-end, first-fails, first-next}
 use Rattle.image.proofs.Records.{nodes-many}
 use Rattle.meaning.specs.Image.{nodeOf, nodesOf, nests, firstNot, badlyNested}
-use Prim.Native.Nat.{_+_, _-_, _≤_, _<_}
+use Prim.Native.Nat.{_-_, _≤_, _<_}
 use lib.ListN.{length, drop}
-use borrow.Author.Tests.{eq-eqb, ne-eqb, lt-ltb, le-ltb, not-true, not-false}
-use mathlib.Core.Path.{_≡_, sym, ap, _∙_}
+use borrow.Author.Tests.{not-true, not-false}
+use mathlib.Core.Path.{_≡_, sym, _∙_}
 use native.Mathlib.Omega.{arith}
 use borrow.Author.Needs.{needs}
 use Rattle.image.proofs.badly_nested.Statement.{statement}
@@ -13,6 +14,7 @@ use Rattle.image.proofs.badly_nested.Reads as reads
 use Rattle.image.proofs.badly_nested.Lts as lts
 use Rattle.image.proofs.nests_well.Reads as nests-well-reads
 
+-- the nodes from i on answer what all answer
 abbrev Inv-loop : tie.InvT-loop
 Inv-loop image nodes count i₀ i = (i ≤ count) × (firstNot (nests (nodesOf image)) i (drop i (nodesOf image)) ≡ badlyNested image)
 

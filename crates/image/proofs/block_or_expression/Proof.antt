@@ -1,5 +1,5 @@
+-- The answers stand by name in answers/block_or_expression.txt.
 use Rattle.meaning.specs.Base.{if_then_else_}
-use native.Mathlib.Omega.{arith}
 use borrow.Author.Needs.{needs}
 use Rattle.image.proofs.block_or_expression.Statement.{statement}
 use Rattle.image.proofs.block_or_expression.Tie as tie

@@ -1,10 +1,11 @@
+-- The answers stand by name in answers/broken_name.txt.
 use Rattle.image.proofs.Searches.{name-fits, wrong-here, wrong-next, wrong-short, wrong-end}
 use Rattle.image.proofs.Records.{records-count}
 use Rattle.image.specs.Parts.{nameMeans, nameStands}
 use Rattle.meaning.specs.Image.{NameRecord, nameRecords, wrongName, brokenName}
 use borrow.Author.Tests.{not-true, not-false}
 use lib.ListN.{length, take, drop}
-use Prim.Native.Nat.{_+_, _-_, _≤_, _<_}
+use Prim.Native.Nat.{_-_, _≤_, _<_}
 use mathlib.Core.Path.{_≡_, sym, ap, _∙_}
 use native.Mathlib.Omega.{arith}
 use borrow.Author.Needs.{needs}
@@ -15,6 +16,7 @@ use Rattle.image.proofs.broken_name.Lts as lts
 use Rattle.image.proofs.name_at.Reads as name-at-reads
 use Rattle.image.proofs.name_stands.Reads as name-stands-reads
 
+-- the records from i on, with the text before them at last..from, answer what all answer
 abbrev Inv-loop : tie.InvT-loop
 Inv-loop image texts names i₀ last₀ from₀ i last from = (i ≤ names) × (last ≤ from) × (from ≤ length texts) × (wrongName texts i from (take (from - last) (drop last texts)) (drop i (nameRecords image)) ≡ brokenName image)
 
@@ -75,13 +77,13 @@ returns-2 : tie.Need-returns-2 Inv-loop μ-loop
 returns-2 c =
     let a = c .before .before .before .before .before .args in
     let done : length (nameRecords (a .image .now)) ≤ c .before .before .loop .i = rw records-count (omega arith) in
-    sym (wrong-short (a .texts .now) (nameRecords (a .image .now)) (c .before .before .loop .i) (c .before .before .loop .from) _ done (c .if2 .taken)) ∙ c .before .before .loop .inv .3
+    sym (wrong-short (a .texts .now) (nameRecords (a .image .now)) (c .before .before .loop .i) (c .before .before .loop .from) _ done (λ e. omega arith)) ∙ c .before .before .loop .inv .3
 
 returns-3 : tie.Need-returns-3 Inv-loop μ-loop
 returns-3 c =
     let a = c .before .before .before .before .before .args in
     let done : length (nameRecords (a .image .now)) ≤ c .before .before .loop .i = rw records-count (omega arith) in
-    sym (wrong-end (a .texts .now) (nameRecords (a .image .now)) (c .before .before .loop .i) (c .before .before .loop .from) _ done (c .if2 .left)) ∙ c .before .before .loop .inv .3
+    sym (wrong-end (a .texts .now) (nameRecords (a .image .now)) (c .before .before .loop .i) (c .before .before .loop .from) _ done (omega arith)) ∙ c .before .before .loop .inv .3
 
 pub broken-name-spec : {M : Type 1} → statement M
 broken-name-spec =

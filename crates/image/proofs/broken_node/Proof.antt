@@ -1,9 +1,10 @@
+-- The answers stand by name in answers/broken_node.txt.
 use Rattle.image.proofs.Searches.{first-end, first-fails, first-next}
 use Rattle.image.proofs.Records.{nodes-many}
 use Rattle.meaning.specs.Image.{nameCount, nodeCount, nodeOf, nodesOf, nodeStands, firstNot, brokenNode}
-use Prim.Native.Nat.{_+_, _-_, _≤_, _<_}
+use Prim.Native.Nat.{_-_, _≤_, _<_}
 use lib.ListN.{length, drop}
-use borrow.Author.Tests.{eq-eqb, ne-eqb, lt-ltb, le-ltb, not-true, not-false}
+use borrow.Author.Tests.{not-true, not-false}
 use mathlib.Core.Path.{_≡_, sym, ap, _∙_}
 use native.Mathlib.Omega.{arith}
 use borrow.Author.Needs.{needs}
@@ -14,6 +15,7 @@ use Rattle.image.proofs.broken_node.Lts as lts
 use Rattle.image.proofs.node_at.Reads as node-at-reads
 use Rattle.image.proofs.node_stands.Reads as node-stands-reads
 
+-- the nodes from i on answer what all answer
 abbrev Inv-loop : tie.InvT-loop
 Inv-loop image names nodes count i₀ i = (i ≤ count) × (firstNot (nodeStands (nameCount image) (nodeCount image)) i (drop i (nodesOf image)) ≡ brokenNode image)
 

@@ -1,8 +1,8 @@
+-- The answers stand by name in answers/count_stands.txt.
 use Rattle.image.proofs.Choosing.{count-alone, count-6, count-9, count-many, count-none}
 use mathlib.Core.Logic.{⊎-elim}
-use mathlib.Core.Path.{_≡_, sym, ap, _∙_}
+use mathlib.Core.Path.{sym}
 use native.Mathlib.Omega.{arith}
-use borrow.Author.Needs.{needs}
 use Rattle.image.proofs.count_stands.Statement.{statement}
 use Rattle.image.proofs.count_stands.Tie as tie
 use Rattle.image.proofs.count_stands.Reads as reads

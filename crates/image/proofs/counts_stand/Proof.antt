@@ -1,8 +1,7 @@
+-- The answers stand by name in answers/counts_stand.txt.
 use Rattle.meaning.specs.Image.{countsStand}
 use Rattle.meaning.specs.Base.{_and_}
-use borrow.Author.Tests.{eq-eqb, ne-eqb, le-leb, lt-leb}
-use native.Mathlib.Omega.{arith}
-use borrow.Author.Needs.{needs}
+use borrow.Author.Tests.{le-leb, lt-leb}
 use Rattle.image.proofs.counts_stand.Statement.{statement}
 use Rattle.image.proofs.counts_stand.Tie as tie
 use Rattle.image.proofs.counts_stand.Reads as reads

@@ -1,9 +1,10 @@
+-- The answers stand by name in answers/has_business.txt.
 use Rattle.image.proofs.Choosing.{below-if-odd, below-if, below-loop, below-def, below-block, below-other}
 use Rattle.meaning.specs.Base.{if_then_else_}
 use Prim.Native.Nat.{_+_}
 use mathlib.Core.Logic.{⊎-elim}
-use borrow.Author.Tests.{eq-eqb, ne-eqb, lt-ltb, le-ltb, not-true, not-false}
-use mathlib.Core.Path.{_≡_, sym, ap, _∙_}
+use borrow.Author.Tests.{eq-eqb, ne-eqb}
+use mathlib.Core.Path.{sym, _∙_}
 use native.Mathlib.Omega.{arith}
 use borrow.Author.Needs.{needs}
 use Rattle.image.proofs.has_business.Statement.{statement}

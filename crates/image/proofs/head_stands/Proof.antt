@@ -1,7 +1,7 @@
+-- The answers stand by name in answers/head_stands.txt.
 use Rattle.meaning.specs.Image.{headStands, version}
 use Rattle.meaning.specs.Base.{_and_}
-use borrow.Author.Tests.{eq-eqb, ne-eqb, le-leb, lt-leb}
-use native.Mathlib.Omega.{arith}
+use borrow.Author.Tests.{le-leb, lt-leb}
 use borrow.Author.Needs.{needs}
 use Rattle.image.proofs.head_stands.Statement.{statement}
 use Rattle.image.proofs.head_stands.Tie as tie

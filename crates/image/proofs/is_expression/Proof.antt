@@ -1,7 +1,7 @@
+-- The answers stand by name in answers/is_expression.txt.
 use Rattle.image.proofs.Choosing.{in-range, below-range, above-range}
 use Rattle.meaning.specs.Image.{isExpression}
 use native.Mathlib.Omega.{arith}
-use borrow.Author.Needs.{needs}
 use Rattle.image.proofs.is_expression.Statement.{statement}
 use Rattle.image.proofs.is_expression.Tie as tie
 use Rattle.image.proofs.is_expression.Reads as reads

@@ -1,7 +1,6 @@
+-- The answers stand by name in answers/is_known.txt.
 use Rattle.image.proofs.Choosing.{known-low, known-high, unknown-low, unknown-between, unknown-high}
-use mathlib.Core.Path.{_≡_, sym, ap, _∙_}
-use native.Mathlib.Omega.{arith}
-use borrow.Author.Needs.{needs}
+use mathlib.Core.Path.{sym}
 use Rattle.image.proofs.is_known.Statement.{statement}
 use Rattle.image.proofs.is_known.Tie as tie
 use Rattle.image.proofs.is_known.Reads as reads

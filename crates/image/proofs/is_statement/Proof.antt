@@ -1,7 +1,7 @@
+-- The answers stand by name in answers/is_statement.txt.
 use Rattle.image.proofs.Choosing.{in-range, below-range, above-range}
 use Rattle.meaning.specs.Image.{isStatement}
 use native.Mathlib.Omega.{arith}
-use borrow.Author.Needs.{needs}
 use Rattle.image.proofs.is_statement.Statement.{statement}
 use Rattle.image.proofs.is_statement.Tie as tie
 use Rattle.image.proofs.is_statement.Reads as reads

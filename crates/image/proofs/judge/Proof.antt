@@ -1,8 +1,8 @@
+-- The answers stand by name in answers/judge.txt.
 use Rattle.image.proofs.Records.{head-length}
-use Rattle.meaning.proofs.Faults.{Headed, fault-1, fault-2, fault-3}
+use Rattle.meaning.proofs.Faults.{fault-1, fault-2, fault-3}
 use borrow.Author.Tests.{not-true, not-false}
 use mathlib.Core.Path.{sym, _∙_}
-use native.Mathlib.Omega.{arith}
 use borrow.Author.Needs.{needs}
 use Rattle.image.proofs.judge.Statement.{statement}
 use Rattle.image.proofs.judge.Tie as tie

@@ -1,3 +1,4 @@
+-- The answers stand by name in answers/judge_body.txt.
 use Rattle.image.proofs.Answers.{nowhere, found-at}
 use Rattle.image.proofs.Records.{text-inside}
 use Rattle.meaning.proofs.Faults.{sound, fault-4, fault-5, fault-6, fault-7, fault-8}

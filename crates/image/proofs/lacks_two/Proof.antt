@@ -1,6 +1,6 @@
+-- The answers stand by name in answers/lacks_two.txt.
 use Rattle.meaning.specs.Base.{_and_, _or_}
-use borrow.Author.Tests.{eq-eqb, ne-eqb, le-leb, lt-leb, not-true, not-false}
-use native.Mathlib.Omega.{arith}
+use borrow.Author.Tests.{not-true, not-false}
 use borrow.Author.Needs.{needs}
 use Rattle.image.proofs.lacks_two.Statement.{statement}
 use Rattle.image.proofs.lacks_two.Tie as tie

@@ -1,10 +1,11 @@
+-- The answers stand by name in answers/lands_on_end.txt.
 use Rattle.meaning.proofs.Faults.{sizes}
 use Rattle.image.proofs.Nesting.{lands-end, lands-past, lands-wrong, lands-next}
 use Rattle.image.specs.Parts.{nodeMeans}
 use Rattle.meaning.specs.Image.{Node, nodesOf, lands}
 use native.Mathlib.Numerals.{add-one}
 use Prim.Native.Nat.{suc, _≤_}
-use borrow.Author.Tests.{eq-eqb, ne-eqb, lt-ltb, le-ltb, not-true, not-false}
+use borrow.Author.Tests.{not-true, not-false}
 use mathlib.Core.Path.{_≡_, sym, ap, _∙_}
 use native.Mathlib.Omega.{arith}
 use borrow.Author.Needs.{needs}
@@ -15,6 +16,7 @@ use Rattle.image.proofs.lands_on_end.Lts as lts
 use Rattle.image.proofs.has_business.Reads as has-business-reads
 use Rattle.image.proofs.node_at.Reads as node-at-reads
 
+-- the children that are left answer what all answer
 abbrev Inv-loop : tie.InvT-loop
 Inv-loop image nodes i d at₀ left₀ at left = (left ≤ d .children) × (lands (nodesOf image) (nodeMeans d) at left ≡ lands (nodesOf image) (nodeMeans d) (suc i) (d .children))
 

@@ -1,8 +1,9 @@
+-- The answers stand by name in answers/name_stands.txt.
 use lib.ListN.{length, take, drop, length-take, length-drop}
 use mathlib.Core.Path.{_≡_}
 use Rattle.image.specs.Parts.{nameStands}
 use Rattle.meaning.specs.Base.{_and_}
-use borrow.Author.Tests.{eq-eqb, ne-eqb, le-leb, lt-leb, not-true, not-false}
+use borrow.Author.Tests.{eq-eqb, ne-eqb, not-true, not-false}
 use native.Mathlib.Omega.{arith}
 use borrow.Author.Needs.{needs}
 use Rattle.image.proofs.name_stands.Statement.{statement}

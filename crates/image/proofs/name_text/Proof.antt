@@ -1,6 +1,7 @@
+-- The answers stand by name in answers/name_text.txt.
 use Rattle.image.proofs.Records.{text-inside, text-fits, text-of}
 use Rattle.meaning.specs.Image.{NameRecord}
-use mathlib.Core.Path.{_≡_, sym, ap, _∙_}
+use mathlib.Core.Path.{sym, ap, _∙_}
 use native.Mathlib.Omega.{arith}
 use borrow.Author.Needs.{needs}
 use Rattle.image.proofs.name_text.Statement.{statement}

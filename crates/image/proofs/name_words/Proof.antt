@@ -1,6 +1,6 @@
+-- The answers stand by name in answers/name_words.txt.
 use Rattle.image.proofs.Records.{name-words}
-use mathlib.Core.Path.{_≡_, refl, sym, ap, _∙_}
-use native.Mathlib.Omega.{arith}
+use mathlib.Core.Path.{sym}
 use borrow.Author.Needs.{needs}
 use Rattle.image.proofs.name_words.Statement.{statement}
 use Rattle.image.proofs.name_words.Tie as tie

@@ -1,7 +1,7 @@
+-- The answers stand by name in answers/node_at.txt.
 use Rattle.image.proofs.Records.{node-at, node-inside}
-use mathlib.Core.Path.{_≡_, refl, sym, ap, _∙_}
+use mathlib.Core.Path.{sym, _∙_}
 use native.Mathlib.Omega.{arith}
-use borrow.Author.Needs.{needs}
 use Rattle.image.proofs.node_at.Statement.{statement}
 use Rattle.image.proofs.node_at.Tie as tie
 use Rattle.image.proofs.node_at.Reads as reads

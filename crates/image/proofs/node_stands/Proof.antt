@@ -1,7 +1,7 @@
+-- The answers stand by name in answers/node_stands.txt.
 use Rattle.meaning.specs.Image.{nodeStands}
 use Rattle.meaning.specs.Base.{_and_}
-use borrow.Author.Tests.{eq-eqb, ne-eqb, lt-ltb, le-ltb, not-true, not-false}
-use native.Mathlib.Omega.{arith}
+use borrow.Author.Tests.{lt-ltb, le-ltb, not-true, not-false}
 use borrow.Author.Needs.{needs}
 use Rattle.image.proofs.node_stands.Statement.{statement}
 use Rattle.image.proofs.node_stands.Tie as tie

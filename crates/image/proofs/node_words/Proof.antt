@@ -1,6 +1,6 @@
+-- The answers stand by name in answers/node_words.txt.
 use Rattle.image.proofs.Records.{node-words}
-use mathlib.Core.Path.{_≡_, refl, sym, ap, _∙_}
-use native.Mathlib.Omega.{arith}
+use mathlib.Core.Path.{sym}
 use borrow.Author.Needs.{needs}
 use Rattle.image.proofs.node_words.Statement.{statement}
 use Rattle.image.proofs.node_words.Tie as tie

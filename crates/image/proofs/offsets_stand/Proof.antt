@@ -1,7 +1,7 @@
+-- The answers stand by name in answers/offsets_stand.txt.
 use Rattle.meaning.specs.Image.{offsetsStand}
 use Rattle.meaning.specs.Base.{_and_}
-use borrow.Author.Tests.{eq-eqb, ne-eqb, le-leb, lt-leb}
-use native.Mathlib.Omega.{arith}
+use borrow.Author.Tests.{eq-eqb, ne-eqb}
 use borrow.Author.Needs.{needs}
 use Rattle.image.proofs.offsets_stand.Statement.{statement}
 use Rattle.image.proofs.offsets_stand.Tie as tie

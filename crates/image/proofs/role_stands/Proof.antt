@@ -1,10 +1,9 @@
+-- The answers stand by name in answers/role_stands.txt.
 use Rattle.image.specs.Parts.{nameMeans}
 use Rattle.image.proofs.Choosing.{role-unused, role-p, role-both, role-none}
 use mathlib.Core.Path.{sym}
 use Rattle.meaning.specs.Base.{_and_}
-use borrow.Author.Tests.{eq-eqb, ne-eqb, le-leb, lt-leb, not-true, not-false}
-use native.Mathlib.Omega.{arith}
-use borrow.Author.Needs.{needs}
+use borrow.Author.Tests.{eq-eqb, ne-eqb}
 use Rattle.image.proofs.role_stands.Statement.{statement}
 use Rattle.image.proofs.role_stands.Tie as tie
 use Rattle.image.proofs.role_stands.Reads as reads

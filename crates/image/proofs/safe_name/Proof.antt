@@ -1,6 +1,6 @@
+-- The answers stand by name in answers/safe_name.txt.
 use Rattle.meaning.specs.Image.{safe}
 use Rattle.meaning.specs.Base.{_and_}
-use native.Mathlib.Omega.{arith}
 use borrow.Author.Needs.{needs}
 use Rattle.image.proofs.safe_name.Statement.{statement}
 use Rattle.image.proofs.safe_name.Tie as tie

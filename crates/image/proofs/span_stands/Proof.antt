@@ -1,9 +1,9 @@
+-- The answers stand by name in answers/span_stands.txt.
 use Rattle.image.proofs.Choosing.{in-range, below-range, above-range}
 use Rattle.meaning.specs.Image.{isSpanless}
 use Rattle.meaning.specs.Base.{_and_, _or_}
-use borrow.Author.Tests.{eq-eqb, ne-eqb, lt-ltb, le-ltb, not-true, not-false}
+use borrow.Author.Tests.{eq-eqb, ne-eqb}
 use native.Mathlib.Omega.{arith}
-use borrow.Author.Needs.{needs}
 use Rattle.image.proofs.span_stands.Statement.{statement}
 use Rattle.image.proofs.span_stands.Tie as tie
 use Rattle.image.proofs.span_stands.Reads as reads

@@ -1,7 +1,7 @@
+-- The answers stand by name in answers/text_stands.txt.
 use Rattle.meaning.specs.Image.{textStands}
 use Rattle.meaning.specs.Base.{_and_}
-use borrow.Author.Tests.{eq-eqb, ne-eqb, le-leb, lt-leb, not-true, not-false}
-use native.Mathlib.Omega.{arith}
+use borrow.Author.Tests.{le-leb, lt-leb, not-true, not-false}
 use borrow.Author.Needs.{needs}
 use Rattle.image.proofs.text_stands.Statement.{statement}
 use Rattle.image.proofs.text_stands.Tie as tie

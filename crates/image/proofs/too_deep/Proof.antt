@@ -1,5 +1,6 @@
+-- The answers stand by name in answers/too_deep.txt.
 use Rattle.image.proofs.Depth.{held, Counted, held-next, counted-none, counted-next, counted-few, shallow, deep}
-use Rattle.image.proofs.Nesting.{noNode, node-stands}
+use Rattle.image.proofs.Nesting.{noNode, node-stands, stop-below}
 use Rattle.image.proofs.Searches.{first-end, first-fails, first-next}
 use Rattle.image.proofs.Records.{nodes-many}
 use Rattle.meaning.proofs.Faults.{sizes}
@@ -17,6 +18,7 @@ use Rattle.image.proofs.too_deep.Lts as lts
 use Rattle.image.proofs.node_at.Reads as node-at-reads
 use Rattle.image.proofs.wide.Reads as wide-reads
 
+-- `ends` counts the ends of the nodes before i, `around` those that end behind i; the nodes from i on answer what all answer
 abbrev Inv-loop : tie.InvT-loop
 Inv-loop image nodes count ends₀ around₀ i₀ ends around i = (i ≤ count) × Counted ends (take i (nodesOf image)) × (around ≡ held i (take i (nodesOf image))) × (firstNot (λ (j : ℕ) (d : Node). leb (depth j 0 (nodesOf image)) 64) i (drop i (nodesOf image)) ≡ tooDeepNode image)
 
@@ -30,12 +32,11 @@ loop-holds c =
 
 returns : tie.Need-returns Inv-loop μ-loop
 returns c =
-    let bs = c .before .before .before .before .args .image .now in
-    let ds = nodesOf bs in
+    let ds = nodesOf (c .before .before .before .before .args .image .now) in
     let l = c .before .before .loop in
     let inside : l .i < length ds = rw nodes-many (omega arith) in
-    let stands = node-stands bs (c .before .before .before .before .pre .1 .0) (l .i) (omega arith) in
-    sym (first-fails (λ (i : ℕ) (d : Node). leb (depth i 0 ds) 64) ds (l .i) noNode inside (deep ds (l .i) inside (stands .above) (l .inv .2) (c .if1 .taken))) ∙ l .inv .3
+    let stands = node-stands (c .before .before .before .before .args .image .now) (c .before .before .before .before .pre .1 .0) (l .i) (omega arith) in
+    sym (first-fails (λ (i : ℕ) (d : Node). leb (depth i 0 ds) 64) ds (l .i) noNode inside (deep ds (l .i) inside (stands .above) (l .inv .2) (omega arith))) ∙ l .inv .3
 
 node-at-requires : tie.Need-node-at-requires Inv-loop μ-loop
 node-at-requires c κs =
@@ -46,63 +47,28 @@ cast-stop c = search needs
 
 mul-ends : tie.Need-mul-ends Inv-loop μ-loop
 mul-ends c =
-    let bs = c .before .before .before .before .before .before .args .image .now in
-    let ds = nodesOf bs in
-    let l = c .before .before .before .before .loop in
-    let inside : l .i < length ds = rw nodes-many (omega arith) in
-    let stands = node-stands bs (c .before .before .before .before .before .before .pre .1 .0) (l .i) (omega arith) in
-    let stop = ap (λ (n : Node). n .stop) (c .before .node-at .ensures) in
-    let few = sizes (c .before .before .before .before .before .before .pre .0) in
-    let fits : c .before .node-at .result .stop < 2049 = omega arith in
-    omega arith
+    omega (arith, ap (λ (n : Node). n .stop) (c .before .node-at .ensures), stop-below (c .before .before .before .before .before .before .pre .0) (c .before .before .before .before .before .before .pre .1 .0) (c .before .before .before .before .loop .i) (omega arith))
 
 array-read-ends : tie.Need-array-read-ends Inv-loop μ-loop
 array-read-ends c =
-    let bs = c .before .before .before .before .before .before .args .image .now in
-    let ds = nodesOf bs in
-    let l = c .before .before .before .before .loop in
-    let inside : l .i < length ds = rw nodes-many (omega arith) in
-    let stands = node-stands bs (c .before .before .before .before .before .before .pre .1 .0) (l .i) (omega arith) in
-    let stop = ap (λ (n : Node). n .stop) (c .before .node-at .ensures) in
-    let few = sizes (c .before .before .before .before .before .before .pre .0) in
-    let fits : c .before .node-at .result .stop < 2049 = omega arith in
-    omega arith
+    omega (arith, ap (λ (n : Node). n .stop) (c .before .node-at .ensures), stop-below (c .before .before .before .before .before .before .pre .0) (c .before .before .before .before .before .before .pre .1 .0) (c .before .before .before .before .loop .i) (omega arith))
 
 add-ends : tie.Need-add-ends Inv-loop μ-loop
 add-ends c =
-    let bs = c .before .before .before .before .before .before .args .image .now in
-    let ds = nodesOf bs in
+    let ds = nodesOf (c .before .before .before .before .before .before .args .image .now) in
     let l = c .before .before .before .before .loop in
     let inside : l .i < length ds = rw nodes-many (omega arith) in
-    let stands = node-stands bs (c .before .before .before .before .before .before .pre .1 .0) (l .i) (omega arith) in
     let stop = ap (λ (n : Node). n .stop) (c .before .node-at .ensures) in
-    let few = sizes (c .before .before .before .before .before .before .pre .0) in
-    let fits : c .before .node-at .result .stop < 2049 = omega arith in
-    omega (arith, counted-few ds (l .i) inside (l .ends) (l .inv .1) (c .before .node-at .result .stop) stop fits)
+    let fits : c .before .node-at .result .stop < 2049 = rw stop (stop-below (c .before .before .before .before .before .before .pre .0) (c .before .before .before .before .before .before .pre .1 .0) (l .i) (omega arith)) in
+    omega (arith, counted-few ds (l .i) inside (l .ends) (l .inv .1) (c .before .node-at .result .stop) stop fits, sizes (c .before .before .before .before .before .before .pre .0))
 
 mul-ends-2 : tie.Need-mul-ends-2 Inv-loop μ-loop
 mul-ends-2 c =
-    let bs = c .before .before .before .before .before .before .args .image .now in
-    let ds = nodesOf bs in
-    let l = c .before .before .before .before .loop in
-    let inside : l .i < length ds = rw nodes-many (omega arith) in
-    let stands = node-stands bs (c .before .before .before .before .before .before .pre .1 .0) (l .i) (omega arith) in
-    let stop = ap (λ (n : Node). n .stop) (c .before .node-at .ensures) in
-    let few = sizes (c .before .before .before .before .before .before .pre .0) in
-    let fits : c .before .node-at .result .stop < 2049 = omega arith in
-    omega arith
+    omega (arith, ap (λ (n : Node). n .stop) (c .before .node-at .ensures), stop-below (c .before .before .before .before .before .before .pre .0) (c .before .before .before .before .before .before .pre .1 .0) (c .before .before .before .before .loop .i) (omega arith))
 
 array-write-ends : tie.Need-array-write-ends Inv-loop μ-loop
 array-write-ends c =
-    let bs = c .before .before .before .before .before .before .args .image .now in
-    let ds = nodesOf bs in
-    let l = c .before .before .before .before .loop in
-    let inside : l .i < length ds = rw nodes-many (omega arith) in
-    let stands = node-stands bs (c .before .before .before .before .before .before .pre .1 .0) (l .i) (omega arith) in
-    let stop = ap (λ (n : Node). n .stop) (c .before .node-at .ensures) in
-    let few = sizes (c .before .before .before .before .before .before .pre .0) in
-    let fits : c .before .node-at .result .stop < 2049 = omega arith in
-    omega arith
+    omega (arith, ap (λ (n : Node). n .stop) (c .before .node-at .ensures), stop-below (c .before .before .before .before .before .before .pre .0) (c .before .before .before .before .before .before .pre .1 .0) (c .before .before .before .before .loop .i) (omega arith))
 
 add-i : tie.Need-add-i Inv-loop μ-loop
 add-i c = search needs
@@ -124,16 +90,14 @@ wide-requires c κs =
 
 sub-around : tie.Need-sub-around Inv-loop μ-loop
 sub-around c =
-    let bs = c .before .before .before .before .before .before .before .args .image .now in
-    let ds = nodesOf bs in
+    let ds = nodesOf (c .before .before .before .before .before .before .before .args .image .now) in
     let l = c .before .before .before .before .before .loop in
     let inside : l .i < length ds = rw nodes-many (omega arith) in
-    let stands = node-stands bs (c .before .before .before .before .before .before .before .pre .1 .0) (l .i) (omega arith) in
+    let stands = node-stands (c .before .before .before .before .before .before .before .args .image .now) (c .before .before .before .before .before .before .before .pre .1 .0) (l .i) (omega arith) in
     let stop = ap (λ (n : Node). n .stop) (c .before .before .node-at .ensures) in
-    let few = sizes (c .before .before .before .before .before .before .before .pre .0) in
-    let fits : c .before .before .node-at .result .stop < 2049 = omega arith in
+    let fits : c .before .before .node-at .result .stop < 2049 = rw stop (stop-below (c .before .before .before .before .before .before .before .pre .0) (c .before .before .before .before .before .before .before .pre .1 .0) (l .i) (omega arith)) in
     let next = counted-next ds (l .i) inside (l .ends) (l .inv .1) (c .before .before .node-at .result .stop) stop fits in
-    let closed = next .each (l .i + 1) (omega arith) in
+    let closed = next .each (l .i + 1) (omega (arith, sizes (c .before .before .before .before .before .before .before .pre .0))) in
     let further = held-next ds (l .i) inside (stands .above) in
     omega (arith, c .wide .ensures)
 
@@ -142,21 +106,19 @@ loop-less c = search needs
 
 loop-again : tie.Need-loop-again Inv-loop μ-loop
 loop-again c =
-    let bs = c .before .before .before .before .before .before .before .args .image .now in
-    let ds = nodesOf bs in
+    let ds = nodesOf (c .before .before .before .before .before .before .before .args .image .now) in
     let l = c .before .before .before .before .before .loop in
     let inside : l .i < length ds = rw nodes-many (omega arith) in
-    let stands = node-stands bs (c .before .before .before .before .before .before .before .pre .1 .0) (l .i) (omega arith) in
+    let stands = node-stands (c .before .before .before .before .before .before .before .args .image .now) (c .before .before .before .before .before .before .before .pre .1 .0) (l .i) (omega arith) in
     let stop = ap (λ (n : Node). n .stop) (c .before .before .node-at .ensures) in
-    let few = sizes (c .before .before .before .before .before .before .before .pre .0) in
-    let fits : c .before .before .node-at .result .stop < 2049 = omega arith in
+    let fits : c .before .before .node-at .result .stop < 2049 = rw stop (stop-below (c .before .before .before .before .before .before .before .pre .0) (c .before .before .before .before .before .before .before .pre .1 .0) (l .i) (omega arith)) in
     let next = counted-next ds (l .i) inside (l .ends) (l .inv .1) (c .before .before .node-at .result .stop) stop fits in
-    let closed = next .each (l .i + 1) (omega arith) in
+    let closed = next .each (l .i + 1) (omega (arith, sizes (c .before .before .before .before .before .before .before .pre .0))) in
     let further = held-next ds (l .i) inside (stands .above) in (
       omega arith,
       next,
       omega (arith, c .wide .ensures),
-      sym (first-next (λ (i : ℕ) (d : Node). leb (depth i 0 ds) 64) ds (l .i) noNode inside (shallow ds (l .i) inside (stands .above) (l .inv .2) (c .before .before .before .if1 .left))) ∙ l .inv .3,
+      sym (first-next (λ (i : ℕ) (d : Node). leb (depth i 0 ds) 64) ds (l .i) noNode inside (shallow ds (l .i) inside (stands .above) (l .inv .2) (omega arith))) ∙ l .inv .3,
     )
 
 returns-2 : tie.Need-returns-2 Inv-loop μ-loop

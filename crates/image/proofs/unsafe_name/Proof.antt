@@ -1,9 +1,10 @@
+-- The answers stand by name in answers/unsafe_name.txt.
 use Rattle.image.proofs.Searches.{first-end, first-fails, first-next}
 use Rattle.image.proofs.Records.{names-many, name-is}
 use Rattle.meaning.specs.Image.{Name, nameOf, namesOf, safe, firstNot, unsafeName}
-use Prim.Native.Nat.{ℕ, _+_, _-_, _≤_, _<_}
+use Prim.Native.Nat.{ℕ, _-_, _≤_, _<_}
 use lib.ListN.{length, drop}
-use borrow.Author.Tests.{eq-eqb, ne-eqb, le-leb, lt-leb, not-true, not-false}
+use borrow.Author.Tests.{not-true, not-false}
 use mathlib.Core.Path.{_≡_, sym, ap, _∙_}
 use native.Mathlib.Omega.{arith}
 use borrow.Author.Needs.{needs}
@@ -15,6 +16,7 @@ use Rattle.image.proofs.name_at.Reads as name-at-reads
 use Rattle.image.proofs.name_text.Reads as name-text-reads
 use Rattle.image.proofs.safe_name.Reads as safe-name-reads
 
+-- the names from k on answer what all answer
 abbrev Inv-loop : tie.InvT-loop
 Inv-loop image texts names k₀ k = (k ≤ names) × (firstNot (λ (i : ℕ) (w : Name). safe w) k (drop k (namesOf image)) ≡ unsafeName image)
 

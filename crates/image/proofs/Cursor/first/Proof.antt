@@ -1,8 +1,7 @@
+-- The answers stand by name in answers/Cursor/first.txt.
 use Rattle.image.proofs.Records.{head-long}
 use Rattle.meaning.proofs.Faults.{sizes}
 use mathlib.Core.Path.{refl}
-use native.Mathlib.Omega.{arith}
-use borrow.Author.Needs.{needs}
 use Rattle.image.proofs.Cursor.first.Statement.{statement}
 use Rattle.image.proofs.Cursor.first.Tie as tie
 use Rattle.image.proofs.Cursor.first.Reads as reads

@@ -1,3 +1,4 @@
+-- The answers stand by name in answers/Cursor/next.txt.
 use Rattle.meaning.proofs.Faults.{sizes}
 use native.Mathlib.Omega.{arith}
 use borrow.Author.Needs.{needs}

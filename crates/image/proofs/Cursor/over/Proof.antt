@@ -1,6 +1,6 @@
+-- The answers stand by name in answers/Cursor/over.txt.
 use Rattle.meaning.specs.Image.{Node}
 use mathlib.Core.Path.{ap}
-use native.Mathlib.Omega.{arith}
 use borrow.Author.Needs.{needs}
 use Rattle.image.proofs.Cursor.over.Statement.{statement}
 use Rattle.image.proofs.Cursor.over.Tie as tie
