@@ -16,7 +16,7 @@ use words::same;
 use words::text;
 
 // What a search over names or nodes found: the first that fails, or none.
-pub enum Found {
+enum Found {
     At(usize),
     Nowhere,
 }
