@@ -13,33 +13,9 @@ use Rattle.meaning.specs.Base.{_and_, _or_}
 use Rattle.meaning.specs.Image.{Node, nameCount, nodeCount, nodesOf, nodeOf, isStatement, isSpanless, isExpression, argBelow, countStands, nodeStands, belongs, lands, brokenNode}
 use Rattle.meaning.proofs.Choices.{and-left, and-right, none-failing}
 use Rattle.meaning.proofs.Faults.{Headed, sizes}
-use Rattle.image.proofs.Records.{nodes-many}
+use Rattle.meaning.proofs.Nesting.{Stands, stands, nodes-many}
 
--- ---- node i of M, with N names, shows nothing wrong
-
-pub record Stands (N M i : ℕ) (d : Node) : Type 0 where
-  pub known : (isStatement (d .kind) or isSpanless (d .kind) or isExpression (d .kind)) ≡ true
-  pub arg : d .arg < argBelow N (d .kind)
-  pub count : countStands (d .kind) (d .children) ≡ true
-  pub span : (not (isSpanless (d .kind)) or eqb (d .spanStart) 0 and eqb (d .spanEnd) 0) ≡ true
-  pub above : i < d .stop
-  pub within : d .stop ≤ M
-
-pub stands : {N M i : ℕ} {d : Node} → nodeStands N M i d ≡ true → Stands N M i d
-unfolding nodeStands
-stands e =
-    let a = and-left _ _ e in
-    let b = and-left _ _ a in
-    let c = and-left _ _ b in
-    let f = and-left _ _ c in
-    record {
-      known = and-left _ _ f;
-      arg = ltb-true _ _ (and-right _ _ f);
-      count = and-right _ _ c;
-      span = and-right _ _ b;
-      above = ltb-true _ _ (and-right _ _ a);
-      within = leb-true _ _ (and-right _ _ e);
-    }
+-- ---- one node
 
 abbrev pub noNode : Node
 noNode = record { kind = 0; arg = 0; children = 0; stop = 0; spanStart = 0; spanEnd = 0 }

@@ -53,10 +53,6 @@ pub node-at : (bs : List ℕ) (i : ℕ) → i < nodeCount bs → nodeOf (nodesOf
 unfolding nodeOf nodesOf
 node-at bs i h = record-at node 24 (nodeCount bs) (nodesFrom bs) bs i _ h
 
-pub nodes-many : (bs : List ℕ) → length (nodesOf bs) ≡ nodeCount bs
-unfolding nodesOf
-nodes-many bs = records-many node 24 (nodeCount bs) (drop (nodesFrom bs) bs)
-
 -- ---- names
 
 pub records-count : (bs : List ℕ) → length (nameRecords bs) ≡ nameCount bs

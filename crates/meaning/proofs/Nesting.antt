@@ -1,7 +1,7 @@
 -- What the nodes of a sound image obey: each stands by itself, its children lie inside it in order, its subtree ends where its record
 -- says, and a child lies deeper than its parent.
 use mathlib.Core.Path.{_≡_, refl, _∙_, ap, sym}
-use mathlib.Core.Bool.{Bool, true, false}
+use mathlib.Core.Bool.{Bool, true, false, not}
 use mathlib.Core.List.{List, [], _∷_}
 use Prim.Native.Nat.{ℕ, zero, suc, _+_, _-_, _≤_, _<_}
 use native.Mathlib.Nat.{zero-add}
@@ -46,18 +46,24 @@ pub record Stands (N M i : ℕ) (d : Node) : Type 0 where
   pub known : (isStatement (d .kind) or isSpanless (d .kind) or isExpression (d .kind)) ≡ true
   pub arg : d .arg < argBelow N (d .kind)
   pub count : countStands (d .kind) (d .children) ≡ true
-  pub forward : i < d .stop
+  pub span : (not (isSpanless (d .kind)) or eqb (d .spanStart) 0 and eqb (d .spanEnd) 0) ≡ true
+  pub above : i < d .stop
   pub within : d .stop ≤ M
 
-pub stands : (N M i : ℕ) (d : Node) → nodeStands N M i d ≡ true → Stands N M i d
+pub stands : {N M i : ℕ} {d : Node} → nodeStands N M i d ≡ true → Stands N M i d
 unfolding nodeStands
-stands N M i d h =
+stands e =
+    let a = and-left _ _ e in
+    let b = and-left _ _ a in
+    let c = and-left _ _ b in
+    let f = and-left _ _ c in
     record {
-      known = and-left _ _ (and-left _ _ (and-left _ _ (and-left _ _ (and-left _ _ h))));
-      arg = ltb-true (d .arg) (argBelow N (d .kind)) (and-right _ _ (and-left _ _ (and-left _ _ (and-left _ _ (and-left _ _ h)))));
-      count = and-right _ _ (and-left _ _ (and-left _ _ (and-left _ _ h)));
-      forward = ltb-true i (d .stop) (and-right _ _ (and-left _ _ h));
-      within = leb-true (d .stop) M (and-right _ _ h);
+      known = and-left _ _ f;
+      arg = ltb-true _ _ (and-right _ _ f);
+      count = and-right _ _ c;
+      span = and-right _ _ b;
+      above = ltb-true _ _ (and-right _ _ a);
+      within = leb-true _ _ (and-right _ _ e);
     }
 
 -- ---- a node's children: the last n of node d's start at i
@@ -99,7 +105,7 @@ children-past (suc n) i c = children-past n _ (child c .rest)
 
 module _ {N : ℕ} {ds : List Node} (sound : Nested N ds) where
   pub node-stands : (i : ℕ) → i < length ds → Stands N (length ds) i (nodeOf ds i)
-  node-stands i h = stands N (length ds) i (nodeOf ds i) (sound .each-stands i h)
+  node-stands i h = stands (sound .each-stands i h)
 
   pub children : (i : ℕ) → i < length ds → Children ds (nodeOf ds i) (suc i) (nodeOf ds i .children)
   unfolding nests
@@ -120,7 +126,7 @@ module _ {N : ℕ} {ds : List Node} (sound : Nested N ds) where
   from-child i j ih d (suc n) c l k m a b =
       let r = child k in
       let e : stopOf ds c ≤ d .stop = children-le n (r .rest) in
-      let f : c < stopOf ds c = node-stands c (omega arith) .forward in
+      let f : c < stopOf ds c = node-stands c (omega arith) .above in
       elim (decLt i (stopOf ds c)) [
         | yes p ↦ elim (decLt c i) [
           | yes q ↦ omega (arith, ih c l q p, e)
@@ -202,7 +208,7 @@ deeper {N} {ds} s i c l m b =
     let top = node-stands s i m .within in
     one-more i c l 0 ds
     (holds-from i c l 0 ds none (λ j h a k. elim (decLt j i) [ yes p ↦ omega (arith, within s j i p h k) | no p ↦ let e : j ≡ i = omega arith in rw e b ]))
-    (own-from i c l 0 ds none (λ j h e. omega (arith, node-stands s j h .forward)))
+    (own-from i c l 0 ds none (λ j h e. omega (arith, node-stands s j h .above)))
     (omega arith) (omega arith)
 
 -- ---- and a child lies exactly one deeper
@@ -217,7 +223,7 @@ between-first i = record { ended = λ j a b. absurd (omega arith) }
 pub between-next : {N : ℕ} {ds : List Node} → Nested N ds → (i c : ℕ) → c < length ds → Between ds i c → Between ds i (stopOf ds c)
 unfolding stopOf
 between-next {N} {ds} s i c h b =
-    let f = node-stands s c h .forward in
+    let f = node-stands s c h .above in
     record {
       ended = λ j p q. elim (decLt j c) [
         | yes l ↦ omega (arith, b .ended j p l)

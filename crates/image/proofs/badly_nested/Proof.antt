@@ -1,6 +1,6 @@
 -- The answers stand by name in answers/badly_nested.txt.
 use Rattle.image.proofs.Searches.{first-end, first-fails, first-next}
-use Rattle.image.proofs.Records.{nodes-many}
+use Rattle.meaning.proofs.Nesting.{nodes-many}
 use Rattle.meaning.specs.Image.{nodeOf, nodesOf, nests, firstNot, badlyNested}
 use Prim.Native.Nat.{_-_, _≤_, _<_}
 use lib.ListN.{length, drop}

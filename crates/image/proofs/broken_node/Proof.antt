@@ -1,6 +1,6 @@
 -- The answers stand by name in answers/broken_node.txt.
 use Rattle.image.proofs.Searches.{first-end, first-fails, first-next}
-use Rattle.image.proofs.Records.{nodes-many}
+use Rattle.meaning.proofs.Nesting.{nodes-many}
 use Rattle.meaning.specs.Image.{nameCount, nodeCount, nodeOf, nodesOf, nodeStands, firstNot, brokenNode}
 use Prim.Native.Nat.{_-_, _≤_, _<_}
 use lib.ListN.{length, drop}

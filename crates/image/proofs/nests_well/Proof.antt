@@ -1,6 +1,6 @@
 -- The answers stand by name in answers/nests_well.txt.
 use Rattle.image.proofs.Nesting.{node-stands}
-use Rattle.image.proofs.Records.{nodes-many}
+use Rattle.meaning.proofs.Nesting.{nodes-many}
 use Rattle.meaning.specs.Image.{Node, nests}
 use Rattle.meaning.specs.Base.{_and_, _or_}
 use borrow.Author.Tests.{eq-eqb, ne-eqb, lt-ltb, le-ltb, not-true, not-false}

@@ -2,7 +2,7 @@
 use Rattle.image.proofs.Depth.{held, Counted, held-next, counted-none, counted-next, counted-few, shallow, deep}
 use Rattle.image.proofs.Nesting.{noNode, node-stands, stop-below}
 use Rattle.image.proofs.Searches.{first-end, first-fails, first-next}
-use Rattle.image.proofs.Records.{nodes-many}
+use Rattle.meaning.proofs.Nesting.{nodes-many}
 use Rattle.meaning.proofs.Faults.{sizes}
 use Rattle.meaning.specs.Image.{Node, nodesOf, depth, firstNot, tooDeepNode}
 use lib.ListN.{length, take, drop}
