@@ -16,7 +16,7 @@ use std::fs;
 use std::path::{Path, PathBuf};
 
 /// Where T lies if PYHYEON_SRC does not say, seen from this folder.
-const DEFAULT_SOURCE: &str = "../../shared/docs/src";
+const DEFAULT_SOURCE: &str = "../../pyhyeon";
 
 /// The texts at commit 1add17642f, by path below the checkout, with their SHA-256.
 const TYPECHECK: (&str, &str) =

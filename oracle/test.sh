@@ -17,7 +17,7 @@ cargo build --release --quiet
 oracle=target/release/oracle
 
 say "an altered T fails the build"
-source=${PYHYEON_SRC:-../../shared/docs/src}
+source=${PYHYEON_SRC:-../../pyhyeon}
 for path in semantic/typecheck.rs parser/ast.rs vm/type_def.rs builtins.rs; do
     rm -rf "$scratch/altered"
     mkdir -p "$scratch/altered/src/semantic" "$scratch/altered/src/parser" "$scratch/altered/src/vm"
