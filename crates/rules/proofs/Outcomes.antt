@@ -54,39 +54,41 @@ module _ {ws : List Name} {t : Tab} {r : Checked} (n c number a b : ℕ) where
     below = λ z. h;
     first = λ l. absurd (omega (arith, names-none e));
     second = λ l. absurd (omega (arith, names-none e));
+    small = λ z. absurd (z e);
   }
 
-  pub refuses : (c ≡ 0 → ⊥) → (1 ≤ typesNamed c → a < t.n) → (2 ≤ typesNamed c → b < t.n)
+  pub refuses : (c ≡ 0 → ⊥) → (1 ≤ typesNamed c → a < t.n) → (2 ≤ typesNamed c → b < t.n) → (typesNamed c ≡ 0 → (a < 4294967296) × (b < 4294967296))
       → r ≡ refused (refusal c n (pieces ws t c a b)) → Decides ws t r c n number a b
-  refuses z ha hb s = record {
+  refuses z ha hb hs s = record {
     says = s ∙ sym (was-refused ws t c n number a b z);
     below = λ e. absurd (z e);
     first = ha;
     second = hb;
+    small = λ z. hs;
   }
 
   pub refuses-one : typesNamed c ≡ 1 → a < t.n → r ≡ refused (refusal c n (aType (denote t a) ∷ [])) → Decides ws t r c n number a b
   refuses-one k h s =
-      refuses (names-code c (omega arith)) (λ l. h) (λ l. absurd (omega arith))
+      refuses (names-code c (omega arith)) (λ l. h) (λ l. absurd (omega arith)) (λ l. absurd (omega arith))
       (s ∙ ap (λ ps. refused (refusal c n ps)) (sym (one-piece ws t c a b k)))
 
   pub refuses-two : typesNamed c ≡ 2 → a < t.n → b < t.n → r ≡ refused (refusal c n (aType (denote t a) ∷ aType (denote t b) ∷ []))
       → Decides ws t r c n number a b
   refuses-two k ha hb s =
-      refuses (names-code c (omega arith)) (λ l. ha) (λ l. hb)
+      refuses (names-code c (omega arith)) (λ l. ha) (λ l. hb) (λ l. absurd (omega arith))
       (s ∙ ap (λ ps. refused (refusal c n ps)) (sym (two-pieces ws t c a b k)))
 
 -- ---- counts of arguments: a is the number of the called name, and b the count
 
-module _ {ws : List Name} {t : Tab} (n number a b : ℕ) where
+module _ {ws : List Name} {t : Tab} (n number a b : ℕ) (ha : a < 4294967296) (hb : b < 4294967296) where
   -- a builtin's, code 37
   pub refuses-builtin : Decides ws t
       (refused (refusal 37 n (aText (nameOf ws a .spelling) ∷ aText (described (nameOf ws a .role)) ∷ aNumber b ∷ []))) 37 n number a b
   unfolding pieces typesNamed base-open
-  refuses-builtin = refuses n 37 number a b (λ e. absurd (omega arith)) (λ l. absurd (omega arith)) (λ l. absurd (omega arith)) refl
+  refuses-builtin = refuses n 37 number a b (λ e. absurd (omega arith)) (λ l. absurd (omega arith)) (λ l. absurd (omega arith)) (λ l. (ha, hb)) refl
 
   -- a function's, code 38
   pub refuses-function : (p : ℕ) → nameOf ws a .role ≡ takes p → Decides ws t
       (refused (refusal 38 n (aText (nameOf ws a .spelling) ∷ aNumber p ∷ aNumber b ∷ []))) 38 n number a b
   unfolding pieces typesNamed taken base-open
-  refuses-function p e = refuses n 38 number a b (λ e. absurd (omega arith)) (λ l. absurd (omega arith)) (λ l. absurd (omega arith)) (rw e)
+  refuses-function p e = refuses n 38 number a b (λ e. absurd (omega arith)) (λ l. absurd (omega arith)) (λ l. absurd (omega arith)) (λ l. (ha, hb)) (rw e)

@@ -44,9 +44,10 @@ pieces ws t c a b =
 unfoldable pub decided : List Name → Tab → ℕ → ℕ → ℕ → ℕ → ℕ → Checked
 decided ws t c n number a b = if eqb c 0 then ok (denote t number) else refused (refusal c n (pieces ws t c a b))
 
--- the decision says what r is, and its types are numbers of the table
+-- the decision says what r is, its types are numbers of the table, and its counts fit a word
 pub record Decides (ws : List Name) (t : Tab) (r : Checked) (code place number a b : ℕ) : Type 0 where
   pub says : r ≡ decided ws t code place number a b
   pub below : code ≡ 0 → number < t.n
   pub first : 1 ≤ typesNamed code → a < t.n
   pub second : 2 ≤ typesNamed code → b < t.n
+  pub small : (code ≡ 0 → ⊥) → typesNamed code ≡ 0 → (a < 4294967296) × (b < 4294967296)
