@@ -4,7 +4,7 @@ pub mod Forming
 pub mod Readers
 pub mod Answers
 mod Shapes
-mod Pieces
+pub mod Pieces
 mod Rows
 mod Growth
 mod Searching

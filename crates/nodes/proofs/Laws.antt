@@ -1,0 +1,143 @@
+-- How a node's answer is made, and what each leaf shows.
+use mathlib.Core.Path.{_≡_, refl, sym, ap, _∙_}
+use mathlib.Core.List.{List, map}
+use Prim.Native.Nat.{ℕ, zero, suc, _+_, _≤_, _<_}
+use native.Mathlib.Nat.{add-zero}
+use native.Mathlib.Omega.{arith}
+use borrow.Author.Tests.{ne-eqb}
+use lib.ListN.{length, getD, take, drop, length-take, length-drop, length-map, List·getD-map}
+use lib.Seq.{getD-take, getD-drop}
+use Rattle.meaning.specs.Base.{if_then_else_, choose, orElse}
+use Rattle.meaning.specs.Types.{Ty, unknown, plain}
+use Rattle.meaning.specs.Image.{Name}
+use Rattle.meaning.specs.Decode.{literalType}
+use Rattle.meaning.specs.Frames.{lookup}
+use Rattle.meaning.specs.Operators.{Checked, ok}
+use Rattle.types.specs.Table.{Tab, Wf, Means, Made, Grown, denote}
+use Rattle.types.specs.Steps.{Listed}
+use Rattle.types.proofs.Laws.{plain-number, unknown-number, grown-refl}
+use Rattle.frames.specs.Env.{Rows, look, slot, framesOf}
+use Rattle.frames.proofs.Laws.{find-look, look-le}
+use Rattle.rules.specs.Outcome.{Decides}
+use Rattle.rules.proofs.Outcomes.{names-none, was-ok, was-refused}
+use Rattle.nodes.specs.Giving.{Given}
+use Rattle.nodes.specs.Operands.{literalNumber, Variable}
+use Rattle.nodes.specs.Planning.{lookedAt}
+
+-- ---- what a node gives
+
+-- a decision at a node
+pub decides-given : {ws : List Name} {r : Checked} {t : Tab} {code place number a b : ℕ} (spent M : ℕ) → Wf t → place < M
+    → Decides ws t r code place number a b → Given ws r t t spent M code place number a b
+decides-given {ws} {r} {t} {code} {place} {number} {a} {b} spent M w h d = record {
+  told = record {
+    well = λ e. d .says ∙ was-ok ws t code place number a b e;
+    ill = λ z. d .says ∙ was-refused ws t code place number a b z;
+    first = d .first;
+    second = d .second;
+    small = d .small;
+    placed = λ z. h;
+  };
+  below = d .below;
+  grown = grown-refl w;
+  room = omega arith;
+  space = omega arith;
+}
+
+-- a type: code 0, whatever else stands there
+pub type-given : {ws : List Name} {r : Checked} {t u : Tab} {spent code number : ℕ} (M place a b : ℕ) → code ≡ 0 → r ≡ ok (denote u number)
+    → number < u.n → Grown t u → u.n ≤ t.n + 1 → u.m ≤ t.m + spent → Given ws r t u spent M code place number a b
+type-given M place a b e s l g n m = record {
+  told = record {
+    well = λ z. s;
+    ill = λ z. absurd (z e);
+    first = λ h. absurd (omega (arith, names-none e));
+    second = λ h. absurd (omega (arith, names-none e));
+    small = λ z. absurd (z e);
+    placed = λ z. absurd (z e);
+  };
+  below = λ z. l;
+  grown = g;
+  room = n;
+  space = m;
+}
+
+-- a type that was formed
+pub made-given : {ws : List Name} {r : Checked} {t u : Tab} {spent code number : ℕ} {ty : Ty} (M place a b : ℕ) → code ≡ 0 → r ≡ ok ty
+    → Made t u number ty spent → Given ws r t u spent M code place number a b
+made-given M place a b e s m = type-given M place a b e (s ∙ ap ok (sym (m .means))) (m .below) (m .grown) (m .room) (m .space)
+
+-- a type that the table has
+pub means-given : {ws : List Name} {r : Checked} {t : Tab} {code number : ℕ} {ty : Ty} (spent M place a b : ℕ) → code ≡ 0 → r ≡ ok ty → Wf t
+    → Means t number ty → Given ws r t t spent M code place number a b
+means-given spent M place a b e s w m =
+    type-given M place a b e (s ∙ ap ok (sym (m .means))) (m .below) (grown-refl w) (omega arith) (omega arith)
+
+-- a plain type is its own number
+pub plain-means : {t : Tab} → Wf t → (i : ℕ) → i < 8 → Means t i (plain i)
+plain-means w i h = record { below = omega (arith, w .base); means = plain-number w i h }
+
+-- ---- Literal and Variable
+
+pub literal-other : (a : ℕ) → (a ≡ 0 → ⊥) → (a ≡ 1 → ⊥) → (a ≡ 2 → ⊥) → (a ≡ 3 → ⊥) → (a ≡ 4 → ⊥) → 0 ≡ literalNumber a
+unfolding literalNumber
+literal-other zero p q r s t = absurd (p refl)
+literal-other (suc zero) p q r s t = absurd (q refl)
+literal-other (suc (suc zero)) p q r s t = absurd (r refl)
+literal-other (suc (suc (suc zero))) p q r s t = absurd (s refl)
+literal-other (suc (suc (suc (suc zero)))) p q r s t = absurd (t refl)
+literal-other (suc (suc (suc (suc (suc a))))) p q r s t = refl
+
+pub literal-means : {t : Tab} → Wf t → (a : ℕ) → a < 5 → Means t (literalNumber a) (literalType a)
+unfolding literalNumber literalType plain
+literal-means w zero h = plain-means w 2 (omega arith)
+literal-means w (suc zero) h = plain-means w 1 (omega arith)
+literal-means w (suc (suc zero)) h = plain-means w 3 (omega arith)
+literal-means w (suc (suc (suc zero))) h = plain-means w 4 (omega arith)
+literal-means w (suc (suc (suc (suc zero)))) h = plain-means w 5 (omega arith)
+literal-means w (suc (suc (suc (suc (suc a))))) h = absurd (omega arith)
+
+-- what a cell means as a type
+slot-type : {t : Tab} → Wf t → (v : ℕ) → v ≤ t.n → (r : ℕ) → (v ≡ 0 → r ≡ 0) → ((v ≡ 0 → ⊥) → suc r ≡ v) → Means t r (orElse (slot t v) unknown)
+unfolding slot orElse
+slot-type w zero h r z s = record { below = omega (arith, z refl, w .base); means = rw (z refl) (unknown-number w) }
+slot-type {t} w (suc v) h r z s =
+    let e : r ≡ v = omega (arith, s (λ q. omega arith)) in record { below = omega arith; means = ap (denote t) e }
+
+pub variable-of : {fs : Rows} {top x cell r : ℕ} → cell ≡ look fs (top + 1) x → (cell ≡ 0 → r ≡ 0) → ((cell ≡ 0 → ⊥) → suc r ≡ cell)
+    → Variable fs top x r
+unfolding lookup framesOf
+variable-of {fs} {top} {x} {cell} {r} e z s = record {
+  says = λ t w f.
+      let n : top + 1 ≡ suc top = omega arith in
+      let c : cell ≡ look fs (suc top) x = e ∙ ap (λ k. look fs k x) n in
+      rw (find-look t fs x (suc top), ← c)
+      (slot-type w cell (rw c (look-le f x (suc top) (omega (arith, f .high)))) r z s);
+}
+
+-- ---- the types on the stack
+
+module _ {t : Tab} {st : List ℕ} {sp q : ℕ} (x : Listed t st sp q) where
+  pub types-many : length (map (denote t) (take q (drop sp st))) ≡ q
+  types-many = simp (length-map, length-take, length-drop) (omega (arith, x .inside, x .long))
+
+  pub types-at : (j : ℕ) → j < q → getD (map (denote t) (take q (drop sp st))) j unknown ≡ denote t (getD st (sp + j) 0)
+  types-at j h =
+      ap (getD (map (denote t) (take q (drop sp st))) j) (sym (unknown-number (x .wf)))
+      ∙ List·getD-map (denote t) (take q (drop sp st)) j 0
+      ∙ ap (denote t) (getD-take q (drop sp st) j 0 h ∙ getD-drop sp st j 0)
+
+  pub first-type : 0 < q → getD (map (denote t) (take q (drop sp st))) 0 unknown ≡ denote t (getD st sp 0)
+  first-type h = rw add-zero at (types-at 0 h)
+
+-- ---- how many arguments a rule looks at
+
+pub looked-low : (k n : ℕ) → k < 2 → n ≡ lookedAt k n
+unfolding lookedAt choose if_then_else_
+looked-low zero n h = refl
+looked-low (suc zero) n h = refl
+looked-low (suc (suc k)) n h = absurd (omega arith)
+
+pub looked-high : (k n : ℕ) → (k ≡ 2 → ⊥) → 2 ≤ k → 1 ≡ lookedAt k n
+unfolding lookedAt choose if_then_else_
+looked-high k n d h = rw (ne-eqb k 0 (λ e. omega arith), ne-eqb k 1 (λ e. omega arith), ne-eqb k 2 d)

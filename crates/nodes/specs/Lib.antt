@@ -1,0 +1,3 @@
+pub mod Giving
+pub mod Operands
+pub mod Planning

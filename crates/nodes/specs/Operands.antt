@@ -1,0 +1,47 @@
+-- Nodes whose children are all checked before their rule looks at them: what the children's types give.
+use mathlib.Core.Path.{_≡_}
+use mathlib.Core.List.{List, [], _∷_}
+use Prim.Native.Nat.{ℕ, suc, _<_}
+use lib.ListN.{getD}
+use Rattle.meaning.specs.Base.{choose}
+use Rattle.meaning.specs.Types.{Ty, unknown, tuple, tys}
+use Rattle.meaning.specs.Image.{nodeCount, nodesFrom, nodesOf, nodeOf}
+use Rattle.meaning.specs.Image.{Node as ImageNode}
+use Rattle.meaning.specs.Decode.{unaryOf, binaryOf, stopOf}
+use Rattle.meaning.specs.Frames.{lookup}
+use Rattle.meaning.specs.Operators.{Checked, ok, unaryRule, binaryRule}
+use Rattle.meaning.specs.Rules.{indexRule}
+use Rattle.meaning.proofs.Faults.{Headed}
+use Rattle.types.specs.Table.{Tab, Wf, Means}
+use Rattle.types.specs.Steps.{Listed}
+use Rattle.frames.specs.Env.{Rows, framesOf, Fit}
+
+-- the number of a Literal's type
+unfoldable pub literalNumber : ℕ → ℕ
+literalNumber a = getD (2 ∷ 1 ∷ 3 ∷ 4 ∷ 5 ∷ []) a 0
+
+-- r is the number of a name's type, whatever the table
+pub record Variable (fs : Rows) (top x r : ℕ) : Type 0 where
+  pub says : (t : Tab) → Wf t → Fit t fs top → Means t r (lookup (framesOf t fs top) x)
+
+-- node n of kind k and arg a, whose first children are at m and o: Unary, Binary, Tuple and Index go by their children's types; what is
+-- left is Unknown (Attribute, Set, TreeSet, and a Call of what is no name)
+unfoldable pub operandRule : ℕ → ℕ → ℕ → ℕ → ℕ → List Ty → Checked
+operandRule k a n m o ts =
+    choose k (ok unknown)
+    ((22, unaryRule n (unaryOf a) (getD ts 0 unknown))
+    ∷ (23, binaryRule n (binaryOf a) (getD ts 0 unknown) (getD ts 1 unknown))
+    ∷ (28, ok (tuple (tys ts)))
+    ∷ (31, indexRule m (getD ts 0 unknown) o (getD ts 1 unknown))
+    ∷ [])
+
+-- the types of node i's children stand on the stack from sp on
+pub record Decidable (bs : List ℕ) (nodes : ℕ) (t : Tab) (st : List ℕ) (sp i : ℕ) (d : ImageNode) : Type 0 where
+  pub headed : Headed bs
+  pub nodes-at : nodes ≡ nodesFrom bs
+  pub there : i < nodeCount bs
+  pub node : d ≡ nodeOf (nodesOf bs) i
+  pub listed : Listed t st sp (d .children)
+  pub unary : d .kind ≡ 22 → (d .arg < 3) × (d .children ≡ 1)
+  pub binary : d .kind ≡ 23 → (d .arg < 14) × (d .children ≡ 2)
+  pub index : d .kind ≡ 31 → (d .children ≡ 2) × (suc i < nodeCount bs) × (stopOf (nodesOf bs) (suc i) < nodeCount bs)

@@ -1,0 +1,6 @@
+-- Callers cite Endings.
+pub mod Endings
+mod Naming
+mod Unpacking
+mod Singles
+mod Targets
