@@ -603,7 +603,7 @@ fn streams(
         stack,
         sp,
         from,
-        1,
+        1, // the first alone
         depth,
     );
     if r.code != 0 {
