@@ -1,0 +1,221 @@
+-- What is delivered is the message: a format string and what is put in are what the code says.
+use mathlib.Core.Path.{_≡_, refl, sym, ap, _∙_}
+use mathlib.Core.List.{List, [], _∷_, _++_, map}
+use Prim.Native.Nat.{ℕ, zero, suc, _+_, _<_, _≤_, max}
+use native.Mathlib.Omega.{arith}
+use native.Mathlib.Decide.{ℕ-discrete}
+use borrow.Author.Tests.{eq-eqb, ne-eqb, leb-true}
+use mathlib.Core.Bool.{Bool, true, false}
+use Prim.Native.String.{String}
+use lib.Dec.{eqb, leb}
+use lib.ListN.{length, take, drop, length-append}
+use Rattle.meaning.specs.Base.{_and_, if_then_else_, bytes, choose, decimal}
+use Rattle.meaning.proofs.Choices.{and-left, and-right}
+use Rattle.words.specs.Words.{putAt}
+use Rattle.words.proofs.Laws.{put-front, put-nil, put-part}
+use Rattle.meaning.specs.Answer.{fitting, overlaid}
+use Rattle.meaning.specs.Image.{namesOf}
+use Rattle.meaning.specs.Message.{Piece as Named, refusal, said, fill, template, message}
+use Rattle.meaning.specs.Types.{text}
+use Rattle.types.specs.Table.{Tab, denote, Wf}
+use Rattle.rules.specs.Outcome.{typesNamed, pieces}
+use Rattle.message.specs.Texts.{typeAt, Known, AllKnown}
+use Rattle.message.specs.Pieces.{one, meant, Stands, Says, nth, Ready, noTypes, oneType, twoTypes, after, filled, put-in, Spoken, Given, GivenAll}
+use Rattle.message.specs.Told.{told, Tells, Chosen}
+use Rattle.message.specs.declared.Piece.{Piece}
+use Rattle.message.specs.declared.Piece.the-variants.{Nothing, OfType, OfNumber}
+use Rattle.message.specs.declared.Pieces.{Pieces}
+use Rattle.message.proofs.Types.{type-is}
+
+-- a message does not look at the refusal's node
+pub any-node : (code n m : ℕ) (ps : List Named) → message (refusal code n ps) ≡ message (refusal code m ps)
+unfolding message
+any-node code n m ps = refl
+
+-- ---- a format string with as many gaps as there are pieces
+
+unfoldable pub gaps : List ℕ → ℕ
+gaps [] = 0
+gaps (c ∷ cs) = if eqb c 95 then gaps cs + 1 else gaps cs
+
+pub fill-is : (T : List ℕ) (k : ℕ) (ps : List Named) (f : ℕ → List ℕ) → gaps T ≡ length ps → Spoken f k (map said ps) → fill T ps ≡ filled T k f
+unfolding gaps fill filled Spoken one after if_then_else_
+fill-is [] k ps f g s = refl
+fill-is (c ∷ cs) k [] f g s =
+    elim (ℕ-discrete c 95) [
+      | yes e ↦ absurd (omega (arith, rw (eq-eqb c 95 e) at g))
+      | no e ↦ rw (ne-eqb c 95 e) (ap (λ (r : List ℕ). c ∷ r) (fill-is cs k [] f (rw (ne-eqb c 95 e) at g) s))
+    ]
+fill-is (c ∷ cs) k (p ∷ ps) f g s =
+    elim (ℕ-discrete c 95) [
+      | yes e ↦
+          let fewer : gaps cs ≡ length ps = omega (arith, rw (eq-eqb c 95 e) at g) in
+          rw (eq-eqb c 95 e, s .0, fill-is cs (k + 1) ps f fewer (s .1))
+      | no e ↦ rw (ne-eqb c 95 e) (ap (λ (r : List ℕ). c ∷ r) (fill-is cs k (p ∷ ps) f (rw (ne-eqb c 95 e) at g) s))
+    ]
+
+-- the message of a code is its format string with xs put in
+pub record Form (bs : List ℕ) (t : Tab) (code a b : ℕ) (xs : List (List ℕ)) : Type 0 where
+  pub names : List Named
+  pub says : message (refusal code 0 (pieces (namesOf bs) t code a b)) ≡ fill (bytes (template code)) names
+  pub many : gaps (bytes (template code)) ≡ length names
+  pub texts : map said names ≡ xs
+
+pub form-as : {bs : List ℕ} {t : Tab} {c code a b : ℕ} {xs : List (List ℕ)} → code ≡ c → Form bs t c a b xs → Form bs t code a b xs
+form-as e f = rw e f
+
+pub chosen : {bs : List ℕ} {t : Tab} {code a b : ℕ} {ps : Pieces} {xs : List (List ℕ)} → Form bs t code a b xs → Given bs (t .cells) ps xs → Chosen bs t code a b ps
+unfolding put-in
+chosen {bs} {t} {code} {a} {b} {ps} {xs} f g = record {
+  ready = g .ready;
+  says = f .says ∙ fill-is (bytes (template code)) 0 (f .names) _ (f .many) (rw (f .texts) (g .says));
+}
+
+-- for a number that is no code
+pub chosen-none : {bs : List ℕ} {t : Tab} {code a b : ℕ} {ps : Pieces} → template code ≡ "" → Given bs (t .cells) ps [] → Chosen bs t code a b ps
+unfolding put-in message fill filled bytes
+chosen-none e g = record { ready = g .ready; says = rw e }
+
+-- ---- the buffer for the format string
+
+pub format-fits : (d e : List ℕ) (code len : ℕ) → e ≡ putAt d 0 (bytes (template code)) → len ≡ length (bytes (template code)) → 0 + len ≤ length e
+format-fits d e code len w p =
+    let s = bytes (template code) in
+    let long : length e ≡ length (s ++ drop (length s) d) = ap length (w ∙ put-front d s) in
+    omega (arith, length-append s (drop (length s) d))
+
+pub format-is : (d e : List ℕ) (code len : ℕ) → e ≡ putAt d 0 (bytes (template code)) → len ≡ length (bytes (template code)) → take len (drop 0 e) ≡ bytes (template code)
+format-is d e code len w p = rw (w, p) (put-part d 0 (bytes (template code)) (omega arith))
+
+-- all rows have keys from n on, or up to n
+unfoldable from : ℕ → List (ℕ × String) → Bool
+from n [] = true
+from n (r ∷ rs) = leb n (r .0) and from n rs
+
+unfoldable upto : ℕ → List (ℕ × String) → Bool
+upto n [] = true
+upto n (r ∷ rs) = leb (r .0) n and upto n rs
+
+choose-low : (k n : ℕ) (rs : List (ℕ × String)) → k < n → from n rs ≡ true → choose k "" rs ≡ ""
+unfolding choose from if_then_else_
+choose-low k n [] h g = refl
+choose-low k n (r ∷ rs) h g =
+    let low = leb-true n (r .0) (and-left _ _ g) in
+    rw (ne-eqb k (r .0) (λ e. absurd (omega arith))) (choose-low k n rs h (and-right _ _ g))
+
+choose-high : (k n : ℕ) (rs : List (ℕ × String)) → n < k → upto n rs ≡ true → choose k "" rs ≡ ""
+unfolding choose upto if_then_else_
+choose-high k n [] h g = refl
+choose-high k n (r ∷ rs) h g =
+    let high = leb-true (r .0) n (and-left _ _ g) in
+    rw (ne-eqb k (r .0) (λ e. absurd (omega arith))) (choose-high k n rs h (and-right _ _ g))
+
+pub template-low : (code : ℕ) → code < 20 → template code ≡ ""
+unfolding template from _and_
+template-low code h = choose-low code 20 _ h refl
+
+pub template-high : (code : ℕ) → 50 < code → template code ≡ ""
+unfolding template upto _and_
+template-high code h = choose-high code 50 _ h refl
+
+pub no-format : (d : List ℕ) (code : ℕ) → template code ≡ "" → (d ≡ putAt d 0 (bytes (template code))) × (0 ≡ length (bytes (template code)))
+unfolding bytes
+no-format d code e = rw e (sym (put-nil d 0), refl)
+
+-- what is delivered is what is told
+pub delivered : (bs d e : List ℕ) (t : Tab) (code a b r : ℕ) (ps : Pieces) → Chosen bs t code a b ps
+    → (r ≡ length (fitting (length d) (put-in bs (t .cells) ps (bytes (template code))))) × (e ≡ overlaid (fitting (length d) (put-in bs (t .cells) ps (bytes (template code)))) d)
+    → (r ≡ length (told bs t code a b (length d))) × (e ≡ overlaid (told bs t code a b (length d)) d)
+unfolding told
+delivered bs d e t code a b r ps c h = rw (c .says) h
+
+-- ---- the codes
+
+pub past : {c : ℕ} (n : ℕ) → n ≤ c → (c ≡ n → ⊥) → n + 1 ≤ c
+past n h d = omega arith
+
+pub last : {c n : ℕ} → n ≤ c → c ≤ n → c ≡ n
+last h g = omega arith
+
+-- ---- what is put in
+
+none-known : (cs : List ℕ) → AllKnown cs 0
+none-known cs = record { most = omega arith; each = λ i h. absurd (omega arith) }
+
+-- all numbers up to one of the table
+all-known : {t : Tab} (w : Wf t) (i : ℕ) → i < t.n → AllKnown (t .cells) (i + 1)
+all-known {t} w i h = record {
+  most = omega (arith, w .room);
+  each = λ j l. record { table = t; cells-are = refl; wf = w; below = omega arith };
+}
+
+module _ {t : Tab} {code a b : ℕ} (k : Tells t code a b) where
+  pub first-below : typesNamed code ≡ 1 → a < 2056
+  first-below h = omega (arith, k .first (omega arith), k .wf .room)
+
+  pub both-below : typesNamed code ≡ 2 → (a < 2056) × (b < 2056)
+  both-below e = (omega (arith, k .first (omega arith), k .wf .room), omega (arith, k .second (omega arith), k .wf .room))
+
+  stands-one : (bs : List ℕ) (j : ℕ) → Stands bs (a + 1) (nth (oneType a) j)
+  unfolding Stands nth
+  stands-one bs zero = omega arith
+  stands-one bs (suc zero) = tt
+  stands-one bs (suc (suc j)) = tt
+
+  pub one-given : (bs : List ℕ) {ps : Pieces} → typesNamed code ≡ 1 → ps ≡ oneType a → Given bs (t .cells) ps (text (denote t a) ∷ [])
+  unfolding Spoken meant nth
+  one-given bs h e = rw e (record {
+    ready = record { each = stands-one bs; known = all-known (k .wf) a (k .first (omega arith)) };
+    says = (ap text (type-is t (t .cells) refl a (k .first (omega arith))), tt);
+  })
+
+  stands-two : (bs : List ℕ) (j : ℕ) → Stands bs (max a b + 1) (nth (twoTypes a b) j)
+  unfolding Stands nth
+  stands-two bs zero = omega arith
+  stands-two bs (suc zero) = omega arith
+  stands-two bs (suc (suc j)) = tt
+
+  pub two-given : (bs : List ℕ) {ps : Pieces} → typesNamed code ≡ 2 → ps ≡ twoTypes a b → Given bs (t .cells) ps (text (denote t a) ∷ text (denote t b) ∷ [])
+  unfolding Spoken meant nth
+  two-given bs h e =
+      let first = k .first (omega arith) in
+      let second = k .second (omega arith) in
+      rw e (record {
+        ready = record { each = stands-two bs; known = all-known (k .wf) (max a b) (omega arith) };
+        says = (ap text (type-is t (t .cells) refl a first), (ap text (type-is t (t .cells) refl b second), tt));
+      })
+
+-- pieces that name no type
+module _ {bs x y z : List ℕ} {p q r : Piece} {ps : Pieces} (e : ps ≡ noTypes p q r) (u : Says bs x p) (v : Says bs y q) (w : Says bs z r) where
+  stands-all : (j : ℕ) → Stands bs 0 (nth (noTypes p q r) j)
+  unfolding nth
+  stands-all zero = u .stands 0
+  stands-all (suc zero) = v .stands 0
+  stands-all (suc (suc j)) = w .stands 0
+
+  all-ready : (cs : List ℕ) → Ready bs cs ps
+  all-ready cs = rw e (record { each = stands-all; known = none-known cs })
+
+  pub given-three : GivenAll bs ps (x ∷ y ∷ z ∷ [])
+  unfolding Spoken nth
+  given-three = record { all = λ cs. record { ready = all-ready cs; says = rw e (u .means cs, (v .means cs, (w .means cs, tt))) } }
+
+  pub given-two : GivenAll bs ps (x ∷ y ∷ [])
+  unfolding Spoken nth
+  given-two = record { all = λ cs. record { ready = all-ready cs; says = rw e (u .means cs, (v .means cs, tt)) } }
+
+  pub given-one : GivenAll bs ps (x ∷ [])
+  unfolding Spoken nth
+  given-one = record { all = λ cs. record { ready = all-ready cs; says = rw e (u .means cs, tt) } }
+
+  pub given-none : GivenAll bs ps []
+  unfolding Spoken
+  given-none = record { all = λ cs. record { ready = all-ready cs; says = tt } }
+
+pub says-nothing : (bs : List ℕ) → Says bs [] Nothing
+unfolding Stands meant
+says-nothing bs = record { stands = λ n. tt; means = λ cs. refl }
+
+pub says-number : (bs : List ℕ) (m : ℕ) → Says bs (decimal m) (OfNumber m)
+unfolding Stands meant
+says-number bs m = record { stands = λ n. tt; means = λ cs. refl }

@@ -1,0 +1,81 @@
+-- A type's text by the kind and the parts of its record, and what the functions that measure and write it need.
+use mathlib.Core.Path.{_≡_}
+use mathlib.Core.List.{List, [], _∷_, _++_}
+use Prim.Native.Nat.{ℕ, zero, suc, _<_, _≤_, min}
+use lib.Dec.{eqb, ltb}
+use lib.ListN.{length, getD}
+use Rattle.meaning.specs.Base.{bytes, choose, if_then_else_}
+use Rattle.meaning.specs.Types.{Ty, text, part}
+use Rattle.types.specs.Table.{Tab, tab, denote, Wf}
+
+-- ---- types by number, where only the cells of the table are at hand
+
+-- what number i means: the counts tell nothing of it
+unfoldable pub typeAt : List ℕ → ℕ → Ty
+typeAt cs i = denote (tab cs (suc i) 0) i
+
+-- the cells are those of a sound table that has number i
+pub record Known (cs : List ℕ) (i : ℕ) : Type 0 where
+  pub table : Tab
+  pub cells-are : table .cells ≡ cs
+  pub wf : Wf table
+  pub below : i < table .n
+
+-- r is part j of number i: a lower number
+pub record PartAt (cs : List ℕ) (i j r : ℕ) : Type 0 where
+  pub lower : r < i
+  pub known : Known cs r
+  pub means : typeAt cs r ≡ part j (typeAt cs i)
+
+-- ---- a text: what opens it, the parts with commas between them, what closes it
+
+unfoldable pub opening : ℕ → List ℕ
+opening k =
+    bytes
+    (choose k ""
+    ((0, "Unknown")
+    ∷ (1, "Int")
+    ∷ (2, "Bool")
+    ∷ (3, "String")
+    ∷ (4, "Float")
+    ∷ (5, "NoneType")
+    ∷ (6, "Range")
+    ∷ (7, "Function")
+    ∷ (8, "List(")
+    ∷ (9, "Dict(")
+    ∷ (10, "Tuple([")
+    ∷ (11, "MapIter(")
+    ∷ (12, "FilterIter(")
+    ∷ []))
+
+unfoldable pub closing : ℕ → List ℕ
+closing k = if ltb k 8 then [] else if eqb k 10 then bytes "])" else bytes ")"
+
+-- what stands before part j
+unfoldable pub comma : ℕ → List ℕ
+comma zero = []
+comma (suc j) = bytes ", "
+
+-- the parts from j on
+unfoldable pub listed : ℕ → List Ty → List ℕ
+listed j [] = []
+listed j (t ∷ ts) = comma j ++ text t ++ listed (suc j) ts
+
+-- ---- lengths, counted up to a cap
+
+unfoldable pub clipped : ℕ → ℕ → ℕ
+clipped cap n = min n cap
+
+-- the text of number i
+unfoldable pub sizeAt : List ℕ → ℕ → ℕ → ℕ
+sizeAt cs cap i = clipped cap (length (text (typeAt cs i)))
+
+-- the lengths of the texts of all numbers below n
+pub record Sized (cs : List ℕ) (cap : ℕ) (lens : List ℕ) (n : ℕ) : Type 0 where
+  pub long : length lens ≡ 2056
+  pub each : (i : ℕ) → i < n → getD lens i 0 ≡ sizeAt cs cap i
+
+-- all numbers below n are known
+pub record AllKnown (cs : List ℕ) (n : ℕ) : Type 0 where
+  pub most : n ≤ 2056
+  pub each : (i : ℕ) → i < n → Known cs i

@@ -1,0 +1,779 @@
+// The message of a typing refusal: T's text, with types in Rust's Debug form, at the front of a lent buffer if it fits.
+ghost use mathlib.Core.Path.{_≡_};
+ghost use mathlib.Core.List.{[], _∷_, _++_};
+ghost use Prim.Native.Nat.{_+_, _<_, _≤_, max};
+ghost use lib.ListN.{length, getD};
+ghost use mathlib.Core.Option.{none};
+ghost use Rattle.meaning.specs.Answer.{fitting, overlaid};
+ghost use Rattle.meaning.specs.Base.{decimal, bytes};
+ghost use Rattle.meaning.specs.Image.{brokenName, nameRecords, namesOf, nameOf, roleOf, textCount, textsFrom};
+ghost use Rattle.meaning.specs.Rules.{described};
+ghost use Rattle.meaning.specs.Types.{text, parts};
+ghost use Rattle.meaning.proofs.Faults.{Headed};
+ghost use Rattle.image.specs.Parts.{nameMeans, recordOf};
+ghost use Rattle.rules.specs.Outcome.{taken};
+ghost use Rattle.types.specs.Table.{tab};
+ghost use Rattle.meaning.specs.Message.{template};
+ghost use Rattle.message.specs.Told.{told, Tells, Chosen};
+ghost use Rattle.words.specs.Words.{putAt};
+ghost use Rattle.message.specs.declared.Piece.the-variants.{Nothing, OfNumber};
+ghost use Rattle.message.specs.Texts.{typeAt, Known, PartAt, opening, closing, comma, clipped, sizeAt, Sized, AllKnown};
+ghost use Rattle.message.specs.Pieces.{meant, Small, CountsPiece, CountsOne, Shown, Says, GivenAll, nth, Ready, noTypes, oneType, twoTypes, one, after, put-in};
+
+mod formats;
+
+use formats::BRANCHES_DIFFER;
+use formats::BUILTIN_ARITY;
+use formats::DICT_KEY;
+use formats::FILTER_FIRST;
+use formats::FILTER_SECOND;
+use formats::FUNCTION_ARITY;
+use formats::LIST_INDEX;
+use formats::MAP_FIRST;
+use formats::MAP_SECOND;
+use formats::NO_CONDITION;
+use formats::NO_EQUALITY;
+use formats::NO_LENGTH;
+use formats::NO_ORDER;
+use formats::NO_PRODUCT;
+use formats::NO_SUBSCRIPT;
+use formats::NO_SUM;
+use formats::NO_TARGET;
+use formats::NOT_BOOL;
+use formats::NOT_ITERABLE;
+use formats::NOT_NUMBER;
+use formats::NOT_NUMBERS;
+use formats::NOT_UNPACKABLE;
+use formats::PROMPT;
+use formats::RANGE_BOUND;
+use formats::RETURNS_DIFFER;
+use formats::STRAY_BREAK;
+use formats::STRAY_CONTINUE;
+use formats::STRING_INDEX;
+use formats::TUPLE_INDEX;
+use formats::WRONG_COUNT;
+use formats::WRONG_VALUE;
+use image::NameAt;
+use image::areas;
+use image::name_at;
+use types::Counts;
+use types::count_of;
+use types::element_at;
+use types::kind_of;
+use types::part_of;
+use types::second_of;
+use words::decimal_length;
+use words::put;
+use words::put_decimal;
+use words::text as part_of_text;
+
+// What a message names: a type, a part of the image, a number, two numbers with a dash, or any count of arguments.
+enum Piece {
+    Nothing,
+    OfType(usize),
+    OfText(usize, usize),
+    OfNumber(u32),
+    OfRange(u32, u32),
+    OfAny,
+}
+
+// What a message names, in order; `types` is how many of the first types must be measured for it.
+struct Pieces {
+    first: Piece,
+    second: Piece,
+    third: Piece,
+    types: usize,
+}
+
+// ---- the parts of a type, by number
+
+// How many parts type i has: a plain type has none.
+fn parts_of(table: &[u32; 10272], i: usize) -> usize
+    requires { ⌜ Known (now table) i ⌝ }
+    ensures { λ r. ⌜ r ≡ length (parts (typeAt (now (table .entry)) i)) ⌝ }
+{
+    let kind = kind_of(table, i);
+    if kind < 8 {
+        return 0;
+    }
+    match kind {
+        9 => 2,
+        10 => count_of(table, i),
+        _ => 1,
+    }
+}
+
+// Part j of type i. Its number is lower than i: this is what all recursion over types rests on.
+fn part_at(table: &[u32; 10272], i: usize, j: usize) -> usize
+    requires { ⌜ Known (now table) i ⌝ }
+    requires { ⌜ j < length (parts (typeAt (now table) i)) ⌝ }
+    ensures { λ r. ⌜ PartAt (now (table .entry)) i j r ⌝ }
+{
+    if kind_of(table, i) == 10 {
+        return element_at(table, i, j);
+    }
+    if j == 0 {
+        return part_of(table, i);
+    }
+    second_of(table, i)
+}
+
+// ---- what stands around the parts of a type, and between them
+
+fn opening_size(kind: usize) -> usize
+    ensures { λ r. ⌜ r ≡ length (opening kind) ⌝ }
+{
+    match kind {
+        0 => 7,
+        1 => 3,
+        2 => 4,
+        3 => 6,
+        4 => 5,
+        5 => 8,
+        6 => 5,
+        7 => 8,
+        8 => 5,
+        9 => 5,
+        10 => 7,
+        11 => 8,
+        12 => 11,
+        _ => 0,
+    }
+}
+
+fn put_opening(kind: usize, out: &mut [u8], at: usize) -> usize
+    requires { ⌜ at + length (opening kind) ≤ length (now out) ⌝ }
+    ensures { λ _. ⌜ now (out .exit) ≡ putAt (now (out .entry)) at (opening kind) ⌝ }
+    ensures { λ r. ⌜ r ≡ at + length (opening kind) ⌝ }
+{
+    match kind {
+        0 => put(out, at, b"Unknown"),
+        1 => put(out, at, b"Int"),
+        2 => put(out, at, b"Bool"),
+        3 => put(out, at, b"String"),
+        4 => put(out, at, b"Float"),
+        5 => put(out, at, b"NoneType"),
+        6 => put(out, at, b"Range"),
+        7 => put(out, at, b"Function"),
+        8 => put(out, at, b"List("),
+        9 => put(out, at, b"Dict("),
+        10 => put(out, at, b"Tuple(["),
+        11 => put(out, at, b"MapIter("),
+        12 => put(out, at, b"FilterIter("),
+        _ => at,
+    }
+}
+
+fn closing_size(kind: usize) -> usize
+    ensures { λ r. ⌜ r ≡ length (closing kind) ⌝ }
+{
+    if kind < 8 {
+        return 0;
+    }
+    if kind == 10 {
+        return 2;
+    }
+    1
+}
+
+fn put_closing(kind: usize, out: &mut [u8], at: usize) -> usize
+    requires { ⌜ at + length (closing kind) ≤ length (now out) ⌝ }
+    ensures { λ _. ⌜ now (out .exit) ≡ putAt (now (out .entry)) at (closing kind) ⌝ }
+    ensures { λ r. ⌜ r ≡ at + length (closing kind) ⌝ }
+{
+    if kind < 8 {
+        return at;
+    }
+    if kind == 10 {
+        return put(out, at, b"])");
+    }
+    put(out, at, b")")
+}
+
+fn comma_size(j: usize) -> usize
+    ensures { λ r. ⌜ r ≡ length (comma j) ⌝ }
+{
+    if j == 0 {
+        return 0;
+    }
+    2
+}
+
+// Nothing stands before the first part.
+fn put_comma(j: usize, out: &mut [u8], at: usize) -> usize
+    requires { ⌜ at + length (comma j) ≤ length (now out) ⌝ }
+    ensures { λ _. ⌜ now (out .exit) ≡ putAt (now (out .entry)) at (comma j) ⌝ }
+    ensures { λ r. ⌜ r ≡ at + length (comma j) ⌝ }
+{
+    if j == 0 {
+        return at;
+    }
+    put(out, at, b", ")
+}
+
+// ---- lengths: a text may double with each type, so they are counted up to a cap only
+
+// The sum is never formed where it would pass the cap.
+fn clip(x: usize, y: usize, cap: usize) -> usize
+    requires { ⌜ x ≤ cap ⌝ }
+    ensures { λ r. ⌜ r ≡ clipped cap (x + y) ⌝ }
+{
+    if y <= cap - x {
+        return x + y;
+    }
+    cap
+}
+
+// Counted from the lengths of its parts, which have lower numbers.
+fn size_of(table: &[u32; 10272], i: usize, lens: &[usize; 2056], cap: usize) -> usize
+    requires { ⌜ Known (now table) i ⌝ }
+    requires { ⌜ Sized (now table) cap (now lens) i ⌝ }
+    ensures { λ r. ⌜ r ≡ sizeAt (now (table .entry)) cap i ⌝ }
+{
+    let kind = kind_of(table, i);
+    let many = parts_of(table, i);
+    let mut size = clip(0, opening_size(kind), cap);
+    let mut j = 0;
+    while j < many {
+        size = clip(size, comma_size(j), cap);
+        size = clip(size, lens[part_at(table, i, j)], cap);
+        j += 1;
+    }
+    clip(size, closing_size(kind), cap)
+}
+
+// The lengths of the texts of the first `types` numbers, each worked out once.
+fn measure(table: &[u32; 10272], types: usize, cap: usize, lens: &mut [usize; 2056])
+    requires { ⌜ AllKnown (now table) types ⌝ }
+    requires { ⌜ length (now lens) ≡ 2056 ⌝ }
+    ensures { λ _. ⌜ Sized (now (table .entry)) cap (now (lens .exit)) types ⌝ }
+{
+    let mut i = 0;
+    while i < types {
+        lens[i] = size_of(table, i, lens, cap);
+        i += 1;
+    }
+}
+
+// ---- a type's text
+
+// Recurs by the type's number, which falls; one frame for each type that lies around another.
+fn put_type(table: &[u32; 10272], i: usize, out: &mut [u8], at: usize) -> usize
+    requires { ⌜ Known (now table) i ⌝ }
+    requires { ⌜ at + length (text (typeAt (now table) i)) ≤ length (now out) ⌝ }
+    ensures { λ _. ⌜ now (out .exit) ≡ putAt (now (out .entry)) at (text (typeAt (now (table .entry)) i)) ⌝ }
+    ensures { λ r. ⌜ r ≡ at + length (text (typeAt (now (table .entry)) i)) ⌝ }
+{
+    let mut end = put_opening(kind_of(table, i), out, at);
+    let many = parts_of(table, i);
+    let mut j = 0;
+    while j < many {
+        end = put_comma(j, out, end);
+        end = put_type(table, part_at(table, i, j), out, end);
+        j += 1;
+    }
+    put_closing(kind_of(table, i), out, end)
+}
+
+// ---- what a message names
+
+fn one_type(a: usize) -> Pieces
+    requires { ⌜ a < 2056 ⌝ }
+    ensures { λ r. ⌜ r ≡ oneType a ⌝ }
+{
+    Pieces {
+        first: Piece::OfType(a),
+        second: Piece::Nothing,
+        third: Piece::Nothing,
+        types: a + 1,
+    }
+}
+
+fn larger(a: usize, b: usize) -> usize
+    ensures { λ r. ⌜ r ≡ max a b ⌝ }
+{
+    if a < b {
+        return b;
+    }
+    a
+}
+
+fn two_types(a: usize, b: usize) -> Pieces
+    requires { ⌜ (a < 2056) × (b < 2056) ⌝ }
+    ensures { λ r. ⌜ r ≡ twoTypes a b ⌝ }
+{
+    let most = larger(a, b);
+    Pieces {
+        first: Piece::OfType(a),
+        second: Piece::OfType(b),
+        third: Piece::Nothing,
+        types: most + 1,
+    }
+}
+
+fn no_types(first: Piece, second: Piece, third: Piece) -> Pieces
+    ensures { λ r. ⌜ r ≡ noTypes first second third ⌝ }
+{
+    Pieces {
+        first,
+        second,
+        third,
+        types: 0,
+    }
+}
+
+// A number that is no name's has the empty text and the role of a plain name.
+fn record_of(image: &[u8], a: usize) -> NameAt
+    requires { ⌜ Headed (now image) ⌝ }
+    ensures { λ r. ⌜ nameMeans r ≡ recordOf (nameRecords (now (image .entry))) a ⌝ }
+{
+    if a < areas(image).names {
+        return name_at(image, a);
+    }
+    NameAt {
+        start: 0,
+        len: 0,
+        role: 0,
+        p: 0,
+        q: 0,
+    }
+}
+
+fn spelled(image: &[u8], a: usize) -> Piece
+    requires { ⌜ Headed (now image) ⌝ }
+    requires { ⌜ brokenName (now image) ≡ none ⌝ }
+    ensures { λ r. ⌜ Says (now (image .entry)) (nameOf (namesOf (now (image .entry))) a .spelling) r ⌝ }
+{
+    let r = record_of(image, a);
+    let texts = areas(image).texts;
+    Piece::OfText(texts + r.start as usize, r.len as usize)
+}
+
+// How many arguments a builtin takes, as its refusal says it.
+fn arity(image: &[u8], a: usize) -> Piece
+    requires { ⌜ Headed (now image) ⌝ }
+    ensures { λ r. ⌜ Says (now (image .entry)) (described (nameOf (namesOf (now (image .entry))) a .role)) r ⌝ }
+{
+    let r = record_of(image, a);
+    let role = r.role;
+    match role {
+        1 => Piece::OfNumber(r.p),
+        2 => {
+            if r.p == r.q {
+                return Piece::OfNumber(r.p);
+            }
+            Piece::OfRange(r.p, r.q)
+        }
+        3 => Piece::OfAny,
+        4 => Piece::OfNumber(r.p),
+        _ => Piece::Nothing,
+    }
+}
+
+// How many arguments a function takes, and 0 for what is none.
+fn taken_by(image: &[u8], a: usize) -> Piece
+    requires { ⌜ Headed (now image) ⌝ }
+    ensures { λ r. ⌜ Says (now (image .entry)) (decimal (taken (nameOf (namesOf (now (image .entry))) a .role))) r ⌝ }
+{
+    let r = record_of(image, a);
+    if r.role == 4 {
+        return Piece::OfNumber(r.p);
+    }
+    Piece::OfNumber(0)
+}
+
+fn nothing() -> Pieces
+    ensures { λ r. ⌜ r ≡ noTypes Nothing Nothing Nothing ⌝ }
+{
+    no_types(Piece::Nothing, Piece::Nothing, Piece::Nothing)
+}
+
+fn counted(a: usize, b: usize) -> Pieces
+    requires { ⌜ (a < 4294967296) × (b < 4294967296) ⌝ }
+    ensures { λ r. ⌜ r ≡ noTypes (OfNumber a) (OfNumber b) Nothing ⌝ }
+{
+    no_types(
+        Piece::OfNumber(a as u32),
+        Piece::OfNumber(b as u32),
+        Piece::Nothing,
+    )
+}
+
+fn named(image: &[u8], a: usize) -> Pieces
+    requires { ⌜ Headed (now image) ⌝ }
+    requires { ⌜ brokenName (now image) ≡ none ⌝ }
+    ensures { λ r. ⌜ GivenAll (now (image .entry)) r (nameOf (namesOf (now (image .entry))) a .spelling ∷ []) ⌝ }
+{
+    no_types(spelled(image, a), Piece::Nothing, Piece::Nothing)
+}
+
+// A builtin with b arguments.
+fn called(image: &[u8], a: usize, b: usize) -> Pieces
+    requires { ⌜ Headed (now image) ⌝ }
+    requires { ⌜ brokenName (now image) ≡ none ⌝ }
+    requires { ⌜ b < 4294967296 ⌝ }
+    ensures { λ r. ⌜ GivenAll (now (image .entry)) r
+        (nameOf (namesOf (now (image .entry))) a .spelling
+        ∷ described (nameOf (namesOf (now (image .entry))) a .role)
+        ∷ decimal b
+        ∷ []) ⌝ }
+{
+    no_types(
+        spelled(image, a),
+        arity(image, a),
+        Piece::OfNumber(b as u32),
+    )
+}
+
+// A function with b arguments.
+fn passed(image: &[u8], a: usize, b: usize) -> Pieces
+    requires { ⌜ Headed (now image) ⌝ }
+    requires { ⌜ brokenName (now image) ≡ none ⌝ }
+    requires { ⌜ b < 4294967296 ⌝ }
+    ensures { λ r. ⌜ GivenAll (now (image .entry)) r
+        (nameOf (namesOf (now (image .entry))) a .spelling
+        ∷ decimal (taken (nameOf (namesOf (now (image .entry))) a .role))
+        ∷ decimal b
+        ∷ []) ⌝ }
+{
+    no_types(
+        spelled(image, a),
+        taken_by(image, a),
+        Piece::OfNumber(b as u32),
+    )
+}
+
+// What the message of a code names.
+fn pieces_of(
+    image: &[u8],
+    table: &[u32; 10272],
+    counts: Counts,
+    code: u32,
+    a: usize,
+    b: usize,
+) -> Pieces
+    requires { ⌜ Headed (now image) ⌝ }
+    requires { ⌜ brokenName (now image) ≡ none ⌝ }
+    requires { ⌜ Tells (tab (now table) (counts .types) (counts .elements)) code a b ⌝ }
+    ensures { λ r. ⌜ Chosen (now (image .entry)) (tab (now (table .entry)) (counts .types) (counts .elements)) code a b r ⌝ }
+{
+    match code {
+        20 => nothing(),
+        21 => nothing(),
+        22 => two_types(a, b),
+        23 => named(image, a),
+        24 => one_type(a),
+        25 => two_types(a, b),
+        26 => counted(a, b),
+        27 => one_type(a),
+        28 => nothing(),
+        29 => two_types(a, b),
+        30 => two_types(a, b),
+        31 => two_types(a, b),
+        32 => two_types(a, b),
+        33 => two_types(a, b),
+        34 => one_type(a),
+        35 => one_type(a),
+        36 => nothing(),
+        37 => called(image, a, b),
+        38 => passed(image, a, b),
+        39 => one_type(a),
+        40 => one_type(a),
+        41 => one_type(a),
+        42 => one_type(a),
+        43 => one_type(a),
+        44 => one_type(a),
+        45 => one_type(a),
+        46 => one_type(a),
+        47 => two_types(a, b),
+        48 => one_type(a),
+        49 => one_type(a),
+        50 => one_type(a),
+        _ => nothing(),
+    }
+}
+
+fn nth_of(pieces: Pieces, k: usize) -> Piece
+    ensures { λ r. ⌜ r ≡ nth pieces k ⌝ }
+{
+    if k == 0 {
+        return pieces.first;
+    }
+    if k == 1 {
+        return pieces.second;
+    }
+    pieces.third
+}
+
+// ---- a format string with its pieces put in: `_` stands for the next piece
+
+const GAP: u8 = b'_';
+
+fn next(c: u8, k: usize) -> usize
+    requires { ⌜ k < 9223372036854775808 ⌝ }
+    ensures { λ r. ⌜ r ≡ after c k ⌝ }
+{
+    if c == GAP {
+        return k + 1;
+    }
+    k
+}
+
+// Not clipped: only a type's text can be long, and that length is.
+fn piece_size(piece: Piece, lens: &[usize; 2056]) -> usize
+    requires { ⌜ Small piece ⌝ }
+    ensures { λ r. ⌜ CountsPiece (now (lens .entry)) piece r ⌝ }
+{
+    match piece {
+        Piece::Nothing => 0,
+        Piece::OfType(i) => lens[i],
+        Piece::OfText(_, len) => len,
+        Piece::OfNumber(n) => decimal_length(n),
+        Piece::OfRange(p, q) => decimal_length(p) + 1 + decimal_length(q),
+        Piece::OfAny => 3,
+    }
+}
+
+fn size_one(c: u8, piece: Piece, lens: &[usize; 2056]) -> usize
+    requires { ⌜ Small piece ⌝ }
+    ensures { λ r. ⌜ CountsOne (now (lens .entry)) c piece r ⌝ }
+{
+    if c == GAP {
+        return piece_size(piece, lens);
+    }
+    1
+}
+
+// The length of the message, up to the cap.
+fn total(
+    image: &[u8],
+    table: &[u32; 10272],
+    format: &[u8],
+    pieces: Pieces,
+    lens: &[usize; 2056],
+    cap: usize,
+) -> usize
+    requires { ⌜ Ready (now image) (now table) pieces ⌝ }
+    requires { ⌜ Sized (now table) cap (now lens) (pieces .types) ⌝ }
+    ensures { λ r. ⌜ r ≡ clipped cap (length (put-in (now (image .entry)) (now (table .entry)) pieces (now (format .entry)))) ⌝ }
+{
+    let mut size = 0;
+    let mut k = 0;
+    let mut i = 0;
+    while i < format.len() {
+        let c = format[i];
+        size = clip(size, size_one(c, nth_of(pieces, k), lens), cap);
+        k = next(c, k);
+        i += 1;
+    }
+    size
+}
+
+fn measured(image: &[u8], table: &[u32; 10272], format: &[u8], pieces: Pieces, cap: usize) -> usize
+    requires { ⌜ Ready (now image) (now table) pieces ⌝ }
+    ensures { λ r. ⌜ r ≡ clipped cap (length (put-in (now (image .entry)) (now (table .entry)) pieces (now (format .entry)))) ⌝ }
+{
+    let mut lens = [0usize; 2056];
+    measure(table, pieces.types, cap, &mut lens);
+    total(image, table, format, pieces, &lens, cap)
+}
+
+fn put_range(p: u32, q: u32, out: &mut [u8], at: usize) -> usize
+    requires { ⌜ at + length (decimal p ++ bytes "-" ++ decimal q) ≤ length (now out) ⌝ }
+    ensures { λ _. ⌜ now (out .exit) ≡ putAt (now (out .entry)) at (decimal p ++ bytes "-" ++ decimal q) ⌝ }
+    ensures { λ r. ⌜ r ≡ at + length (decimal p ++ bytes "-" ++ decimal q) ⌝ }
+{
+    let dash = put_decimal(out, at, p);
+    let second = put(out, dash, b"-");
+    put_decimal(out, second, q)
+}
+
+fn put_piece(image: &[u8], table: &[u32; 10272], piece: Piece, out: &mut [u8], at: usize) -> usize
+    requires { ⌜ Shown (now image) (now table) piece ⌝ }
+    requires { ⌜ at + length (meant (now image) (now table) piece) ≤ length (now out) ⌝ }
+    ensures { λ _. ⌜ now (out .exit) ≡ putAt (now (out .entry)) at (meant (now (image .entry)) (now (table .entry)) piece) ⌝ }
+    ensures { λ r. ⌜ r ≡ at + length (meant (now (image .entry)) (now (table .entry)) piece) ⌝ }
+{
+    match piece {
+        Piece::Nothing => at,
+        Piece::OfType(i) => put_type(table, i, out, at),
+        Piece::OfText(start, len) => put(out, at, part_of_text(image, start, len)),
+        Piece::OfNumber(n) => put_decimal(out, at, n),
+        Piece::OfRange(p, q) => put_range(p, q, out, at),
+        Piece::OfAny => put(out, at, b"any"),
+    }
+}
+
+fn put_one(
+    image: &[u8],
+    table: &[u32; 10272],
+    c: u8,
+    piece: Piece,
+    out: &mut [u8],
+    at: usize,
+) -> usize
+    requires { ⌜ Shown (now image) (now table) piece ⌝ }
+    requires { ⌜ at + length (one c (meant (now image) (now table) piece)) ≤ length (now out) ⌝ }
+    ensures { λ _. ⌜ now (out .exit) ≡ putAt (now (out .entry)) at (one c (meant (now (image .entry)) (now (table .entry)) piece)) ⌝ }
+    ensures { λ r. ⌜ r ≡ at + length (one c (meant (now (image .entry)) (now (table .entry)) piece)) ⌝ }
+{
+    if c == GAP {
+        return put_piece(image, table, piece, out, at);
+    }
+    out[at] = c;
+    at + 1
+}
+
+fn fill_in(
+    image: &[u8],
+    table: &[u32; 10272],
+    format: &[u8],
+    pieces: Pieces,
+    out: &mut [u8],
+) -> usize
+    requires { ⌜ Ready (now image) (now table) pieces ⌝ }
+    requires { ⌜ length (put-in (now image) (now table) pieces (now format)) ≤ length (now out) ⌝ }
+    ensures { λ _. ⌜ now (out .exit) ≡ putAt (now (out .entry)) 0 (put-in (now (image .entry)) (now (table .entry)) pieces (now (format .entry))) ⌝ }
+    ensures { λ r. ⌜ r ≡ length (put-in (now (image .entry)) (now (table .entry)) pieces (now (format .entry))) ⌝ }
+{
+    let mut at = 0;
+    let mut k = 0;
+    let mut i = 0;
+    while i < format.len() {
+        let c = format[i];
+        at = put_one(image, table, c, nth_of(pieces, k), out, at);
+        k = next(c, k);
+        i += 1;
+    }
+    at
+}
+
+// One more than the room is the cap: it stands for every length that does not fit.
+fn deliver(
+    image: &[u8],
+    table: &[u32; 10272],
+    format: &[u8],
+    pieces: Pieces,
+    out: &mut [u8],
+) -> usize
+    requires { ⌜ Ready (now image) (now table) pieces ⌝ }
+    ensures { λ r. ⌜ r ≡ length (fitting (length (now (out .entry))) (put-in (now (image .entry)) (now (table .entry)) pieces (now (format .entry)))) ⌝ }
+    ensures { λ _. ⌜ now (out .exit) ≡ overlaid (fitting (length (now (out .entry))) (put-in (now (image .entry)) (now (table .entry)) pieces (now (format .entry)))) (now (out .entry)) ⌝ }
+{
+    let room = out.len();
+    if room < measured(image, table, format, pieces, room + 1) {
+        return 0;
+    }
+    fill_in(image, table, format, pieces, out)
+}
+
+// 20 to 28: statements.
+fn statement_format(code: u32, buf: &mut [u8]) -> usize
+    requires { ⌜ (length (now buf) ≡ 80) × (20 ≤ code) × (code ≤ 28) ⌝ }
+    ensures { λ _. ⌜ now (buf .exit) ≡ putAt (now (buf .entry)) 0 (bytes (template code)) ⌝ }
+    ensures { λ r. ⌜ r ≡ length (bytes (template code)) ⌝ }
+{
+    match code {
+        20 => put(buf, 0, &STRAY_BREAK),
+        21 => put(buf, 0, &STRAY_CONTINUE),
+        22 => put(buf, 0, &RETURNS_DIFFER),
+        23 => put(buf, 0, &BRANCHES_DIFFER),
+        24 => put(buf, 0, &NOT_ITERABLE),
+        25 => put(buf, 0, &WRONG_VALUE),
+        26 => put(buf, 0, &WRONG_COUNT),
+        27 => put(buf, 0, &NOT_UNPACKABLE),
+        _ => put(buf, 0, &NO_TARGET),
+    }
+}
+
+// 29 to 36: operators and conditions.
+fn operator_format(code: u32, buf: &mut [u8]) -> usize
+    requires { ⌜ (length (now buf) ≡ 80) × (29 ≤ code) × (code ≤ 36) ⌝ }
+    ensures { λ _. ⌜ now (buf .exit) ≡ putAt (now (buf .entry)) 0 (bytes (template code)) ⌝ }
+    ensures { λ r. ⌜ r ≡ length (bytes (template code)) ⌝ }
+{
+    match code {
+        29 => put(buf, 0, &NO_SUM),
+        30 => put(buf, 0, &NO_PRODUCT),
+        31 => put(buf, 0, &NO_ORDER),
+        32 => put(buf, 0, &NO_EQUALITY),
+        33 => put(buf, 0, &NOT_NUMBERS),
+        34 => put(buf, 0, &NOT_NUMBER),
+        35 => put(buf, 0, &NOT_BOOL),
+        _ => put(buf, 0, &NO_CONDITION),
+    }
+}
+
+// 37 to 45: calls.
+fn call_format(code: u32, buf: &mut [u8]) -> usize
+    requires { ⌜ (length (now buf) ≡ 80) × (37 ≤ code) × (code ≤ 45) ⌝ }
+    ensures { λ _. ⌜ now (buf .exit) ≡ putAt (now (buf .entry)) 0 (bytes (template code)) ⌝ }
+    ensures { λ r. ⌜ r ≡ length (bytes (template code)) ⌝ }
+{
+    match code {
+        37 => put(buf, 0, &BUILTIN_ARITY),
+        38 => put(buf, 0, &FUNCTION_ARITY),
+        39 => put(buf, 0, &PROMPT),
+        40 => put(buf, 0, &NO_LENGTH),
+        41 => put(buf, 0, &RANGE_BOUND),
+        42 => put(buf, 0, &MAP_FIRST),
+        43 => put(buf, 0, &MAP_SECOND),
+        44 => put(buf, 0, &FILTER_FIRST),
+        _ => put(buf, 0, &FILTER_SECOND),
+    }
+}
+
+// 46 to 50: indexes.
+fn index_format(code: u32, buf: &mut [u8]) -> usize
+    requires { ⌜ (length (now buf) ≡ 80) × (46 ≤ code) × (code ≤ 50) ⌝ }
+    ensures { λ _. ⌜ now (buf .exit) ≡ putAt (now (buf .entry)) 0 (bytes (template code)) ⌝ }
+    ensures { λ r. ⌜ r ≡ length (bytes (template code)) ⌝ }
+{
+    match code {
+        46 => put(buf, 0, &LIST_INDEX),
+        47 => put(buf, 0, &DICT_KEY),
+        48 => put(buf, 0, &TUPLE_INDEX),
+        49 => put(buf, 0, &STRING_INDEX),
+        _ => put(buf, 0, &NO_SUBSCRIPT),
+    }
+}
+
+// T's format string of a code, and nothing for a number that is no code of a message.
+fn put_format(code: u32, buf: &mut [u8]) -> usize
+    requires { ⌜ length (now buf) ≡ 80 ⌝ }
+    ensures { λ _. ⌜ now (buf .exit) ≡ putAt (now (buf .entry)) 0 (bytes (template code)) ⌝ }
+    ensures { λ r. ⌜ r ≡ length (bytes (template code)) ⌝ }
+{
+    match code {
+        20..=28 => statement_format(code, buf),
+        29..=36 => operator_format(code, buf),
+        37..=45 => call_format(code, buf),
+        46..=50 => index_format(code, buf),
+        _ => 0,
+    }
+}
+
+// The message of a refusal, at the front of `out` if it fits: returns its length, or 0 and changes nothing. `a` and `b` are the
+// numbers of the types that it names; for 26 its two counts; for 23, 37 and 38 a name's number and a count.
+pub fn write(
+    image: &[u8],
+    table: &[u32; 10272],
+    counts: Counts,
+    code: u32,
+    a: usize,
+    b: usize,
+    out: &mut [u8],
+) -> usize
+    requires { ⌜ Headed (now image) ⌝ }
+    requires { ⌜ brokenName (now image) ≡ none ⌝ }
+    requires { ⌜ Tells (tab (now table) (counts .types) (counts .elements)) code a b ⌝ }
+    ensures { λ r. ⌜ r ≡ length (told (now (image .entry)) (tab (now (table .entry)) (counts .types) (counts .elements)) code a b
+        (length (now (out .entry)))) ⌝ }
+    ensures { λ _. ⌜ now (out .exit) ≡ overlaid (told (now (image .entry)) (tab (now (table .entry)) (counts .types) (counts .elements))
+        code a b (length (now (out .entry)))) (now (out .entry)) ⌝ }
+{
+    let pieces = pieces_of(image, table, counts, code, a, b);
+    let mut format = [0u8; 80];
+    let len = put_format(code, &mut format);
+    deliver(image, table, part_of_text(&format, 0, len), pieces, out)
+}

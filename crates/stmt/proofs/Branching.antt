@@ -1,0 +1,381 @@
+-- If: its branches one after the other, and the merge.
+use mathlib.Core.Path.{_≡_, refl, sym, ap, _∙_}
+use mathlib.Core.Bool.{Bool, true, false}
+use mathlib.Core.List.{List, [], _∷_, _++_}
+use mathlib.Core.Logic.{_⊎_, inl, inr, ⊎-elim}
+use mathlib.Core.Option.{Option, some, none}
+use Prim.Native.Nat.{ℕ, zero, suc, _+_, _-_, _≤_, _<_}
+use native.Mathlib.Omega.{arith}
+use native.Mathlib.Decide.{ℕ-discrete, decLt}
+use native.Mathlib.Numerals.{add-one}
+use borrow.Author.Tests.{lt-ltb, le-ltb}
+use lib.Dec.{eqb, ltb}
+use lib.ListN.{length, getD, replicate, getD-replicate, length-replicate, List·getD-eq-default}
+use Rattle.meaning.specs.Base.{_or_, if_then_else_, choose, isIn, count}
+use Rattle.meaning.specs.Types.{Ty}
+use Rattle.meaning.specs.Tree.{Expr, Stmts, Arms, Arm, on, otherwise, _or-else_, no-arms, place, firstCondition}
+use Rattle.meaning.specs.Image.{Name, plain, nameOf, nodeCount, nodesOf, nodeOf, namesOf, depth}
+use Rattle.meaning.specs.Decode.{stopOf, armsFrom, exprAt, blockAt}
+use Rattle.meaning.specs.Message.{Piece, aType, aText, aNumber, refusal}
+use Rattle.meaning.specs.Frames.{Frames}
+use Rattle.meaning.specs.Walk.{State, state, End, done, wrong, tooDeep, refuse, _>>=_, condition, act, arm, branches}
+use Rattle.meaning.proofs.Decoding.{if-at, arms-down}
+use Rattle.meaning.proofs.Faults.{Sound}
+use Rattle.types.specs.Table.{Tab, Grown, denote}
+use Rattle.frames.specs.Env.{Rows, slot, framesOf, Fit, Noted, settleName, settle, mergeEnd, Committed}
+use Rattle.frames.proofs.Laws.{frames-grown, fit-grown}
+use Rattle.frames.proofs.Merging.{Tally, tally-none, tally-grown, tally-next, merged}
+use Rattle.rules.specs.Outcome.{typesNamed, pieces}
+use Rattle.expr.specs.Contract.{Ready, At}
+use Rattle.targets.specs.Ending.{ended, Named, Left, Assigned}
+use Rattle.stmt.specs.Contract.{stateOf, acted, bodyAt, conditionAt, armBlock, armedAt, Standing, Stmt, Branch, Within, Fine, Done, Armed}
+use Rattle.stmt.proofs.Laws.{ended-done, ended-wrong, was-done, was-deep, was-wrong, too-deep, named-well, left-refl, left-trans, left-wider, left-rows, done-as, done-wider, ready-within, ready-next, place-at, wide-at, within-all, within-le, within-end, within-child, within-at, count-if}
+
+-- ---- one branch
+
+pub block-when : (bs : List ℕ) (n i : ℕ) → 1 < n → armBlock bs n i ≡ stopOf (nodesOf bs) i
+unfolding armBlock if_then_else_
+block-when bs n i p = rw (lt-ltb 1 n p)
+
+pub block-last : (bs : List ℕ) (n i : ℕ) → n ≤ 1 → armBlock bs n i ≡ i
+unfolding armBlock if_then_else_
+block-last bs n i p = rw (le-ltb 1 n p)
+
+arms-step : (bs : List ℕ) (e : ℕ → Expr) (b : ℕ → Stmts) (n i : ℕ) → 0 < n
+    → armsFrom (nodesOf bs) e b n i
+    ≡ (if ltb 1 n then on (e i) (b (stopOf (nodesOf bs) i)) else otherwise (b i)) or-else armsFrom (nodesOf bs) e b (n - 2) (stopOf (nodesOf bs) (armBlock bs n i))
+unfolding armsFrom armBlock if_then_else_
+arms-step bs e b zero i p = absurd (omega arith)
+arms-step bs e b (suc zero) i p = refl
+arms-step bs e b (suc (suc n)) i p =
+    let o : suc (suc n) - 2 ≡ n = omega arith in
+    rw (o, lt-ltb 1 (suc (suc n)) (omega arith))
+
+record Step (bs : List ℕ) (i j n d : ℕ) : Type 0 where
+  pub branch : Branch bs j n d
+  pub order : j ≤ armBlock bs n j
+  pub wide : armBlock bs n j < stopOf (nodesOf bs) (armBlock bs n j)
+  pub inside : stopOf (nodesOf bs) (armBlock bs n j) ≤ stopOf (nodesOf bs) i
+  pub rest : Within bs i (stopOf (nodesOf bs) (armBlock bs n j)) (n - 2)
+
+-- by the node k of its Block
+step-by : {bs : List ℕ} {i j n d k : ℕ} → armBlock bs n j ≡ k → At bs j d → At bs k d → j ≤ k → k < stopOf (nodesOf bs) k → stopOf (nodesOf bs) k ≤ stopOf (nodesOf bs) i
+    → Within bs i (stopOf (nodesOf bs) k) (n - 2) → Step bs i j n d
+step-by {bs} {i} {j} {n} {d} {k} e a b p q r w = record {
+  branch = record { first = a; block = rw e b };
+  order = omega (arith, e);
+  wide = rw e q;
+  inside = rw e r;
+  rest = rw e w;
+}
+
+step : {bs : List ℕ} {i j n d : ℕ} → Sound bs → Within bs i j n → 64 ≤ depth i 0 (nodesOf bs) + d → 0 < n → Step bs i j n d
+step {bs} {i} {j} {n} {d} s w l p =
+    let c = within-child s w p in
+    elim (decLt 1 n) [
+      | yes m ↦
+          let e = within-child s (c .3) (omega arith) in
+          let o : n - 1 - 1 ≡ n - 2 = omega arith in
+          step-by (block-when bs n j m) (within-at s w l p) (within-at s (c .3) l (omega arith)) (omega arith) (e .0) (e .1) (rw o at (e .3))
+      | no m ↦
+          let o : n - 1 ≡ n - 2 = omega arith in
+          step-by (block-last bs n j (omega arith)) (within-at s w l p) (within-at s w l p) (omega arith) (c .0) (c .1) (rw o at (c .3))
+    ]
+
+-- ---- the answers of `one_arm`
+
+module _ {bs : List ℕ} {nodes : ℕ} {t : Tab} {fs : Rows} {top : ℕ} {st : List ℕ} {ret i n d : ℕ} (loop : Bool)
+    (r : Standing bs nodes fs top t st ret i (stopOf (nodesOf bs) (armBlock bs n i))) (h : Branch bs i n d) where
+  -- the last branch, without a condition
+  module _ (p : n ≤ 1) where
+    pub last-standing : Standing bs nodes fs top t st ret i (stopOf (nodesOf bs) i)
+    last-standing = rw (block-last bs n i p) at r
+
+    pub arm-last : {u : Tab} {gs : Rows} {high got : ℕ} {su : List ℕ} {code place′ a b : ℕ}
+        → Done (namesOf bs) (bodyAt bs loop true d i (stateOf t fs top ret)) t u gs top high got su i (stopOf (nodesOf bs) i) (nodeCount bs) code place′ a b
+        → (true ≡ true → (code ≡ 9 → ⊥) → code ≡ 0)
+        → Armed (namesOf bs) (armedAt bs loop d n i (stateOf t fs top ret)) t u fs gs top high ret got su i (stopOf (nodesOf bs) (armBlock bs n i)) (nodeCount bs) code place′ a b
+    unfolding armedAt bodyAt arm if_then_else_
+    arm-last c q = record {
+      done = rw (block-last bs n i p) (done-as (rw (le-ltb 1 n p)) c);
+      entry = λ z y. absurd (z (q refl y));
+    }
+
+  -- a branch with a condition
+  module _ (p : 1 < n) where
+    when-wide : (i < stopOf (nodesOf bs) i) × (stopOf (nodesOf bs) i < stopOf (nodesOf bs) (armBlock bs n i))
+    when-wide =
+        let e = block-when bs n i p in
+        (wide-at (r .ready .sound) i (h .first .there) .0, omega (arith, wide-at (r .ready .sound) (armBlock bs n i) (h .block .there) .0, e))
+
+    pub when-ready : Ready bs nodes fs top t st 0 i (stopOf (nodesOf bs) i)
+    when-ready = ready-within (r .ready) (omega arith) (omega (arith, when-wide))
+
+    when-is : armedAt bs loop d n i (stateOf t fs top ret) ≡ (conditionAt bs d i (stateOf t fs top ret) >>= λ s. bodyAt bs loop true d (stopOf (nodesOf bs) i) s)
+    unfolding armedAt conditionAt bodyAt arm if_then_else_
+    when-is = rw (lt-ltb 1 n p)
+
+    module _ {u : Tab} {su : List ℕ} {code place′ a b : ℕ}
+        (c : Assigned (namesOf bs) (λ y. conditionAt bs d i (state (framesOf t fs top) y)) t u fs top su i (stopOf (nodesOf bs) i) (nodeCount bs) code place′ a b) where
+      pub arm-bad : (code ≡ 0 → ⊥)
+          → Armed (namesOf bs) (armedAt bs loop d n i (stateOf t fs top ret)) t u fs fs top top ret ret su i (stopOf (nodesOf bs) (armBlock bs n i)) (nodeCount bs) code place′ a b
+      unfolding _>>=_
+      arm-bad z =
+          let w = ended-wrong (namesOf bs) u fs top (denote t ret) code place′ a b z (c .typing) in
+          record {
+            done = record {
+              says = when-is ∙ rw (c .says (denote t ret), w) (sym w ∙ rw (c .left .grown .same ret (r .kept)));
+              fine = λ _. record { left = left-wider (c .left) (omega arith) (omega (arith, when-wide)); kept = omega (arith, r .kept, c .left .grown .more); raised = omega arith };
+              named = λ _. c .named;
+              placed = λ x. absurd (c .typing x);
+            };
+            entry = λ _ _. (refl, refl, refl);
+          }
+
+      module _ {k : ℕ} (o : k ≡ stopOf (nodesOf bs) i) where
+        pub when-at : At bs k d
+        when-at = rw (o, ← (block-when bs n i p)) (h .block)
+
+        pub when-standing : Standing bs nodes fs top u su ret k (stopOf (nodesOf bs) k)
+        when-standing =
+            let e : armBlock bs n i ≡ k = block-when bs n i p ∙ sym o in
+            let l : Left t u fs top su i k = rw o (c .left) in
+            let m : Ready bs nodes fs top t st 0 i (stopOf (nodesOf bs) k) = rw e at (r .ready) in
+            record { ready = ready-next m l (omega (arith, when-wide, o)); kept = omega (arith, r .kept, c .left .grown .more) }
+
+        pub arm-done : {v : Tab} {gs : Rows} {high got : ℕ} {sv : List ℕ} {code′ place″ a′ b′ : ℕ} → code ≡ 0
+            → Done (namesOf bs) (bodyAt bs loop true d k (stateOf u fs top ret)) u v gs top high got sv k (stopOf (nodesOf bs) k) (nodeCount bs) code′ place″ a′ b′
+            → (true ≡ true → (code′ ≡ 9 → ⊥) → code′ ≡ 0)
+            → Armed (namesOf bs) (armedAt bs loop d n i (stateOf t fs top ret)) t v fs gs top high ret got sv i (stopOf (nodesOf bs) (armBlock bs n i)) (nodeCount bs) code′ place″ a′ b′
+        unfolding _>>=_
+        arm-done z e q =
+            let m : armBlock bs n i ≡ k = block-when bs n i p ∙ sym o in
+            let l : Left t u fs top su i k = rw o (c .left) in
+            record {
+              done = record {
+                says = when-is
+                    ∙ rw (c .says (denote t ret), ended-done (namesOf bs) u fs top (denote t ret) code place′ a b z, ← o, ← (c .left .grown .same ret (r .kept))) (e .says);
+                fine = λ y.
+                    let f = e .fine y in
+                    rw m (record { left = left-trans l (f .left); kept = f .kept; raised = f .raised });
+                named = e .named;
+                placed = e .placed;
+              };
+              entry = λ y x. absurd (y (q refl x));
+            }
+
+-- ---- the loop of `choices`: Δs are the frames of the branches so far, as ms and cs tell
+
+pub record Choosing (bs : List ℕ) (nodes : ℕ) (t : Tab) (fs : Rows) (top ret i d : ℕ) (loop : Bool) (u : Tab) (got : ℕ) (su ms : List ℕ) (cs : List Bool) (j left : ℕ) : Type 0 where
+  pub standing : Standing bs nodes fs top u su got j (stopOf (nodesOf bs) i)
+  pub within : Within bs i j left
+  pub deep : 64 ≤ depth i 0 (nodesOf bs) + d
+  pub spent : Left t u fs top su i j
+  pub same : framesOf u fs top ≡ framesOf t fs top
+  pub so-far : List Frames
+  pub tally : Tally u (framesOf t fs top) so-far ms cs
+  pub answer : acted bs loop d i (stateOf t fs top ret)
+      ≡ branches (namesOf bs) loop (i + 1) so-far (armsFrom (nodesOf bs) (λ k. exprAt (nodesOf bs) d k) (λ k. blockAt (nodesOf bs) d k) left j) (state (framesOf t fs top) (denote u got))
+
+first-condition : (bs : List ℕ) (e : ℕ → Expr) (b : ℕ → Stmts) (n i : ℕ) → 1 < n → firstCondition (armsFrom (nodesOf bs) e b n i) ≡ place (e i)
+unfolding firstCondition
+first-condition bs e b n i p = rw (arms-down (nodesOf bs) e b n i p)
+
+pub choosing-first : {bs : List ℕ} {nodes : ℕ} {t : Tab} {fs : Rows} {top : ℕ} {st : List ℕ} {ret i d n : ℕ} (loop : Bool)
+    → Standing bs nodes fs top t st ret i (stopOf (nodesOf bs) i) → Stmt bs i d 8 → n ≡ nodeOf (nodesOf bs) i .children
+    → Choosing bs nodes t fs top ret i d loop t ret st (replicate 128 0) (replicate 128 false) (i + 1) n
+unfolding acted act armsFrom
+choosing-first {bs} {nodes} {t} {fs} {top} {st} {ret} {i} {d} {n} loop r q e =
+    let s = r .ready .sound in
+    let w = wide-at s i (q .there) in
+    let many : 1 < n = rw e (count-if s q) in
+    record {
+      standing = record { ready = ready-within (r .ready) (omega arith) (omega arith); kept = r .kept };
+      within = rw e (within-all s i (q .there));
+      deep = q .deep;
+      spent = left-refl (r .ready) (omega arith);
+      same = refl;
+      so-far = [];
+      tally = tally-none t (framesOf t fs top);
+      answer = rw (
+        if-at (nodesOf bs) (λ k. exprAt (nodesOf bs) d k) (λ k. blockAt (nodesOf bs) d k) i (q .kind),
+        ← (add-one i),
+        ← e,
+        first-condition bs (λ k. exprAt (nodesOf bs) d k) (λ k. blockAt (nodesOf bs) d k) n (i + 1) many,
+        place-at bs d (i + 1),
+      );
+    }
+
+module _ {bs : List ℕ} {nodes : ℕ} {t : Tab} {fs : Rows} {top ret i d : ℕ} {loop : Bool} {u : Tab} {got : ℕ} {su ms : List ℕ} {cs : List Bool} {j left : ℕ}
+    (l : Choosing bs nodes t fs top ret i d loop u got su ms cs j left) (p : 0 < left) where
+  choosing-step : Step bs i j left d
+  choosing-step = step (l .standing .ready .sound) (l .within) (l .deep) p
+
+  pub choosing-branch : Branch bs j left d
+  choosing-branch = choosing-step .branch
+
+  pub choosing-standing : Standing bs nodes fs top u su got j (stopOf (nodesOf bs) (armBlock bs left j))
+  choosing-standing = record { ready = ready-within (l .standing .ready) (omega arith) (choosing-step .inside); kept = l .standing .kept }
+
+  choosing-answer : acted bs loop d i (stateOf t fs top ret)
+      ≡ (armedAt bs loop d left j (stateOf u fs top got)
+      >>= λ s₁. branches (namesOf bs) loop (i + 1) (l .so-far ++ (s₁ .frames ∷ []))
+      (armsFrom (nodesOf bs) (λ k. exprAt (nodesOf bs) d k) (λ k. blockAt (nodesOf bs) d k) (left - 2) (stopOf (nodesOf bs) (armBlock bs left j)))
+      (state (framesOf t fs top) (s₁ .returns)))
+  unfolding branches armedAt
+  choosing-answer = l .answer ∙ rw (arms-step bs (λ k. exprAt (nodesOf bs) d k) (λ k. blockAt (nodesOf bs) d k) left j p, l .same)
+
+  module _ {v : Tab} {hs : Rows} {peak had : ℕ} {sv : List ℕ} {code place′ a b : ℕ}
+      (c : Armed (namesOf bs) (armedAt bs loop d left j (stateOf u fs top got)) u v fs hs top peak got had sv j (stopOf (nodesOf bs) (armBlock bs left j)) (nodeCount bs) code place′ a b) where
+    -- the base frames over the table that the branch left
+    choosing-left : (code ≡ 9 → ⊥) → Left t v fs top sv i (stopOf (nodesOf bs) (armBlock bs left j))
+    choosing-left y = left-trans (l .spent) (left-rows (l .spent .fit) (c .done .fine y .left))
+
+    choosing-same : (code ≡ 9 → ⊥) → framesOf v fs top ≡ framesOf t fs top
+    choosing-same y = frames-grown (c .done .fine y .left .grown) (l .spent .fit) ∙ l .same
+
+    -- a dropped body ends well or too deep, so this is the condition's refusal
+    pub choosing-out : (code ≡ 0 → ⊥)
+        → Done (namesOf bs) (acted bs loop d i (stateOf t fs top ret)) t v fs top top got sv i (stopOf (nodesOf bs) i) (nodeCount bs) code place′ a b
+    unfolding _>>=_
+    choosing-out z = elim (ℕ-discrete code 9) [
+      | yes y ↦ too-deep y (choosing-answer ∙ rw (was-deep (c .done) y)) (c .done .placed y)
+      | no y ↦
+          let o = c .entry z y in
+          let g = c .done .fine y .left .grown in
+          record {
+            says = choosing-answer
+                ∙ rw (was-wrong (c .done) z y, o .0, o .1, o .2) (sym (ended-wrong (namesOf bs) v fs top (denote v got) code place′ a b z y));
+            fine = λ _. record {
+              left = left-wider (choosing-left y) (omega arith) (choosing-step .inside);
+              kept = omega (arith, l .standing .kept, g .more);
+              raised = omega arith;
+            };
+            named = c .done .named;
+            placed = c .done .placed;
+          }
+    ]
+
+    pub choosing-next : {ns : List ℕ} {ds : List Bool} {e k : ℕ} → e ≡ stopOf (nodesOf bs) (armBlock bs left j) → k ≡ left - 2 → code ≡ 0
+        → Noted (getD fs top []) (getD hs peak []) ms cs ns ds 128
+        → Choosing bs nodes t fs top ret i d loop v had sv ns ds e k
+    unfolding _>>=_
+    choosing-next {ns} {ds} {e} {k} z y o n =
+        let x : code ≡ 9 → ⊥ = λ x. omega arith in
+        let f = c .done .fine x in
+        let m = left-rows (l .spent .fit) (f .left) in
+        let q = choosing-step in
+        rw (z, y) (record {
+          standing = record { ready = ready-next (l .standing .ready) m (omega (arith, q .order, q .wide)); kept = f .kept };
+          within = q .rest;
+          deep = l .deep;
+          spent = choosing-left x;
+          same = choosing-same x;
+          so-far = l .so-far ++ (framesOf v hs peak ∷ []);
+          tally = tally-next (f .left .grown .wf) (m .fit) (f .left .fit) (sym (choosing-same x)) (tally-grown (f .left .grown) (l .tally)) n;
+          answer = choosing-answer ∙ rw (was-done (c .done) o);
+        })
+
+-- ---- the name of a clash is one of 128: with names spelt like none, the merge's own refusal would tell it
+
+someName : Name
+someName = record { spelling = 1 ∷ []; role = plain }
+
+someNames : List Name
+someNames = replicate 128 someName
+
+Spelt : End → Type 0
+Spelt (done s) = Unit {0}
+Spelt (wrong r s) = r .names ≡ aText (1 ∷ []) ∷ []
+Spelt (tooDeep n) = Unit {0}
+
+spelt : (x : ℕ) → x < 128 → nameOf someNames x .spelling ≡ 1 ∷ []
+unfolding nameOf someNames someName
+spelt x h = ap (λ w. w .spelling) (getD-replicate 128 x someName (record { spelling = []; role = plain }) h)
+
+unspelt : (x : ℕ) → 128 ≤ x → nameOf someNames x .spelling ≡ []
+unfolding nameOf someNames
+unspelt x h = ap (λ w. w .spelling) (List·getD-eq-default (replicate 128 someName) (record { spelling = []; role = plain }) {n = x} (rw length-replicate h))
+
+name-spelt : (c x : ℕ) → x < 128 → (o : Option Ty) (q : Bool) (s : State) (k : State → End) → ((s : State) → Spelt (k s)) → Spelt (settleName someNames c x o q s >>= k)
+unfolding settleName _>>=_ Spelt
+name-spelt c x h none q s k f = f s
+name-spelt c x h (some t) true s k f = ap (λ w. aText w ∷ []) (spelt x h)
+name-spelt c x h (some t) false s k f = f _
+
+settle-spelt : (c : ℕ) (f : ℕ → Option Ty) (g : ℕ → Bool) (n i : ℕ) (s : State) → i + n ≤ 128 → Spelt (settle someNames c f g (count i n) s)
+unfolding settle count Spelt
+settle-spelt c f g zero i s h = tt
+settle-spelt c f g (suc n) i s h = name-spelt c i (omega arith) (f i) (g i) s _ (λ s′. settle-spelt c f g n (suc i) s′ (omega arith))
+
+weight : Piece → ℕ
+weight (aType t) = 0
+weight (aText s) = length s
+weight (aNumber n) = 0
+
+weights : List Piece → ℕ
+weights [] = 0
+weights (p ∷ ps) = weight p
+
+clash-name : {fs gs : Rows} {top : ℕ} {ms : List ℕ} {cs : List Bool} {place′ code name : ℕ} (t : Tab) → Committed fs gs top ms cs place′ code name → code ≡ 23 → name < 128
+unfolding mergeEnd if_then_else_ Spelt weights weight
+clash-name {fs} {gs} {top} {ms} {cs} {place′} {code} {name} t c e = elim (decLt name 128) [
+  | yes h ↦ h
+  | no h ↦
+      let a = settle-spelt place′ (λ x. slot t (getD ms x 0)) (λ x. getD cs x false) 128 0 (state (framesOf t fs top) (denote t 0)) (omega arith) in
+      let b = rw (c .says someNames t (denote t 0), e, unspelt name (omega arith)) at a in
+      let z : _≡_ {A = ℕ} 0 1 = ap weights b in
+      absurd (omega arith)
+]
+
+-- ---- the merge
+
+merge-ended : (ws : List Name) (u : Tab) (gs : Rows) (top : ℕ) (y : Ty) (code place′ name : ℕ) → (code ≡ 0) ⊎ (code ≡ 23)
+    → mergeEnd ws u gs top y code place′ name ≡ ended ws u gs top y code place′ name 0
+unfolding mergeEnd ended pieces typesNamed isIn choose if_then_else_ _or_
+merge-ended ws u gs top y code place′ name (inl e) = rw e
+merge-ended ws u gs top y code place′ name (inr e) = rw e
+
+merge-named : {fs gs : Rows} {top : ℕ} {ms : List ℕ} {cs : List Bool} {place′ code name M : ℕ} (u : Tab) → Committed fs gs top ms cs place′ code name → place′ < M → (code ≡ 0) ⊎ (code ≡ 23)
+    → Named u M code place′ name 0
+unfolding typesNamed isIn if_then_else_ _or_
+merge-named u c h (inl e) = rw e named-well
+merge-named {name = name} u c h (inr e) =
+    let n = clash-name u c e in
+    rw e (record {
+      first = λ x. absurd (omega (arith, none23));
+      second = λ x. absurd (omega (arith, none23));
+      small = λ x y. (omega arith, omega arith);
+      placed = λ x. h;
+    })
+  where
+    none23 : typesNamed 23 ≡ 0
+    none23 = refl
+
+pub choosing-end : {bs : List ℕ} {nodes : ℕ} {t : Tab} {fs gs : Rows} {top ret i d : ℕ} {loop : Bool} {u : Tab} {got : ℕ} {su ms : List ℕ} {cs : List Bool} {j left code name : ℕ}
+    → Stmt bs i d 8 → Choosing bs nodes t fs top ret i d loop u got su ms cs j left → left ≤ 0 → Committed fs gs top ms cs (i + 1) code name
+    → Done (namesOf bs) (acted bs loop d i (stateOf t fs top ret)) t u gs top top got su i (stopOf (nodesOf bs) i) (nodeCount bs) code (i + 1) name 0
+unfolding branches armsFrom
+choosing-end {bs} {nodes} {t} {fs} {gs} {top} {ret} {i} {d} {loop} {u} {got} {su} {ms} {cs} {j} {left} {code} {name} q l z c =
+    let o : left ≡ 0 = omega arith in
+    let s = l .standing .ready .sound in
+    let e = l .spent in
+    let h = within-child s (within-all s i (q .there)) (omega (arith, count-if s q)) .2 in
+    let le = within-le s (l .within) in
+    let deep : code ≡ 9 → ⊥ = λ x. ⊎-elim (λ y. omega arith) (λ y. omega arith) (c .codes) in
+    record {
+      says = (rw o at (l .answer)) ∙ merged (namesOf bs) (denote u got) (sym (l .same)) (l .tally) c ∙ merge-ended (namesOf bs) u gs top (denote u got) code (i + 1) name (c .codes);
+      fine = λ _. record {
+        left = record {
+          grown = e .grown;
+          fit = c .fit u (e .fit) (l .tally .within);
+          stack = e .stack;
+          types-spent = omega (arith, e .types-spent, le);
+          elements-spent = omega (arith, e .elements-spent, le);
+        };
+        kept = l .standing .kept;
+        raised = omega arith;
+      };
+      named = λ _. merge-named u c h (c .codes);
+      placed = λ x. absurd (deep x);
+    }

@@ -1,0 +1,6 @@
+pub mod Laws
+pub mod Leaves
+pub mod Bodies
+pub mod Compound
+pub mod Branching
+pub mod Modules
