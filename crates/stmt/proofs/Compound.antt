@@ -38,12 +38,12 @@ use Rattle.stmt.proofs.Laws.{ended-done, ended-wrong, was-done, was-dee
 
 module _ {bs : List ℕ} {nodes : ℕ} {t u : Tab} {fs : Rows} {top : ℕ} {st su : List ℕ} {i d e code place′ number a b : ℕ} (r : Ready bs nodes fs top t st 0 i e) (h : At bs i d)
     (q : Typed (namesOf bs) (check (namesOf bs) (framesOf t fs top) (exprAt (nodesOf bs) d i)) t u st su 0 i e (nodeCount bs) code place′ number a b) where
-  pub elements-bad : (code ≡ 0 → ⊥) → Iterated bs d t u fs top su i e (nodeCount bs) code place′ 0 a b
+  pub elements-bad : (code ≡ 0 → ⊥) → Iterated bs d t u fs top su i e (nodeCount bs) code place′ number a b
   unfolding checked
   elements-bad z = record {
     well = λ x y k. absurd (z x);
     ill = λ x y k. check-ill _ (r .fit) q z y _;
-    below = omega (arith, q .fine .grown .wf .base);
+    below = λ x. absurd (z x);
     named = check-named _ (r .fit) q;
     left = check-left _ (r .fit) q;
     typing = typing _ (r .fit) q;
@@ -57,7 +57,7 @@ module _ {bs : List ℕ} {nodes : ℕ} {t u : Tab} {fs : Rows} {top : ℕ} {st s
       record {
         well = λ x s k. check-well _ (r .fit) q z (state (framesOf t fs top) s) _ ∙ rw (o .says u refl w (q .below z), perhaps-yes u there got y);
         ill = λ x s k. absurd (x refl);
-        below = o .below u refl w (q .below z);
+        below = λ x. o .below u refl w (q .below z);
         named = named-well;
         left = check-left _ (r .fit) q;
         typing = λ x. absurd (omega arith);
@@ -75,7 +75,7 @@ module _ {bs : List ℕ} {nodes : ℕ} {t u : Tab} {fs : Rows} {top : ℕ} {st s
             check-well _ (r .fit) q z (state (framesOf t fs top) s) _
             ∙ rw (o .says u refl (g .wf) (q .below z), perhaps-no u there got y, place-at bs d i, ← (frames-grown g (r .fit)))
             (sym (ended-wrong (namesOf bs) u fs top s 24 i number 0 (λ x. omega arith) (λ x. omega arith)));
-        below = omega (arith, g .wf .base);
+        below = λ x. absurd (omega arith);
         named = record {
           first = λ x. q .below z;
           second = λ x. absurd (omega arith);
@@ -207,12 +207,12 @@ module _ {bs : List ℕ} {nodes : ℕ} {t : Tab} {fs : Rows} {top : ℕ} {st : L
   pub for-name : x < 128
   for-name = rw m (arg-small (r .ready .sound) i (q .there))
 
-  pub for-small : number < 2056
-  for-small = omega (arith, c .below, c .left .grown .wf .room)
+  pub for-small : code ≡ 0 → number < 2056
+  for-small z = omega (arith, c .below z, c .left .grown .wf .room)
 
-  module _ {es : Rows} {cell : ℕ} (n : cell ≡ suc number) (o : es ≡ put fs top x cell) where
+  module _ {es : Rows} {cell : ℕ} (z : code ≡ 0) (n : cell ≡ suc number) (o : es ≡ put fs top x cell) where
     for-fit : Fit u es top
-    for-fit = rw (o, n) (fit-put x (suc number) (c .left .fit) (omega (arith, c .below)))
+    for-fit = rw (o, n) (fit-put x (suc number) (c .left .fit) (omega (arith, c .below z)))
 
     pub for-standing : {k : ℕ} → k ≡ stopOf (nodesOf bs) (i + 1) → Standing bs nodes es top u su ret k (stopOf (nodesOf bs) k)
     for-standing e = second-standing r (pair-for (r .ready .sound) q) e (c .left) for-fit
@@ -221,11 +221,11 @@ module _ {bs : List ℕ} {nodes : ℕ} {t : Tab} {fs : Rows} {top : ℕ} {st : L
     for-rows =
         rw (o, n, ← (frames-grown (c .left .grown) (r .ready .fit))) (frames-put u fs top x number (omega (arith, r .ready .fit .long, r .ready .fit .high)))
 
-    pub for-done : {v : Tab} {gs : Rows} {high got k : ℕ} {sv : List ℕ} {code′ place″ a′ b′ : ℕ} → code ≡ 0 → k ≡ stopOf (nodesOf bs) (i + 1)
+    pub for-done : {v : Tab} {gs : Rows} {high got k : ℕ} {sv : List ℕ} {code′ place″ a′ b′ : ℕ} → k ≡ stopOf (nodesOf bs) (i + 1)
         → Done (namesOf bs) (bodyAt bs true false d k (stateOf u es top ret)) u v gs top high got sv k (stopOf (nodesOf bs) k) (nodeCount bs) code′ place″ a′ b′
         → (loop : Bool)
         → Done (namesOf bs) (acted bs loop d i (stateOf t fs top ret)) t v fs top top got sv i (stopOf (nodesOf bs) i) (nodeCount bs) code′ place″ a′ b′
-    for-done z e w loop =
+    for-done e w loop =
         let p = pair-for (r .ready .sound) q in
         copied (for-is loop ∙ c .well z (denote t ret) _ ∙ rw (← e, for-rows, c .left .grown .same ret (r .kept)))
         (r .ready .fit) (before-body r p (c .left) e) (rw e (omega (arith, p .last))) w

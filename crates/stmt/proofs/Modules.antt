@@ -1,13 +1,14 @@
 -- The module's statements.
 use mathlib.Core.Path.{_≡_, refl, sym, ap, _∙_}
 use mathlib.Core.Bool.{Bool, true, false}
-use mathlib.Core.List.{List, [], _∷_}
+use mathlib.Core.List.{List, [], _∷_, map}
+use mathlib.Core.Option.{none}
 use Prim.Native.Nat.{ℕ, zero, suc, _+_, _-_, _≤_, _<_}
 use native.Mathlib.Omega.{arith}
 use native.Mathlib.Decide.{ℕ-discrete}
 use borrow.Author.Tests.{lt-ltb}
 use lib.Dec.{leb, ltb}
-use lib.ListN.{length}
+use lib.ListN.{length, replicate, length-replicate, getD-replicate}
 use Rattle.meaning.specs.Base.{_and_, if_then_else_}
 use Rattle.meaning.specs.Types.{Ty, unknown}
 use Rattle.meaning.specs.Image.{Node, Name, nodeCount, nodesOf, nodeOf, namesOf, depth}
@@ -19,7 +20,9 @@ use Rattle.meaning.proofs.Faults.{Sound, sizes}
 use Rattle.meaning.proofs.Nesting.{sound-nested, nodes-many, root}
 use Rattle.types.specs.Table.{Tab, denote}
 use Rattle.types.proofs.Laws.{unknown-number}
-use Rattle.frames.specs.Env.{Rows, framesOf}
+use Rattle.frames.specs.Env.{Rows, slot, frameOf, below, framesOf, Fit}
+use Rattle.frames.proofs.Laws.{zeros}
+use Rattle.meaning.specs.Frames.{empty}
 use Rattle.expr.specs.Contract.{Ready, At}
 use Rattle.targets.specs.Ending.{ended, Named, Left}
 use Rattle.stmt.specs.Contract.{stateOf, walkedAt, Standing, Within, Done, Started, Ran}
@@ -131,3 +134,22 @@ running-end {bs} {nodes} {t} {u} {gs} {high} {su} {j} {left} l z =
       left = λ _. left-wider (l .spent) (omega arith) (omega (arith, within-le s (l .within), root-stop s));
       placed = λ x. absurd (omega arith);
     }
+
+-- ---- eight rows of absent names: the module's frame is empty
+
+absent : (t : Tab) (n : ℕ) → map (slot t) (replicate n 0) ≡ replicate n none
+unfolding slot
+absent t zero = refl
+absent t (suc n) = ap (λ r. none ∷ r) (absent t n)
+
+pub fresh-fit : (t : Tab) → Fit t (replicate 8 (replicate 128 0)) 0
+fresh-fit t = record {
+  long = length-replicate 8 (replicate {A = ℕ} 128 0);
+  wide = λ i h. ap length (getD-replicate 8 i (replicate {A = ℕ} 128 0) [] h) ∙ length-replicate {A = ℕ} 128 0;
+  high = omega arith;
+  known = λ i x h. rw (getD-replicate 8 i (replicate {A = ℕ} 128 0) [] h) (omega (arith, zeros 128 x));
+}
+
+pub fresh-frames : (t : Tab) → framesOf t (replicate 8 (replicate 128 0)) 0 ≡ empty ∷ []
+unfolding framesOf below frameOf empty
+fresh-frames t = ap (λ f. f ∷ []) (absent t 128)

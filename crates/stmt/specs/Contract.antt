@@ -141,7 +141,7 @@ pub record Iterated (bs : List ℕ) (d : ℕ) (t u : Tab) (fs : Rows) (top : ℕ
       → checked (namesOf bs) (exprAt (nodesOf bs) d i) (state (framesOf t fs top) y)
       (λ x. overElements (place (exprAt (nodesOf bs) d i)) x (state (framesOf t fs top) y) k)
       ≡ ended (namesOf bs) u fs top y code place′ a b
-  pub below : number < u.n
+  pub below : code ≡ 0 → number < u.n
   pub named : Named u M code place′ a b
   pub left : Left t u fs top su i e
   pub typing : code ≡ 9 → ⊥

@@ -39,13 +39,28 @@ struct Out {
     ret: usize,
 }
 
+// Such an end, of its parts.
+fn told(code: u32, place: usize, a: usize, b: usize, counts: Counts, top: usize, ret: usize) -> Out
+    ensures { λ r. ⌜ r ≡ record { code = code; place = place; a = a; b = b; counts = counts; top = top; ret = ret } ⌝ }
+{
+    Out {
+        code,
+        place,
+        a,
+        b,
+        counts,
+        top,
+        ret,
+    }
+}
+
 // ---- statements without a body
 
 // "A condition must be Bool itself".
 fn condition(
     image: &[u8],
     nodes: usize,
-    frames: &[[u16; 128]; 8],
+    rows: &[[u16; 128]; 8],
     top: usize,
     table: &mut [u32; 10272],
     counts: Counts,
@@ -53,28 +68,17 @@ fn condition(
     at: usize,
     depth: usize,
 ) -> Outcome
-    requires { ⌜ Ready (now image) nodes (now frames) top (tab (now table) (counts .types) (counts .elements)) (now stack) 0 at (stopOf (nodesOf (now image)) at) ⌝ }
+    requires { ⌜ Ready (now image) nodes (now rows) top (tab (now table) (counts .types) (counts .elements)) (now stack) 0 at (stopOf (nodesOf (now image)) at) ⌝ }
     requires { ⌜ At (now image) at depth ⌝ }
     ensures { λ r. ⌜ Assigned (namesOf (now (image .entry)))
         (λ y. conditionAt (now (image .entry)) depth at
-        (state (framesOf (tab (now (table .entry)) (counts .types) (counts .elements)) (now (frames .entry)) top) y))
+        (state (framesOf (tab (now (table .entry)) (counts .types) (counts .elements)) (now (rows .entry)) top) y))
         (tab (now (table .entry)) (counts .types) (counts .elements))
         (tab (now (table .exit)) (r .counts .types) (r .counts .elements))
-        (now (frames .entry)) top (now (stack .exit))
+        (now (rows .entry)) top (now (stack .exit))
         at (stopOf (nodesOf (now (image .entry))) at) (nodeCount (now (image .entry))) (r .code) (r .place) (r .a) (r .b) ⌝ }
 {
-    let v = expr(
-        image,
-        nodes,
-        frames,
-        top,
-        table,
-        counts,
-        stack,
-        0,
-        at,
-        depth,
-    );
+    let v = expr(image, nodes, rows, top, table, counts, stack, 0, at, depth);
     let code = v.code;
     let counts = v.counts;
     if code != 0 {
@@ -108,7 +112,7 @@ fn condition(
 fn assignment(
     image: &[u8],
     nodes: usize,
-    frames: &mut [[u16; 128]; 8],
+    rows: &mut [[u16; 128]; 8],
     top: usize,
     table: &mut [u32; 10272],
     counts: Counts,
@@ -116,20 +120,20 @@ fn assignment(
     at: usize,
     depth: usize,
 ) -> Outcome
-    requires { ⌜ Ready (now image) nodes (now frames) top (tab (now table) (counts .types) (counts .elements)) (now stack) 0 at (stopOf (nodesOf (now image)) at) ⌝ }
+    requires { ⌜ Ready (now image) nodes (now rows) top (tab (now table) (counts .types) (counts .elements)) (now stack) 0 at (stopOf (nodesOf (now image)) at) ⌝ }
     requires { ⌜ Pair (now image) at depth ⌝ }
     ensures { λ r. ⌜ Assigned (namesOf (now (image .entry)))
-        (λ y. assignedAt (now (image .entry)) depth at (state (framesOf (tab (now (table .entry)) (counts .types) (counts .elements)) (now (frames .entry)) top) y))
+        (λ y. assignedAt (now (image .entry)) depth at (state (framesOf (tab (now (table .entry)) (counts .types) (counts .elements)) (now (rows .entry)) top) y))
         (tab (now (table .entry)) (counts .types) (counts .elements))
         (tab (now (table .exit)) (r .counts .types) (r .counts .elements))
-        (now (frames .exit)) top (now (stack .exit))
+        (now (rows .exit)) top (now (stack .exit))
         at (stopOf (nodesOf (now (image .entry))) at) (nodeCount (now (image .entry))) (r .code) (r .place) (r .a) (r .b) ⌝ }
 {
     let second = stop_of(image, nodes, at + 1);
     let v = expr(
         image,
         nodes,
-        frames,
+        rows,
         top,
         table,
         counts,
@@ -152,7 +156,7 @@ fn assignment(
     assign(
         image,
         nodes,
-        frames,
+        rows,
         top,
         table,
         more,
@@ -167,7 +171,7 @@ fn assignment(
 fn give(
     image: &[u8],
     nodes: usize,
-    frames: &[[u16; 128]; 8],
+    rows: &[[u16; 128]; 8],
     top: usize,
     table: &mut [u32; 10272],
     counts: Counts,
@@ -176,62 +180,27 @@ fn give(
     at: usize,
     depth: usize,
 ) -> Out
-    requires { ⌜ Standing (now image) nodes (now frames) top (tab (now table) (counts .types) (counts .elements)) (now stack) ret at (stopOf (nodesOf (now image)) at) ⌝ }
+    requires { ⌜ Standing (now image) nodes (now rows) top (tab (now table) (counts .types) (counts .elements)) (now stack) ret at (stopOf (nodesOf (now image)) at) ⌝ }
     requires { ⌜ At (now image) at depth ⌝ }
     ensures { λ r. ⌜ Done (namesOf (now (image .entry)))
-        (returnedAt (now (image .entry)) depth at (stateOf (tab (now (table .entry)) (counts .types) (counts .elements)) (now (frames .entry)) top ret))
+        (returnedAt (now (image .entry)) depth at (stateOf (tab (now (table .entry)) (counts .types) (counts .elements)) (now (rows .entry)) top ret))
         (tab (now (table .entry)) (counts .types) (counts .elements))
         (tab (now (table .exit)) (r .counts .types) (r .counts .elements))
-        (now (frames .entry)) top (r .top) (r .ret) (now (stack .exit))
+        (now (rows .entry)) top (r .top) (r .ret) (now (stack .exit))
         at (stopOf (nodesOf (now (image .entry))) at) (nodeCount (now (image .entry))) (r .code) (r .place) (r .a) (r .b) ⌝ }
 {
-    let v = expr(
-        image,
-        nodes,
-        frames,
-        top,
-        table,
-        counts,
-        stack,
-        0,
-        at,
-        depth,
-    );
+    let v = expr(image, nodes, rows, top, table, counts, stack, 0, at, depth);
     let code = v.code;
     let more = v.counts;
     if code != 0 {
-        return Out {
-            code,
-            place: v.place,
-            a: v.a,
-            b: v.b,
-            counts: more,
-            top,
-            ret,
-        };
+        return told(code, v.place, v.a, v.b, more, top, ret);
     }
     let number = v.number;
     let both = agreed(ret, number);
     if both.there {
-        return Out {
-            code: 0,
-            place: at,
-            a: 0,
-            b: 0,
-            counts: more,
-            top,
-            ret: both.number,
-        };
+        return told(0, at, 0, 0, more, top, both.number);
     }
-    Out {
-        code: 22,
-        place: at,
-        a: ret,
-        b: number,
-        counts: more,
-        top,
-        ret,
-    }
+    told(22, at, ret, number, more, top, ret)
 }
 
 // The code of a Break or Continue: one outside a loop is refused.
@@ -248,7 +217,7 @@ fn outside(looped: bool, code: u32) -> u32
 fn evaluate(
     image: &[u8],
     nodes: usize,
-    frames: &[[u16; 128]; 8],
+    rows: &[[u16; 128]; 8],
     top: usize,
     table: &mut [u32; 10272],
     counts: Counts,
@@ -256,27 +225,16 @@ fn evaluate(
     at: usize,
     depth: usize,
 ) -> Outcome
-    requires { ⌜ Ready (now image) nodes (now frames) top (tab (now table) (counts .types) (counts .elements)) (now stack) 0 at (stopOf (nodesOf (now image)) at) ⌝ }
+    requires { ⌜ Ready (now image) nodes (now rows) top (tab (now table) (counts .types) (counts .elements)) (now stack) 0 at (stopOf (nodesOf (now image)) at) ⌝ }
     requires { ⌜ At (now image) at depth ⌝ }
     ensures { λ r. ⌜ Assigned (namesOf (now (image .entry)))
-        (λ y. evaluatedAt (now (image .entry)) depth at (state (framesOf (tab (now (table .entry)) (counts .types) (counts .elements)) (now (frames .entry)) top) y))
+        (λ y. evaluatedAt (now (image .entry)) depth at (state (framesOf (tab (now (table .entry)) (counts .types) (counts .elements)) (now (rows .entry)) top) y))
         (tab (now (table .entry)) (counts .types) (counts .elements))
         (tab (now (table .exit)) (r .counts .types) (r .counts .elements))
-        (now (frames .entry)) top (now (stack .exit))
+        (now (rows .entry)) top (now (stack .exit))
         at (stopOf (nodesOf (now (image .entry))) at) (nodeCount (now (image .entry))) (r .code) (r .place) (r .a) (r .b) ⌝ }
 {
-    let v = expr(
-        image,
-        nodes,
-        frames,
-        top,
-        table,
-        counts,
-        stack,
-        0,
-        at,
-        depth,
-    );
+    let v = expr(image, nodes, rows, top, table, counts, stack, 0, at, depth);
     let code = v.code;
     let more = v.counts;
     if code != 0 {
@@ -301,7 +259,7 @@ fn evaluate(
 fn simple(
     image: &[u8],
     nodes: usize,
-    frames: &mut [[u16; 128]; 8],
+    rows: &mut [[u16; 128]; 8],
     top: usize,
     table: &mut [u32; 10272],
     counts: Counts,
@@ -312,75 +270,33 @@ fn simple(
     depth: usize,
     looped: bool,
 ) -> Out
-    requires { ⌜ Standing (now image) nodes (now frames) top (tab (now table) (counts .types) (counts .elements)) (now stack) ret at (stopOf (nodesOf (now image)) at) ⌝ }
+    requires { ⌜ Standing (now image) nodes (now rows) top (tab (now table) (counts .types) (counts .elements)) (now stack) ret at (stopOf (nodesOf (now image)) at) ⌝ }
     requires { ⌜ Stmt (now image) at depth kind ⌝ }
     requires { ⌜ Bodiless kind ⌝ }
     ensures { λ r. ⌜ Done (namesOf (now (image .entry)))
-        (acted (now (image .entry)) looped depth at (stateOf (tab (now (table .entry)) (counts .types) (counts .elements)) (now (frames .entry)) top ret))
+        (acted (now (image .entry)) looped depth at (stateOf (tab (now (table .entry)) (counts .types) (counts .elements)) (now (rows .entry)) top ret))
         (tab (now (table .entry)) (counts .types) (counts .elements))
         (tab (now (table .exit)) (r .counts .types) (r .counts .elements))
-        (now (frames .exit)) top (r .top) (r .ret) (now (stack .exit))
+        (now (rows .exit)) top (r .top) (r .ret) (now (stack .exit))
         at (stopOf (nodesOf (now (image .entry))) at) (nodeCount (now (image .entry))) (r .code) (r .place) (r .a) (r .b) ⌝ }
 {
     match kind {
-        1 => Out {
-            code: outside(looped, 20),
-            place: at,
-            a: 0,
-            b: 0,
-            counts,
-            top,
-            ret,
-        },
-        2 => Out {
-            code: outside(looped, 21),
-            place: at,
-            a: 0,
-            b: 0,
-            counts,
-            top,
-            ret,
-        },
+        1 => told(outside(looped, 20), at, 0, 0, counts, top, ret),
+        2 => told(outside(looped, 21), at, 0, 0, counts, top, ret),
         5 => {
-            let o = assignment(image, nodes, frames, top, table, counts, stack, at, depth);
+            let o = assignment(image, nodes, rows, top, table, counts, stack, at, depth);
             let more = o.counts;
-            Out {
-                code: o.code,
-                place: o.place,
-                a: o.a,
-                b: o.b,
-                counts: more,
-                top,
-                ret,
-            }
+            told(o.code, o.place, o.a, o.b, more, top, ret)
         }
         6 => {
-            let o = evaluate(
-                image,
-                nodes,
-                frames,
-                top,
-                table,
-                counts,
-                stack,
-                at + 1,
-                depth,
-            );
+            let o = evaluate(image, nodes, rows, top, table, counts, stack, at + 1, depth);
             let more = o.counts;
-            Out {
-                code: o.code,
-                place: o.place,
-                a: o.a,
-                b: o.b,
-                counts: more,
-                top,
-                ret,
-            }
+            told(o.code, o.place, o.a, o.b, more, top, ret)
         }
         7 => give(
             image,
             nodes,
-            frames,
+            rows,
             top,
             table,
             counts,
@@ -389,15 +305,7 @@ fn simple(
             at + 1,
             depth,
         ),
-        _ => Out {
-            code: 0,
-            place: 0,
-            a: 0,
-            b: 0,
-            counts,
-            top,
-            ret,
-        },
+        _ => told(0, 0, 0, 0, counts, top, ret),
     }
 }
 
@@ -405,7 +313,7 @@ fn simple(
 fn parameters(
     image: &[u8],
     nodes: usize,
-    frames: &mut [[u16; 128]; 8],
+    rows: &mut [[u16; 128]; 8],
     top: usize,
     at: usize,
     n: usize,
@@ -413,13 +321,13 @@ fn parameters(
     requires { ⌜ Sound (now image) ⌝ }
     requires { ⌜ (nodes ≡ nodesFrom (now image)) × (top < 8) × Within (now image) at (at + 1) (n + 1) ⌝ }
     ensures { λ r. ⌜ (r ≡ past (nodesOf (now (image .entry))) n (at + 1)) × Within (now (image .entry)) at r 1 ⌝ }
-    ensures { λ _. ⌜ Entered (now (frames .entry)) (now (frames .exit)) top (paramsFrom (nodesOf (now (image .entry))) n (at + 1)) ⌝ }
+    ensures { λ _. ⌜ Entered (now (rows .entry)) (now (rows .exit)) top (paramsFrom (nodesOf (now (image .entry))) n (at + 1)) ⌝ }
 {
     let mut j = at + 1;
     let mut left = n;
     while 0 < left {
         let node = node_at(image, nodes, j);
-        bind(frames, top, node.arg as usize, 1);
+        bind(rows, top, node.arg as usize, 1);
         j = node.stop as usize;
         left -= 1;
     }
@@ -432,7 +340,7 @@ fn parameters(
 fn elements(
     image: &[u8],
     nodes: usize,
-    frames: &[[u16; 128]; 8],
+    rows: &[[u16; 128]; 8],
     top: usize,
     table: &mut [u32; 10272],
     counts: Counts,
@@ -440,37 +348,19 @@ fn elements(
     at: usize,
     depth: usize,
 ) -> Value
-    requires { ⌜ Ready (now image) nodes (now frames) top (tab (now table) (counts .types) (counts .elements)) (now stack) 0 at (stopOf (nodesOf (now image)) at) ⌝ }
+    requires { ⌜ Ready (now image) nodes (now rows) top (tab (now table) (counts .types) (counts .elements)) (now stack) 0 at (stopOf (nodesOf (now image)) at) ⌝ }
     requires { ⌜ At (now image) at depth ⌝ }
     ensures { λ r. ⌜ Iterated (now (image .entry)) depth
         (tab (now (table .entry)) (counts .types) (counts .elements))
         (tab (now (table .exit)) (r .counts .types) (r .counts .elements))
-        (now (frames .entry)) top (now (stack .exit))
+        (now (rows .entry)) top (now (stack .exit))
         at (stopOf (nodesOf (now (image .entry))) at) (nodeCount (now (image .entry))) (r .code) (r .place) (r .number) (r .a) (r .b) ⌝ }
 {
-    let v = expr(
-        image,
-        nodes,
-        frames,
-        top,
-        table,
-        counts,
-        stack,
-        0,
-        at,
-        depth,
-    );
+    let v = expr(image, nodes, rows, top, table, counts, stack, 0, at, depth);
     let code = v.code;
     let more = v.counts;
     if code != 0 {
-        return Value {
-            code,
-            place: v.place,
-            number: 0,
-            a: v.a,
-            b: v.b,
-            counts: more,
-        };
+        return v;
     }
     let number = v.number;
     let element = element_of(table, number);
@@ -529,7 +419,7 @@ fn fewer(left: usize) -> usize
 fn stmt(
     image: &[u8],
     nodes: usize,
-    frames: &mut [[u16; 128]; 8],
+    rows: &mut [[u16; 128]; 8],
     top: usize,
     table: &mut [u32; 10272],
     counts: Counts,
@@ -539,24 +429,25 @@ fn stmt(
     depth: usize,
     looped: bool,
 ) -> Out
-    requires { ⌜ Standing (now image) nodes (now frames) top (tab (now table) (counts .types) (counts .elements)) (now stack) ret at (stopOf (nodesOf (now image)) at) ⌝ }
+    requires { ⌜ Standing (now image) nodes (now rows) top (tab (now table) (counts .types) (counts .elements)) (now stack) ret at (stopOf (nodesOf (now image)) at) ⌝ }
     requires { ⌜ At (now image) at depth ⌝ }
     ensures { λ r. ⌜ Done (namesOf (now (image .entry)))
-        (walkedAt (now (image .entry)) looped depth at (stateOf (tab (now (table .entry)) (counts .types) (counts .elements)) (now (frames .entry)) top ret))
+        (walkedAt (now (image .entry)) looped depth at (stateOf (tab (now (table .entry)) (counts .types) (counts .elements)) (now (rows .entry)) top ret))
         (tab (now (table .entry)) (counts .types) (counts .elements))
         (tab (now (table .exit)) (r .counts .types) (r .counts .elements))
-        (now (frames .exit)) top (r .top) (r .ret) (now (stack .exit))
+        (now (rows .exit)) top (r .top) (r .ret) (now (stack .exit))
         at (stopOf (nodesOf (now (image .entry))) at) (nodeCount (now (image .entry))) (r .code) (r .place) (r .a) (r .b) ⌝ }
 {
     let node = node_at(image, nodes, at);
     let kind = node.kind;
     let n = node.children as usize;
     let x = node.arg as usize;
+    let d = depth - 1;
     match kind {
         8 => choices(
             image,
             nodes,
-            frames,
+            rows,
             top,
             table,
             counts,
@@ -564,51 +455,16 @@ fn stmt(
             ret,
             at,
             n,
-            depth - 1,
+            d,
             looped,
         ),
-        9 => repeat(
-            image,
-            nodes,
-            frames,
-            top,
-            table,
-            counts,
-            stack,
-            ret,
-            at,
-            depth - 1,
-        ),
-        10 => each(
-            image,
-            nodes,
-            frames,
-            top,
-            table,
-            counts,
-            stack,
-            ret,
-            at,
-            x,
-            depth - 1,
-        ),
-        11 => define(
-            image,
-            nodes,
-            frames,
-            top,
-            table,
-            counts,
-            stack,
-            ret,
-            at,
-            n,
-            depth - 1,
-        ),
+        9 => repeat(image, nodes, rows, top, table, counts, stack, ret, at, d),
+        10 => each(image, nodes, rows, top, table, counts, stack, ret, at, x, d),
+        11 => define(image, nodes, rows, top, table, counts, stack, ret, at, n, d),
         _ => simple(
             image,
             nodes,
-            frames,
+            rows,
             top,
             table,
             counts,
@@ -616,7 +472,7 @@ fn stmt(
             ret,
             at,
             kind,
-            depth - 1,
+            d,
             looped,
         ),
     }
@@ -626,7 +482,7 @@ fn stmt(
 fn block(
     image: &[u8],
     nodes: usize,
-    frames: &mut [[u16; 128]; 8],
+    rows: &mut [[u16; 128]; 8],
     top: usize,
     table: &mut [u32; 10272],
     counts: Counts,
@@ -637,38 +493,27 @@ fn block(
     looped: bool,
     drops: bool,
 ) -> Out
-    requires { ⌜ Standing (now image) nodes (now frames) top (tab (now table) (counts .types) (counts .elements)) (now stack) ret at (stopOf (nodesOf (now image)) at) ⌝ }
+    requires { ⌜ Standing (now image) nodes (now rows) top (tab (now table) (counts .types) (counts .elements)) (now stack) ret at (stopOf (nodesOf (now image)) at) ⌝ }
     requires { ⌜ At (now image) at depth ⌝ }
     ensures { λ r. ⌜ Done (namesOf (now (image .entry)))
-        (bodyAt (now (image .entry)) looped drops depth at (stateOf (tab (now (table .entry)) (counts .types) (counts .elements)) (now (frames .entry)) top ret))
+        (bodyAt (now (image .entry)) looped drops depth at (stateOf (tab (now (table .entry)) (counts .types) (counts .elements)) (now (rows .entry)) top ret))
         (tab (now (table .entry)) (counts .types) (counts .elements))
         (tab (now (table .exit)) (r .counts .types) (r .counts .elements))
-        (now (frames .exit)) top (r .top) (r .ret) (now (stack .exit))
+        (now (rows .exit)) top (r .top) (r .ret) (now (stack .exit))
         at (stopOf (nodesOf (now (image .entry))) at) (nodeCount (now (image .entry))) (r .code) (r .place) (r .a) (r .b) ⌝ }
     ensures quiet { λ r. ⌜ (drops ≡ true → (r .code ≡ 9 → ⊥) → r .code ≡ 0) ⌝ }
 {
     let node = node_at(image, nodes, at);
+    let d = depth - 1;
     let mut types = counts.types;
     let mut elements = counts.elements;
     let mut high = top;
-    let mut given = ret;
+    let mut got = ret;
     let mut j = at + 1;
     let mut left = node.children as usize;
     while 0 < left {
         let c = Counts { types, elements };
-        let r = stmt(
-            image,
-            nodes,
-            frames,
-            high,
-            table,
-            c,
-            stack,
-            given,
-            j,
-            depth - 1,
-            looped,
-        );
+        let r = stmt(image, nodes, rows, high, table, c, stack, got, j, d, looped);
         let code = r.code;
         if code == 9 {
             return r;
@@ -682,26 +527,19 @@ fn block(
         types = more.types;
         elements = more.elements;
         high = r.top;
-        given = r.ret;
+        got = r.ret;
         j = stop_of(image, nodes, j);
         left -= 1;
     }
-    Out {
-        code: 0,
-        place: 0,
-        a: 0,
-        b: 0,
-        counts: Counts { types, elements },
-        top: high,
-        ret: given,
-    }
+    let c = Counts { types, elements };
+    told(0, 0, 0, 0, c, high, got)
 }
 
 // The If at node `at`, of n nodes: its branches, each on a copy of the frames, and then the merge.
 fn choices(
     image: &[u8],
     nodes: usize,
-    frames: &mut [[u16; 128]; 8],
+    rows: &mut [[u16; 128]; 8],
     top: usize,
     table: &mut [u32; 10272],
     counts: Counts,
@@ -712,13 +550,13 @@ fn choices(
     depth: usize,
     looped: bool,
 ) -> Out
-    requires { ⌜ Standing (now image) nodes (now frames) top (tab (now table) (counts .types) (counts .elements)) (now stack) ret at (stopOf (nodesOf (now image)) at) ⌝ }
+    requires { ⌜ Standing (now image) nodes (now rows) top (tab (now table) (counts .types) (counts .elements)) (now stack) ret at (stopOf (nodesOf (now image)) at) ⌝ }
     requires { ⌜ (Stmt (now image) at depth 8) × (n ≡ nodeOf (nodesOf (now image)) at .children) ⌝ }
     ensures { λ r. ⌜ Done (namesOf (now (image .entry)))
-        (acted (now (image .entry)) looped depth at (stateOf (tab (now (table .entry)) (counts .types) (counts .elements)) (now (frames .entry)) top ret))
+        (acted (now (image .entry)) looped depth at (stateOf (tab (now (table .entry)) (counts .types) (counts .elements)) (now (rows .entry)) top ret))
         (tab (now (table .entry)) (counts .types) (counts .elements))
         (tab (now (table .exit)) (r .counts .types) (r .counts .elements))
-        (now (frames .exit)) top (r .top) (r .ret) (now (stack .exit))
+        (now (rows .exit)) top (r .top) (r .ret) (now (stack .exit))
         at (stopOf (nodesOf (now (image .entry))) at) (nodeCount (now (image .entry))) (r .code) (r .place) (r .a) (r .b) ⌝ }
 {
     let mut merged = [0u16; 128];
@@ -729,7 +567,7 @@ fn choices(
     let mut j = at + 1;
     let mut left = n;
     while 0 < left {
-        let mut branch = *frames;
+        let mut branch = *rows;
         let c = Counts { types, elements };
         let r = one_arm(
             image,
@@ -748,40 +586,25 @@ fn choices(
         let code = r.code;
         let more = r.counts;
         if code != 0 {
-            return Out {
-                code,
-                place: r.place,
-                a: r.a,
-                b: r.b,
-                counts: more,
-                top,
-                ret: gathered,
-            };
+            return told(code, r.place, r.a, r.b, more, top, gathered);
         }
-        note_branch(frames, top, &branch, r.top, &mut merged, &mut clashes);
+        note_branch(rows, top, &branch, r.top, &mut merged, &mut clashes);
         types = more.types;
         elements = more.elements;
         gathered = r.ret;
         j = after_arm(image, nodes, j, left);
         left = fewer(left);
     }
-    let m = commit(frames, top, &merged, &clashes, at + 1);
-    Out {
-        code: m.code,
-        place: at + 1,
-        a: m.name,
-        b: 0,
-        counts: Counts { types, elements },
-        top,
-        ret: gathered,
-    }
+    let m = commit(rows, top, &merged, &clashes, at + 1);
+    let c = Counts { types, elements };
+    told(m.code, at + 1, m.name, 0, c, top, gathered)
 }
 
 // The branch at node `at`, of `left` nodes of an If: its condition, if it has one, and its Block, whose errors are dropped.
 fn one_arm(
     image: &[u8],
     nodes: usize,
-    frames: &mut [[u16; 128]; 8],
+    rows: &mut [[u16; 128]; 8],
     top: usize,
     table: &mut [u32; 10272],
     counts: Counts,
@@ -792,36 +615,28 @@ fn one_arm(
     depth: usize,
     looped: bool,
 ) -> Out
-    requires { ⌜ Standing (now image) nodes (now frames) top (tab (now table) (counts .types) (counts .elements)) (now stack) ret at (stopOf (nodesOf (now image)) (armBlock (now image) left at)) ⌝ }
+    requires { ⌜ Standing (now image) nodes (now rows) top (tab (now table) (counts .types) (counts .elements)) (now stack) ret at (stopOf (nodesOf (now image)) (armBlock (now image) left at)) ⌝ }
     requires { ⌜ Branch (now image) at left depth ⌝ }
     ensures { λ r. ⌜ Armed (namesOf (now (image .entry)))
-        (armedAt (now (image .entry)) looped depth left at (stateOf (tab (now (table .entry)) (counts .types) (counts .elements)) (now (frames .entry)) top ret))
+        (armedAt (now (image .entry)) looped depth left at (stateOf (tab (now (table .entry)) (counts .types) (counts .elements)) (now (rows .entry)) top ret))
         (tab (now (table .entry)) (counts .types) (counts .elements))
         (tab (now (table .exit)) (r .counts .types) (r .counts .elements))
-        (now (frames .entry)) (now (frames .exit)) top (r .top) ret (r .ret) (now (stack .exit))
+        (now (rows .entry)) (now (rows .exit)) top (r .top) ret (r .ret) (now (stack .exit))
         at (stopOf (nodesOf (now (image .entry))) (armBlock (now (image .entry)) left at)) (nodeCount (now (image .entry))) (r .code) (r .place) (r .a) (r .b) ⌝ }
 {
     let drops = true;
     if 1 < left {
-        let o = condition(image, nodes, frames, top, table, counts, stack, at, depth);
+        let o = condition(image, nodes, rows, top, table, counts, stack, at, depth);
         let code = o.code;
         let more = o.counts;
         if code != 0 {
-            return Out {
-                code,
-                place: o.place,
-                a: o.a,
-                b: o.b,
-                counts: more,
-                top,
-                ret,
-            };
+            return told(code, o.place, o.a, o.b, more, top, ret);
         }
         let b = stop_of(image, nodes, at);
         return block(
             image,
             nodes,
-            frames,
+            rows,
             top,
             table,
             more,
@@ -836,7 +651,7 @@ fn one_arm(
     block(
         image,
         nodes,
-        frames,
+        rows,
         top,
         table,
         counts,
@@ -853,7 +668,7 @@ fn one_arm(
 fn define(
     image: &[u8],
     nodes: usize,
-    frames: &mut [[u16; 128]; 8],
+    rows: &mut [[u16; 128]; 8],
     top: usize,
     table: &mut [u32; 10272],
     counts: Counts,
@@ -863,32 +678,24 @@ fn define(
     n: usize,
     depth: usize,
 ) -> Out
-    requires { ⌜ Standing (now image) nodes (now frames) top (tab (now table) (counts .types) (counts .elements)) (now stack) ret at (stopOf (nodesOf (now image)) at) ⌝ }
+    requires { ⌜ Standing (now image) nodes (now rows) top (tab (now table) (counts .types) (counts .elements)) (now stack) ret at (stopOf (nodesOf (now image)) at) ⌝ }
     requires { ⌜ (Stmt (now image) at depth 11) × (n ≡ nodeOf (nodesOf (now image)) at .children) ⌝ }
     ensures { λ r. ⌜ ((loop : Bool) → Done (namesOf (now (image .entry)))
-        (acted (now (image .entry)) loop depth at (stateOf (tab (now (table .entry)) (counts .types) (counts .elements)) (now (frames .entry)) top ret))
+        (acted (now (image .entry)) loop depth at (stateOf (tab (now (table .entry)) (counts .types) (counts .elements)) (now (rows .entry)) top ret))
         (tab (now (table .entry)) (counts .types) (counts .elements))
         (tab (now (table .exit)) (r .counts .types) (r .counts .elements))
-        (now (frames .exit)) top (r .top) (r .ret) (now (stack .exit))
+        (now (rows .exit)) top (r .top) (r .ret) (now (stack .exit))
         at (stopOf (nodesOf (now (image .entry))) at) (nodeCount (now (image .entry))) (r .code) (r .place) (r .a) (r .b)) ⌝ }
 {
     if 7 <= top {
-        return Out {
-            code: 9,
-            place: at,
-            a: 0,
-            b: 0,
-            counts,
-            top,
-            ret,
-        };
+        return told(9, at, 0, 0, counts, top, ret);
     }
-    clear(frames, top + 1);
-    let b = parameters(image, nodes, frames, top + 1, at, n - 1);
+    clear(rows, top + 1);
+    let b = parameters(image, nodes, rows, top + 1, at, n - 1);
     let r = block(
         image,
         nodes,
-        frames,
+        rows,
         top + 1,
         table,
         counts,
@@ -903,32 +710,16 @@ fn define(
     let newest = r.top;
     let more = r.counts;
     if code == 0 {
-        return Out {
-            code: 0,
-            place: 0,
-            a: 0,
-            b: 0,
-            counts: more,
-            top: newest - 1,
-            ret,
-        };
+        return told(0, 0, 0, 0, more, newest - 1, ret);
     }
-    Out {
-        code,
-        place: r.place,
-        a: r.a,
-        b: r.b,
-        counts: more,
-        top: newest,
-        ret,
-    }
+    told(code, r.place, r.a, r.b, more, newest, ret)
 }
 
 // The For over name x at node `at`: its body on a copy of the frames, of which nothing stays; its errors are returned.
 fn each(
     image: &[u8],
     nodes: usize,
-    frames: &[[u16; 128]; 8],
+    rows: &[[u16; 128]; 8],
     top: usize,
     table: &mut [u32; 10272],
     counts: Counts,
@@ -938,41 +729,23 @@ fn each(
     x: usize,
     depth: usize,
 ) -> Out
-    requires { ⌜ Standing (now image) nodes (now frames) top (tab (now table) (counts .types) (counts .elements)) (now stack) ret at (stopOf (nodesOf (now image)) at) ⌝ }
+    requires { ⌜ Standing (now image) nodes (now rows) top (tab (now table) (counts .types) (counts .elements)) (now stack) ret at (stopOf (nodesOf (now image)) at) ⌝ }
     requires { ⌜ (Stmt (now image) at depth 10) × (x ≡ nodeOf (nodesOf (now image)) at .arg) ⌝ }
     ensures { λ r. ⌜ ((loop : Bool) → Done (namesOf (now (image .entry)))
-        (acted (now (image .entry)) loop depth at (stateOf (tab (now (table .entry)) (counts .types) (counts .elements)) (now (frames .entry)) top ret))
+        (acted (now (image .entry)) loop depth at (stateOf (tab (now (table .entry)) (counts .types) (counts .elements)) (now (rows .entry)) top ret))
         (tab (now (table .entry)) (counts .types) (counts .elements))
         (tab (now (table .exit)) (r .counts .types) (r .counts .elements))
-        (now (frames .entry)) top (r .top) (r .ret) (now (stack .exit))
+        (now (rows .entry)) top (r .top) (r .ret) (now (stack .exit))
         at (stopOf (nodesOf (now (image .entry))) at) (nodeCount (now (image .entry))) (r .code) (r .place) (r .a) (r .b)) ⌝ }
 {
-    let v = elements(
-        image,
-        nodes,
-        frames,
-        top,
-        table,
-        counts,
-        stack,
-        at + 1,
-        depth,
-    );
+    let v = elements(image, nodes, rows, top, table, counts, stack, at + 1, depth);
     let code = v.code;
     let more = v.counts;
     if code != 0 {
-        return Out {
-            code,
-            place: v.place,
-            a: v.a,
-            b: v.b,
-            counts: more,
-            top,
-            ret,
-        };
+        return told(code, v.place, v.a, v.b, more, top, ret);
     }
     let cell = cell_of(v.number);
-    let mut inner = *frames;
+    let mut inner = *rows;
     bind(&mut inner, top, x, cell);
     let b = stop_of(image, nodes, at + 1);
     let r = block(
@@ -990,22 +763,14 @@ fn each(
         false,
     );
     let last = r.counts;
-    Out {
-        code: r.code,
-        place: r.place,
-        a: r.a,
-        b: r.b,
-        counts: last,
-        top,
-        ret: r.ret,
-    }
+    told(r.code, r.place, r.a, r.b, last, top, r.ret)
 }
 
 // The While at node `at`: its body on a copy of the frames, of which nothing stays; its errors are dropped.
 fn repeat(
     image: &[u8],
     nodes: usize,
-    frames: &[[u16; 128]; 8],
+    rows: &[[u16; 128]; 8],
     top: usize,
     table: &mut [u32; 10272],
     counts: Counts,
@@ -1014,40 +779,22 @@ fn repeat(
     at: usize,
     depth: usize,
 ) -> Out
-    requires { ⌜ Standing (now image) nodes (now frames) top (tab (now table) (counts .types) (counts .elements)) (now stack) ret at (stopOf (nodesOf (now image)) at) ⌝ }
+    requires { ⌜ Standing (now image) nodes (now rows) top (tab (now table) (counts .types) (counts .elements)) (now stack) ret at (stopOf (nodesOf (now image)) at) ⌝ }
     requires { ⌜ Stmt (now image) at depth 9 ⌝ }
     ensures { λ r. ⌜ ((loop : Bool) → Done (namesOf (now (image .entry)))
-        (acted (now (image .entry)) loop depth at (stateOf (tab (now (table .entry)) (counts .types) (counts .elements)) (now (frames .entry)) top ret))
+        (acted (now (image .entry)) loop depth at (stateOf (tab (now (table .entry)) (counts .types) (counts .elements)) (now (rows .entry)) top ret))
         (tab (now (table .entry)) (counts .types) (counts .elements))
         (tab (now (table .exit)) (r .counts .types) (r .counts .elements))
-        (now (frames .entry)) top (r .top) (r .ret) (now (stack .exit))
+        (now (rows .entry)) top (r .top) (r .ret) (now (stack .exit))
         at (stopOf (nodesOf (now (image .entry))) at) (nodeCount (now (image .entry))) (r .code) (r .place) (r .a) (r .b)) ⌝ }
 {
-    let o = condition(
-        image,
-        nodes,
-        frames,
-        top,
-        table,
-        counts,
-        stack,
-        at + 1,
-        depth,
-    );
+    let o = condition(image, nodes, rows, top, table, counts, stack, at + 1, depth);
     let code = o.code;
     let more = o.counts;
     if code != 0 {
-        return Out {
-            code,
-            place: o.place,
-            a: o.a,
-            b: o.b,
-            counts: more,
-            top,
-            ret,
-        };
+        return told(code, o.place, o.a, o.b, more, top, ret);
     }
-    let mut inner = *frames;
+    let mut inner = *rows;
     let b = stop_of(image, nodes, at + 1);
     let r = block(
         image,
@@ -1064,15 +811,7 @@ fn repeat(
         true,
     );
     let last = r.counts;
-    Out {
-        code: r.code,
-        place: r.place,
-        a: r.a,
-        b: r.b,
-        counts: last,
-        top,
-        ret: r.ret,
-    }
+    told(r.code, r.place, r.a, r.b, last, top, r.ret)
 }
 
 // ---- the program

@@ -1,3 +1,4 @@
+-- `stmt::after_arm` meets its contract.
 use Rattle.stmt.proofs.Branching.{block-last, block-when}
 use native.Mathlib.Omega.{arith}
 use borrow.Author.Needs.{needs}

@@ -1,3 +1,4 @@
+-- `stmt::assignment` meets its contract: the value is checked in the second child's nodes, and the target in the first's.
 use Rattle.stmt.proofs.Laws.{few-nodes}
 use Rattle.stmt.proofs.Leaves.{assignment-bad, assignment-done, target-ready, value-at, value-ready}
 use native.Mathlib.Omega.{arith}

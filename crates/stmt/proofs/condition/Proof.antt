@@ -1,3 +1,4 @@
+-- `stmt::condition` meets its contract: each way out is one law of Leaves.
 use Rattle.stmt.proofs.Leaves.{condition-bad, condition-done, condition-other}
 use native.Mathlib.Omega.{arith}
 use borrow.Author.Needs.{needs}

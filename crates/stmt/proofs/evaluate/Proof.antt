@@ -1,3 +1,4 @@
+-- `stmt::evaluate` meets its contract: each way out is one law of Leaves.
 use Rattle.stmt.proofs.Leaves.{evaluate-bad, evaluate-done}
 use native.Mathlib.Omega.{arith}
 use borrow.Author.Needs.{needs}

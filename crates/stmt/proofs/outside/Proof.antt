@@ -1,3 +1,4 @@
+-- `stmt::outside` meets its contract.
 use Rattle.meaning.specs.Base.{if_then_else_}
 use native.Mathlib.Omega.{arith}
 use borrow.Author.Needs.{needs}

@@ -1,3 +1,4 @@
+-- `stmt::parameters` meets its contract: the parameters before j are bound; the measure is how many are left.
 use Rattle.stmt.proofs.Laws.{few-nodes, stop-is}
 use Rattle.stmt.proofs.Leaves.{Entering, entering-end, entering-first, entering-here, entering-last, entering-next}
 use mathlib.Core.Path.{_∙_, ap}

@@ -1,3 +1,4 @@
+-- `stmt::program` meets its contract: what is left of the module ends as all of it ends; the measure is how many statements are left.
 use Rattle.stmt.proofs.Modules.{Running, running-at, running-end, running-first, running-here, running-next, running-out, running-standing, some-node}
 use Rattle.types.specs.Table.{tab}
 use mathlib.Core.Path.{ap}
