@@ -229,7 +229,7 @@ fn all_printable(s: &[u8]) -> bool
     true
 }
 
-fn text_stands(last: &[u8], s: &[u8]) -> bool
+pub fn text_stands(last: &[u8], s: &[u8]) -> bool
     ensures { λ r. ⌜ r ≡ textStands (now (last .entry)) (now (s .entry)) ⌝ }
 {
     if s.len() < 1 {

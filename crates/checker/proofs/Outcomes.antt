@@ -1,0 +1,125 @@
+-- What `check` promises, from the ends of its parts; and that no second outcome fits.
+use mathlib.Core.Path.{_≡_, refl, sym, ap, _∙_}
+use mathlib.Core.Bool.{Bool, true, false}
+use mathlib.Core.List.{List, [], _∷_}
+use mathlib.Core.Option.{some}
+use Prim.Native.Nat.{ℕ, _≤_, _<_}
+use native.Mathlib.Omega.{arith}
+use borrow.Author.Tests.{ne-eqb}
+use lib.Dec.{leb, eqb}
+use lib.ListN.{length}
+use Rattle.meaning.specs.Base.{choose, if_then_else_}
+use Rattle.meaning.specs.Image.{Fault, imageFault, nodeCount, nodesFrom, namesOf}
+use Rattle.meaning.specs.Frames.{newest}
+use Rattle.meaning.specs.Sheet.{entries, sheetOf}
+use Rattle.meaning.specs.Answer.{Answer as Meant, bare, written, answer, overlaid}
+use Rattle.meaning.proofs.Faults.{Sound}
+use Rattle.meaning.proofs.Answers.{overlaid-none}
+use Rattle.types.specs.Table.{Tab, Wf}
+use Rattle.frames.specs.Env.{Rows, framesOf}
+use Rattle.stmt.specs.Contract.{Ran}
+use Rattle.checker.specs.Answers.{Answers, Wrote, Told, Numbers, bareNumbers, numbersOf, numbersIn, Stands}
+use Rattle.checker.specs.Steps.{Accepting, Refusing, refusedAs}
+use Rattle.checker.specs.declared.Refusal.{Refusal}
+use Rattle.checker.specs.declared.Answer.{Answer}
+use Rattle.checker.specs.declared.Answer.the-variants.{Accepted, BadHead, BadCount, BadOffset, BadName, UnsafeName, BadNode, BadNesting, TooDeep, NinthFrame, ShortBuffer, Typing}
+use Rattle.checker.proofs.Ends.{answer-fault, ran-well, ran-deep, ran-ill, ran-typing}
+
+-- a buffer that nothing was written to
+kept : (m : List ℕ) → m ≡ overlaid [] m
+kept m = sym (overlaid-none m)
+
+no-message : (room : ℕ) (bs : List ℕ) → written room bs .message ≡ []
+unfolding written if_then_else_
+no-message room bs = by (leb (length bs) room)
+  where
+    by : (b : Bool) → (if b then record { code = 0; place = 0; spanStart = 0; spanEnd = 0; sheet = bs; message = [] } else bare 10 0) .message ≡ []
+    by true = refl
+    by false = refl
+
+pub answers-fault : (bs : List ℕ) (x y : ℕ) {f : Fault} {q : Answer} {s m : List ℕ} → imageFault bs ≡ some f → numbersOf q ≡ bareNumbers (f .code) (f .place)
+    → Stands q → Answers (answer bs x y) q s s m m
+answers-fault bs x y {f} {q} {s} {m} e n t =
+    rw (answer-fault bs f x y e) record { numbers = n; stands = t; sheet = kept s; message = kept m }
+
+module _ {bs : List ℕ} {t u : Tab} {gs : Rows} {top : ℕ} {su : List ℕ} {code place a b : ℕ} (h : Sound bs) (r : Ran bs t u gs top su code place a b) where
+  pub ran-accepting : code ≡ 0 → Accepting bs u gs top
+  ran-accepting z = let l = r .left (λ n. absurd (omega arith)) in record { sound = h; wf = l .grown .wf; fit = l .fit }
+
+  pub answers-accepted : {q : Answer} {old new m : List ℕ} → code ≡ 0
+      → Wrote (written (length old) (sheetOf (entries (namesOf bs) (newest (framesOf u gs top))))) q old new → Answers (answer bs (length old) (length m)) q old new m m
+  answers-accepted {q} {old} {new} {m} z w =
+      rw (ran-well h r z (length old) (length m)) record {
+        numbers = w .numbers;
+        stands = w .stands;
+        sheet = w .sheet;
+        message = rw (no-message (length old) (sheetOf (entries (namesOf bs) (newest (framesOf u gs top))))) (kept m);
+      }
+
+  pub answers-deep : (x y : ℕ) {s m : List ℕ} → (code ≡ 0 → ⊥) → code ≡ 9 → Answers (answer bs x y) (NinthFrame place) s s m m
+  answers-deep x y {s} {m} z n = rw (ran-deep h r z n x y) record { numbers = refl; stands = tt; sheet = kept s; message = kept m }
+
+  pub ran-refusing : {nodes : ℕ} → nodes ≡ nodesFrom bs → (code ≡ 0 → ⊥) → (code ≡ 9 → ⊥) → Refusing bs nodes u code place a b
+  ran-refusing e z n = record {
+    sound = h;
+    nodes-at = e;
+    wf = r .left n .grown .wf;
+    named = r .named n;
+    typing = ran-typing h r z n;
+  }
+
+  pub answers-refused : (x : ℕ) {q : Answer} {s old new : List ℕ} → (code ≡ 0 → ⊥) → (code ≡ 9 → ⊥) → Told (refusedAs bs u code place a b (length old)) q old new
+      → Answers (answer bs x (length old)) q s s old new
+  unfolding refusedAs
+  answers-refused x {q} {s} {old} {new} z n w =
+      rw (ran-ill h r z n x (length old)) record { numbers = w .numbers; stands = w .stands; sheet = kept s; message = w .message }
+
+-- ---- no second outcome fits
+
+-- the answer that has these numbers
+unfoldable answerFrom : Numbers → Answer
+answerFrom n =
+    choose (n .code)
+    (Typing (record { code = n .code; place = n .place; begins = n .spanStart; ends = n .spanEnd; message = n .message }))
+    ((0, Accepted (n .sheet)) ∷ (1, BadHead) ∷ (2, BadCount) ∷ (3, BadOffset) ∷ (4, BadName (n .place)) ∷ (5, UnsafeName (n .place)) ∷ (6, BadNode (n .place))
+    ∷ (7, BadNesting (n .place)) ∷ (8, TooDeep (n .place)) ∷ (9, NinthFrame (n .place)) ∷ (10, ShortBuffer) ∷ [])
+
+not-below : (c k : ℕ) → 20 ≤ c → k ≤ 10 → eqb c k ≡ false
+not-below c k h l = ne-eqb c k (λ e. absurd (omega arith))
+
+answer-back : (r : Answer) → Stands r → answerFrom (numbersOf r) ≡ r
+unfolding answerFrom choose if_then_else_
+answer-back (Accepted n) s = refl
+answer-back BadHead s = refl
+answer-back BadCount s = refl
+answer-back BadOffset s = refl
+answer-back (BadName i) s = refl
+answer-back (UnsafeName i) s = refl
+answer-back (BadNode i) s = refl
+answer-back (BadNesting i) s = refl
+answer-back (TooDeep i) s = refl
+answer-back (NinthFrame i) s = refl
+answer-back ShortBuffer s = refl
+answer-back (Typing q) s =
+    let n : (k : ℕ) → k ≤ 10 → eqb (q .code) k ≡ false = λ k l. not-below (q .code) k s l in
+    rw (
+      n 0 (omega arith),
+      n 1 (omega arith),
+      n 2 (omega arith),
+      n 3 (omega arith),
+      n 4 (omega arith),
+      n 5 (omega arith),
+      n 6 (omega arith),
+      n 7 (omega arith),
+      n 8 (omega arith),
+      n 9 (omega arith),
+      n 10 (omega arith),
+    )
+
+-- two outcomes that both meet the promise are equal, answer and bytes
+pub one-outcome : (a : Meant) {r q : Answer} {s s₁ s₂ m m₁ m₂ : List ℕ} → Answers a r s s₁ m m₁ → Answers a q s s₂ m m₂ → (r ≡ q) × (s₁ ≡ s₂) × (m₁ ≡ m₂)
+one-outcome a {r} {q} x y = (
+  sym (answer-back r (x .stands)) ∙ ap answerFrom (x .numbers ∙ sym (y .numbers)) ∙ answer-back q (y .stands),
+  x .sheet ∙ sym (y .sheet),
+  x .message ∙ sym (y .message),
+)

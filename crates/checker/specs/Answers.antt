@@ -1,0 +1,83 @@
+-- The answers of the public functions in the document's numbers, and what they leave of the lent bytes.
+use mathlib.Core.Path.{_≡_}
+use mathlib.Core.List.{List}
+use Prim.Native.Nat.{ℕ, _≤_}
+use lib.ListN.{length}
+use Rattle.meaning.specs.Answer.{overlaid}
+use Rattle.meaning.specs.Answer.{Answer as Meant}
+use Rattle.checker.specs.declared.Refusal.{Refusal}
+use Rattle.checker.specs.declared.Answer.{Answer}
+use Rattle.checker.specs.declared.Answer.the-variants.{Accepted, BadHead, BadCount, BadOffset, BadName, UnsafeName, BadNode, BadNesting, TooDeep, NinthFrame, ShortBuffer, Typing}
+
+-- "Code, place, span, sheet length, message length."
+pub record Numbers : Type 0 where
+  pub code : ℕ
+  pub place : ℕ
+  pub spanStart : ℕ
+  pub spanEnd : ℕ
+  pub sheet : ℕ
+  pub message : ℕ
+
+abbrev pub bareNumbers : ℕ → ℕ → Numbers
+bareNumbers c n = record { code = c; place = n; spanStart = 0; spanEnd = 0; sheet = 0; message = 0 }
+
+-- the numbers of each case
+abbrev pub numbersOf : Answer → Numbers
+numbersOf (Accepted n) = record { code = 0; place = 0; spanStart = 0; spanEnd = 0; sheet = n; message = 0 }
+numbersOf BadHead = bareNumbers 1 0
+numbersOf BadCount = bareNumbers 2 0
+numbersOf BadOffset = bareNumbers 3 0
+numbersOf (BadName i) = bareNumbers 4 i
+numbersOf (UnsafeName i) = bareNumbers 5 i
+numbersOf (BadNode i) = bareNumbers 6 i
+numbersOf (BadNesting i) = bareNumbers 7 i
+numbersOf (TooDeep i) = bareNumbers 8 i
+numbersOf (NinthFrame i) = bareNumbers 9 i
+numbersOf ShortBuffer = bareNumbers 10 0
+numbersOf (Typing r) =
+    record { code = r .code; place = r .place; spanStart = r .begins; spanEnd = r .ends; sheet = 0; message = r .message }
+
+-- a typing refusal has a typing code
+abbrev pub Stands : Answer → Type 0
+Stands (Accepted n) = Unit {0}
+Stands BadHead = Unit {0}
+Stands BadCount = Unit {0}
+Stands BadOffset = Unit {0}
+Stands (BadName i) = Unit {0}
+Stands (UnsafeName i) = Unit {0}
+Stands (BadNode i) = Unit {0}
+Stands (BadNesting i) = Unit {0}
+Stands (TooDeep i) = Unit {0}
+Stands (NinthFrame i) = Unit {0}
+Stands ShortBuffer = Unit {0}
+Stands (Typing r) = 20 ≤ r .code
+
+-- the numbers of an answer of `meaning`
+abbrev pub numbersIn : Meant → Numbers
+numbersIn a =
+    record {
+      code = a .code;
+      place = a .place;
+      spanStart = a .spanStart;
+      spanEnd = a .spanEnd;
+      sheet = length (a .sheet);
+      message = length (a .message);
+    }
+
+-- r has the numbers of a, a's sheet stands at the front of the one buffer and its message at the front of the other, and the rest is kept
+pub record Answers (a : Meant) (r : Answer) (oldSheet newSheet oldMessage newMessage : List ℕ) : Type 0 where
+  pub numbers : numbersOf r ≡ numbersIn a
+  pub stands : Stands r
+  pub sheet : newSheet ≡ overlaid (a .sheet) oldSheet
+  pub message : newMessage ≡ overlaid (a .message) oldMessage
+
+-- the same where only the sheet's buffer is lent, or only the message's
+pub record Wrote (a : Meant) (r : Answer) (old new : List ℕ) : Type 0 where
+  pub numbers : numbersOf r ≡ numbersIn a
+  pub stands : Stands r
+  pub sheet : new ≡ overlaid (a .sheet) old
+
+pub record Told (a : Meant) (r : Answer) (old new : List ℕ) : Type 0 where
+  pub numbers : numbersOf r ≡ numbersIn a
+  pub stands : Stands r
+  pub message : new ≡ overlaid (a .message) old

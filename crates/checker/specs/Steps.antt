@@ -1,0 +1,40 @@
+-- The steps of a check.
+use mathlib.Core.Path.{_≡_}
+use mathlib.Core.List.{List, []}
+use Prim.Native.Nat.{ℕ, _≤_}
+use Rattle.meaning.specs.Image.{nodeCount, nodesFrom, nodesOf, nodeOf, namesOf}
+use Rattle.meaning.specs.Message.{message, refusal}
+use Rattle.meaning.specs.Answer.{Answer, fitting}
+use Rattle.meaning.proofs.Faults.{Sound}
+use Rattle.types.specs.Table.{Tab, Wf}
+use Rattle.frames.specs.Env.{Rows, Fit}
+use Rattle.rules.specs.Outcome.{pieces}
+use Rattle.targets.specs.Ending.{Named}
+
+-- ---- an accepted program
+
+pub record Accepting (bs : List ℕ) (t : Tab) (fs : Rows) (top : ℕ) : Type 0 where
+  pub sound : Sound bs
+  pub wf : Wf t
+  pub fit : Fit t fs top
+
+-- ---- a typing refusal
+
+pub record Refusing (bs : List ℕ) (nodes : ℕ) (t : Tab) (code place a b : ℕ) : Type 0 where
+  pub sound : Sound bs
+  pub nodes-at : nodes ≡ nodesFrom bs
+  pub wf : Wf t
+  pub named : Named t (nodeCount bs) code place a b
+  pub typing : 20 ≤ code
+
+-- the answer of a refusal whose message has so much room
+unfoldable pub refusedAs : List ℕ → Tab → ℕ → ℕ → ℕ → ℕ → ℕ → Answer
+refusedAs bs t code place a b room =
+    record {
+      code = code;
+      place = place;
+      spanStart = nodeOf (nodesOf bs) place .spanStart;
+      spanEnd = nodeOf (nodesOf bs) place .spanEnd;
+      sheet = [];
+      message = fitting room (message (refusal code place (pieces (namesOf bs) t code a b)));
+    }

@@ -1,0 +1,162 @@
+// The public face: an image checked, a sheet read, a sheet written again. Nothing is asked of the caller, and each answer is one of an enum
+// whose numbers `specs/Answers.antt` gives.
+ghost use mathlib.Core.Path.{_≡_};
+ghost use lib.ListN.{length};
+ghost use Rattle.meaning.specs.Image.{namesOf};
+ghost use Rattle.meaning.specs.Frames.{newest};
+ghost use Rattle.meaning.specs.Sheet.{entries, sheetOf};
+ghost use Rattle.meaning.specs.Answer.{answer, written};
+ghost use Rattle.meaning.proofs.Faults.{Sound};
+ghost use Rattle.types.specs.Table.{tab};
+ghost use Rattle.frames.specs.Env.{framesOf};
+ghost use Rattle.checker.specs.Answers.{Answers, Wrote, Told};
+ghost use Rattle.checker.specs.Steps.{Accepting, Refusing, refusedAs};
+use image::Judged;
+use image::areas;
+use image::judge;
+use image::node_at;
+use names::list_names;
+use stmt::program;
+use types::Counts;
+use types::start;
+
+// A typing refusal: its code, 20 to 50, its node with its span, and the length of its message, 0 if that did not fit.
+pub struct Refusal {
+    pub code: u32,
+    pub place: usize,
+    pub begins: u32,
+    pub ends: u32,
+    pub message: usize,
+}
+
+// Code 0 with the sheet's length; 1 to 8, those of a name or a node with its number; 9 with the Def; 10; or a typing refusal.
+pub enum Answer {
+    Accepted(usize),
+    BadHead,
+    BadCount,
+    BadOffset,
+    BadName(usize),
+    UnsafeName(usize),
+    BadNode(usize),
+    BadNesting(usize),
+    TooDeep(usize),
+    NinthFrame(usize),
+    ShortBuffer,
+    Typing(Refusal),
+}
+
+// ---- an accepted program
+
+// Code 0 and the sheet of the names that the row `top` holds, or 10.
+fn accept(
+    image: &[u8],
+    table: &[u32; 10272],
+    counts: Counts,
+    frames: &[[u16; 128]; 8],
+    top: usize,
+    sheet: &mut [u8],
+) -> Answer
+    requires { ⌜ Accepting (now image) (tab (now table) (counts .types) (counts .elements)) (now frames) top ⌝ }
+    ensures { λ r. ⌜ Wrote (written (length (now (sheet .entry))) (sheetOf (entries (namesOf (now (image .entry)))
+        (newest (framesOf (tab (now (table .entry)) (counts .types) (counts .elements)) (now (frames .entry)) top)))))
+        r (now (sheet .entry)) (now (sheet .exit)) ⌝ }
+{
+    let mut names = [0u32; 384];
+    let count = list_names(image, frames, top, &mut names);
+    let w = sheet::write(image, table, counts, &names, count, sheet);
+    if w.fits {
+        return Answer::Accepted(w.length);
+    }
+    Answer::ShortBuffer
+}
+
+// ---- a typing refusal
+
+fn refuse(
+    image: &[u8],
+    nodes: usize,
+    table: &[u32; 10272],
+    counts: Counts,
+    code: u32,
+    place: usize,
+    a: usize,
+    b: usize,
+    message: &mut [u8],
+) -> Answer
+    requires { ⌜ Refusing (now image) nodes (tab (now table) (counts .types) (counts .elements)) code place a b ⌝ }
+    ensures { λ r. ⌜ Told (refusedAs (now (image .entry)) (tab (now (table .entry)) (counts .types) (counts .elements)) code place a b (length (now (message .entry))))
+        r (now (message .entry)) (now (message .exit)) ⌝ }
+{
+    let node = node_at(image, nodes, place);
+    let length = message::write(image, table, counts, code, a, b, message);
+    Answer::Typing(Refusal {
+        code,
+        place,
+        begins: node.begins,
+        ends: node.ends,
+        message: length,
+    })
+}
+
+// ---- the whole
+
+// The answer for a well-formed image.
+fn walk_image(image: &[u8], sheet: &mut [u8], message: &mut [u8]) -> Answer
+    requires { ⌜ Sound (now image) ⌝ }
+    ensures { λ r. ⌜ Answers (answer (now (image .entry)) (length (now (sheet .entry))) (length (now (message .entry))))
+        r (now (sheet .entry)) (now (sheet .exit)) (now (message .entry)) (now (message .exit)) ⌝ }
+{
+    let mut table = [0u32; 10272];
+    start(&mut table);
+    let mut frames = [[0u16; 128]; 8];
+    let mut stack = [0u32; 2048];
+    let l = areas(image);
+    let w = program(
+        image,
+        l.nodes,
+        &mut frames,
+        &mut table,
+        &mut stack,
+        Counts {
+            types: 8,
+            elements: 0,
+        },
+    );
+    let code = w.code;
+    if code == 0 {
+        return accept(image, &table, w.counts, &frames, w.top, sheet);
+    }
+    if code == 9 {
+        return Answer::NinthFrame(w.place);
+    }
+    refuse(
+        image,
+        l.nodes,
+        &table,
+        w.counts,
+        code,
+        w.place,
+        w.a,
+        w.b,
+        message,
+    )
+}
+
+// Checks an image: the one answer, the sheet at the front of its buffer if the program is accepted and the sheet fits, the message at the
+// front of its buffer if there is a typing refusal and the message fits, and no other byte changed.
+pub fn check(image: &[u8], sheet: &mut [u8], message: &mut [u8]) -> Answer
+    ensures { λ r. ⌜ Answers (answer (now (image .entry)) (length (now (sheet .entry))) (length (now (message .entry))))
+        r (now (sheet .entry)) (now (sheet .exit)) (now (message .entry)) (now (message .exit)) ⌝ }
+{
+    match judge(image) {
+        Judged::WellFormed => walk_image(image, sheet, message),
+        Judged::BadHead => Answer::BadHead,
+        Judged::BadCount => Answer::BadCount,
+        Judged::BadOffset => Answer::BadOffset,
+        Judged::BadName(i) => Answer::BadName(i),
+        Judged::UnsafeName(i) => Answer::UnsafeName(i),
+        Judged::BadNode(i) => Answer::BadNode(i),
+        Judged::BadNesting(i) => Answer::BadNesting(i),
+        Judged::TooDeep(i) => Answer::TooDeep(i),
+    }
+}

@@ -1,0 +1,204 @@
+-- The turns of the walk over the names: what is listed so far and what is left come to all entries. Assumes nothing.
+use mathlib.Core.Path.{_≡_, refl, sym, ap, _∙_}
+use mathlib.Core.Bool.{true}
+use mathlib.Core.List.{List, [], _∷_, _++_, map, map-append, append-assoc, append-nil}
+use mathlib.Core.Option.{none, some}
+use Prim.Native.Nat.{ℕ, zero, suc, _+_, _-_, _*_, _≤_, _<_}
+use native.Mathlib.Nat.{add-zero, zero-add, not-suc-le-zero, le-of-suc-le-suc}
+use native.Mathlib.Numerals.{add-one, sub-one}
+use native.Mathlib.Omega.{arith}
+use lib.ListN.{length, getD, take, drop, length-map, drop-of-length-le}
+use lib.Seq.{drop-cons}
+use borrow.Author.Count.{below-more}
+use borrow.Author.Tests.{eqb-true, leb-true}
+use Rattle.meaning.specs.Base.{ifSome, count}
+use Rattle.meaning.specs.Limits.{longestName}
+use Rattle.meaning.specs.Types.{Ty}
+use Rattle.meaning.specs.Image.{Name, NameRecord, nameRecords, nameCount, textsFrom, textsOf, namesOf, nameOf, plain, textStands, wrongName, brokenName}
+use Rattle.meaning.specs.Frames.{Frame}
+use Rattle.meaning.specs.Sheet.{Entry, entries}
+use Rattle.meaning.proofs.Choices.{and-left, and-right, if-none}
+use Rattle.meaning.proofs.Faults.{Sound, sizes}
+use Rattle.types.specs.Table.{Tab, Wf, denote}
+use Rattle.frames.specs.Env.{Rows, cell, slot, frameOf, Fit}
+use Rattle.frames.proofs.Laws.{slot-row}
+use Rattle.image.specs.Parts.{recordOf, nameStands}
+use Rattle.image.proofs.Records.{records-count, names-many, text-inside, text-fits, text-of}
+use Rattle.sheet.specs.Listing.{startAt, lengthAt, typeAt, entryAt, listedFrom, listed}
+use Rattle.names.specs.Names.{PutName, Names}
+
+-- ---- a text that stands is of 64 bytes at most
+
+name-short : (texts : List ℕ) (from : ℕ) (last : List ℕ) (r : NameRecord) → nameStands texts from last r ≡ true → r .size ≤ 64
+unfolding nameStands textStands
+name-short texts from last r e =
+    let s = take (r .size) (drop from texts) in
+    let whole : length s ≡ r .size = eqb-true _ _ (and-right _ _ (and-left _ _ (and-left _ _ e))) in
+    let few : length s ≤ 64 = leb-true (length s) longestName (and-right _ _ (and-left _ _ (and-left _ _ (and-right _ _ (and-left _ _ e))))) in
+    omega arith
+
+names-short : (texts : List ℕ) (i from : ℕ) (last : List ℕ) (rs : List NameRecord) → wrongName texts i from last rs ≡ none
+    → (k : ℕ) → k < length rs → recordOf rs k .size ≤ 64
+unfolding wrongName nameStands recordOf
+names-short texts i from last [] e k h = absurd (not-suc-le-zero h)
+names-short texts i from last (r ∷ rs) e zero h = name-short texts from last r (if-none _ _ _ e .0)
+names-short texts i from last (r ∷ rs) e (suc k) h =
+    names-short texts (suc i) (from + r .size) (take (r .size) (drop from texts)) rs (if-none _ _ _ e .1) k (le-of-suc-le-suc h)
+
+pub text-short : (bs : List ℕ) → brokenName bs ≡ none → (k : ℕ) → k < nameCount bs → recordOf (nameRecords bs) k .size ≤ 64
+unfolding brokenName
+text-short bs e k h = names-short (textsOf bs) 0 0 [] (nameRecords bs) e k (rw records-count h)
+
+-- ---- the entries from name k on
+
+module _ (ws : List Name) (f : Frame) (k : ℕ) (hw : k < length ws) (hf : k < length f) where
+  entries-skip : getD f k none ≡ none → entries (drop k ws) (drop k f) ≡ entries (drop (k + 1) ws) (drop (k + 1) f)
+  unfolding entries ifSome
+  entries-skip e = rw (drop-cons ws k (record { spelling = []; role = plain }) hw, drop-cons f k none hf, e, add-one)
+
+  entries-more : (y : Ty) → getD f k none ≡ some y
+      → entries (drop k ws) (drop k f) ≡ (nameOf ws k .spelling, y) ∷ entries (drop (k + 1) ws) (drop (k + 1) f)
+  unfolding entries ifSome nameOf
+  entries-more y e = rw (drop-cons ws k (record { spelling = []; role = plain }) hw, drop-cons f k none hf, e, add-one)
+
+slot-none : (t : Tab) (v : ℕ) → v ≡ 0 → slot t v ≡ none
+unfolding slot
+slot-none t v e = rw e
+
+slot-some : (t : Tab) (v : ℕ) → (v ≡ 0 → ⊥) → slot t v ≡ some (denote t (v - 1))
+unfolding slot
+slot-some t zero n = absurd (n refl)
+slot-some t (suc v) n = rw (sub-one (suc v))
+
+-- ---- the list of c names, and one more
+
+count-more : (i n : ℕ) → count i (suc n) ≡ count i n ++ ((i + n) ∷ [])
+unfolding count
+count-more i zero = rw add-zero
+count-more i (suc n) =
+    let e : suc i + n ≡ i + suc n = omega arith in
+    ap (λ l. i ∷ l) (rw e at (count-more (suc i) n))
+
+listed-more : (bs : List ℕ) (t : Tab) (cells : List ℕ) (c : ℕ) → listed bs t cells (suc c) ≡ listed bs t cells c ++ (entryAt bs t cells c ∷ [])
+unfolding listed listedFrom
+listed-more bs t cells c =
+    ap (map (entryAt bs t cells)) (rw zero-add at (count-more 0 c)) ∙ map-append (entryAt bs t cells) (count 0 c) (c ∷ [])
+
+listed-none : (bs : List ℕ) (t : Tab) (cells : List ℕ) → listed bs t cells 0 ≡ []
+unfolding listed listedFrom count
+listed-none bs t cells = refl
+
+entry-same : (bs : List ℕ) (t : Tab) (cs ds : List ℕ) (c : ℕ) → ((x : ℕ) → x < 3 * suc c → getD ds x 0 ≡ getD cs x 0) → entryAt bs t ds c ≡ entryAt bs t cs c
+unfolding entryAt
+entry-same bs t cs ds c h = rw (h (3 * c) (omega arith), h (3 * c + 1) (omega arith), h (3 * c + 2) (omega arith))
+
+-- cells from c on do not matter to the first c names
+listed-same : (bs : List ℕ) (t : Tab) (cs ds : List ℕ) (c : ℕ) → ((x : ℕ) → x < 3 * c → getD ds x 0 ≡ getD cs x 0) → listed bs t ds c ≡ listed bs t cs c
+listed-same bs t cs ds zero h = listed-none bs t ds ∙ sym (listed-none bs t cs)
+listed-same bs t cs ds (suc c) h =
+    let a : listed bs t ds c ≡ listed bs t cs c = listed-same bs t cs ds c (λ x l. h x (omega arith)) in
+    let b : entryAt bs t ds c ≡ entryAt bs t cs c = entry-same bs t cs ds c h in
+    listed-more bs t ds c ∙ rw (a, b) (sym (listed-more bs t cs c))
+
+-- ---- after k names, of which c are listed
+
+pub record Naming (bs : List ℕ) (fs : Rows) (top : ℕ) (cells : List ℕ) (k c : ℕ) : Type 0 where
+  pub here : k ≤ nameCount bs
+  pub few : c ≤ k
+  pub long : length cells ≡ 384
+  pub inside : (j : ℕ) → j < c → startAt cells j + lengthAt cells j ≤ length bs
+  pub short : (j : ℕ) → j < c → lengthAt cells j ≤ 64
+  pub known : (t : Tab) → Wf t → Fit t fs top → (j : ℕ) → j < c → typeAt cells j < t.n
+  pub answer : (t : Tab) → Wf t → Fit t fs top
+      → listed bs t cells c ++ entries (drop k (namesOf bs)) (drop k (frameOf t (getD fs top [])))
+      ≡ entries (namesOf bs) (frameOf t (getD fs top []))
+
+pub naming-first : (bs : List ℕ) (fs : Rows) (top : ℕ) (cells : List ℕ) → length cells ≡ 384 → Naming bs fs top cells 0 0
+naming-first bs fs top cells l = record {
+  here = omega arith;
+  few = omega arith;
+  long = l;
+  inside = λ j h. absurd (not-suc-le-zero h);
+  short = λ j h. absurd (not-suc-le-zero h);
+  known = λ t w f j h. absurd (not-suc-le-zero h);
+  answer = λ t w f. rw (listed-none bs t cells);
+}
+
+row-long : (t : Tab) (fs : Rows) (top : ℕ) → Fit t fs top → length (frameOf t (getD fs top [])) ≡ 128
+unfolding frameOf
+row-long t fs top f = length-map (getD fs top []) (slot t) ∙ f .wide top (f .high)
+
+-- name k and its slot are within their lists
+module _ {bs : List ℕ} (s : Sound bs) (k : ℕ) (l : k < nameCount bs) where
+  name-here : k < length (namesOf bs)
+  name-here = rw (names-many bs) l
+
+  slot-here : (t : Tab) (fs : Rows) (top : ℕ) → Fit t fs top → k < length (frameOf t (getD fs top []))
+  slot-here t fs top f = omega (arith, sizes (s .headed) .names, row-long t fs top f)
+
+pub naming-skip : {bs : List ℕ} {fs : Rows} {top : ℕ} {cells : List ℕ} {k c : ℕ} → Sound bs → Naming bs fs top cells k c → k < nameCount bs
+    → cell fs top k ≡ 0 → Naming bs fs top cells (k + 1) c
+naming-skip {bs} {fs} {top} {cells} {k} {c} s n l z = record {
+  here = omega arith;
+  few = omega (arith, n .few);
+  long = n .long;
+  inside = n .inside;
+  short = n .short;
+  known = n .known;
+  answer = λ t w f.
+      let row = getD fs top [] in
+      let e : getD (frameOf t row) k none ≡ none = slot-row t row k ∙ slot-none t (getD row k 0) z in
+      rw (entries-skip (namesOf bs) (frameOf t row) k (name-here s k l) (slot-here s k l t fs top f) e) at (n .answer t w f);
+}
+
+module _ {bs : List ℕ} (s : Sound bs) {fs : Rows} {top k c : ℕ} {cs ds : List ℕ} {from len ty : ℕ}
+    (n : Naming bs fs top cs k c) (l : k < nameCount bs) (z : cell fs top k ≡ 0 → ⊥) (p : PutName cs ds c from len ty)
+    (ef : from ≡ textsFrom bs + recordOf (nameRecords bs) k .start) (el : len ≡ recordOf (nameRecords bs) k .size) (et : ty ≡ cell fs top k - 1) where
+  entry-put : (t : Tab) → entryAt bs t ds c ≡ (nameOf (namesOf bs) k .spelling, denote t (cell fs top k - 1))
+  unfolding entryAt
+  entry-put t = rw (p .start-is, p .length-is, p .type-is, ef, el, et, text-of (s .headed) k)
+
+  answer-put : (t : Tab) → Wf t → Fit t fs top
+      → listed bs t ds (c + 1) ++ entries (drop (k + 1) (namesOf bs)) (drop (k + 1) (frameOf t (getD fs top [])))
+      ≡ entries (namesOf bs) (frameOf t (getD fs top []))
+  answer-put t w f =
+      let row = getD fs top [] in
+      let rest = entries (drop (k + 1) (namesOf bs)) (drop (k + 1) (frameOf t row)) in
+      let here : getD (frameOf t row) k none ≡ some (denote t (cell fs top k - 1)) = slot-row t row k ∙ slot-some t (cell fs top k) z in
+      let more = entries-more (namesOf bs) (frameOf t row) k (name-here s k l) (slot-here s k l t fs top f) (denote t (cell fs top k - 1)) here in
+      let old : listed bs t ds c ≡ listed bs t cs c = listed-same bs t cs ds c (p .before) in
+      let new : listed bs t ds (c + 1) ≡ listed bs t cs c ++ ((nameOf (namesOf bs) k .spelling, denote t (cell fs top k - 1)) ∷ []) =
+      rw (add-one c, ← old, ← entry-put t) (listed-more bs t ds c) in
+      rw (new, append-assoc) (rw more at (n .answer t w f))
+
+  pub naming-put : Naming bs fs top ds (k + 1) (c + 1)
+  naming-put = record {
+    here = omega arith;
+    few = omega (arith, n .few);
+    long = p .long ∙ n .long;
+    inside = below-more (λ j. startAt ds j + lengthAt ds j ≤ length bs) c
+        (λ j h. omega (arith, p .before (3 * j) (omega arith), p .before (3 * j + 1) (omega arith), n .inside j h))
+        (omega (arith, p .start-is, p .length-is, text-fits (s .headed) (s .names) k l, text-inside (s .headed)));
+    short = below-more (λ j. lengthAt ds j ≤ 64) c
+        (λ j h. omega (arith, p .before (3 * j + 1) (omega arith), n .short j h))
+        (omega (arith, p .length-is, text-short bs (s .names) k l));
+    known = λ t w f. below-more (λ j. typeAt ds j < t.n) c
+        (λ j h. omega (arith, p .before (3 * j + 2) (omega arith), n .known t w f j h))
+        (omega (arith, p .type-is, f .known top k (f .high)));
+    answer = answer-put;
+  }
+
+listed-end : (ws : List Name) (f : Frame) (k : ℕ) (l es : List Entry) → length ws ≤ k → l ++ entries (drop k ws) (drop k f) ≡ es → l ≡ es
+unfolding entries
+listed-end ws f k l es h a = rw (drop-of-length-le ws h, append-nil) at a
+
+pub naming-end : {bs : List ℕ} {fs : Rows} {top : ℕ} {cells : List ℕ} {k c : ℕ} → Sound bs → Naming bs fs top cells k c → nameCount bs ≤ k
+    → Names bs fs top cells c
+naming-end {bs} {fs} {top} {cells} {k} {c} s n l =
+    let few : c ≤ 128 = omega (arith, n .few, n .here, sizes (s .headed) .names) in
+    let past : length (namesOf bs) ≤ k = rw (names-many bs) l in
+    record {
+      listing = λ t w f. record { wf = w; few = few; inside = n .inside; short = n .short; known = n .known t w f };
+      listed-is = λ t w f.
+          listed-end (namesOf bs) (frameOf t (getD fs top [])) k (listed bs t cells c) (entries (namesOf bs) (frameOf t (getD fs top []))) past (n .answer t w f);
+    }

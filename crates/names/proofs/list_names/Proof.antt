@@ -1,0 +1,136 @@
+-- The answers stand by name in answers/list_names.txt.
+use Rattle.names.proofs.Naming.{Naming, naming-first, naming-skip, naming-put, naming-end}
+use Rattle.image.proofs.Records.{head-long, text-fits, text-inside}
+use Rattle.meaning.specs.Image.{NameRecord, nameCount}
+use Rattle.meaning.proofs.Faults.{sizes, image-length}
+use Prim.Native.Nat.{_-_, _<_}
+use mathlib.Core.Logic.{⊎-elim}
+use mathlib.Core.Path.{ap}
+use native.Mathlib.Omega.{arith}
+use borrow.Author.Needs.{needs}
+use Rattle.names.proofs.list_names.Statement.{statement}
+use Rattle.names.proofs.list_names.Tie as tie
+use Rattle.names.proofs.list_names.Reads as reads
+use Rattle.names.proofs.list_names.Lts as lts
+use Rattle.image.proofs.areas.Reads as areas-reads
+use Rattle.image.proofs.name_at.Reads as name-at-reads
+use Rattle.names.proofs.number_of.Reads as number-of-reads
+use Rattle.names.proofs.put_name.Reads as put-name-reads
+
+abbrev Inv-loop : tie.InvT-loop
+Inv-loop image frames top names₀ l k₀ c₀ names k c = Naming image frames top names k c
+
+abbrev μ-loop : tie.MeasureT-loop
+μ-loop image frames top names₀ l k₀ c₀ names k c = nameCount image - k
+
+-- src/lib.rt:39:9
+areas-requires : tie.Need-areas-requires Inv-loop μ-loop
+areas-requires c κs =
+    head-long (c .before .pre .0 .headed)
+
+-- src/lib.rt:42:5
+loop-holds : tie.Need-loop-holds Inv-loop μ-loop
+loop-holds c =
+    naming-first _ _ _ _ (c .before .before .pre .1 .1)
+
+-- src/lib.rt:43:20
+mul-cell : tie.Need-mul-cell Inv-loop μ-loop
+mul-cell c = search needs
+
+-- src/lib.rt:43:20
+mul-cell-2 : tie.Need-mul-cell-2 Inv-loop μ-loop
+mul-cell-2 c =
+    omega (arith, sizes (c .before .before .before .before .before .pre .0 .headed) .names)
+
+-- src/lib.rt:43:20
+index-1-cell : tie.Need-index-1-cell Inv-loop μ-loop
+index-1-cell c = search needs
+
+-- src/lib.rt:43:20
+index-2-cell : tie.Need-index-2-cell Inv-loop μ-loop
+index-2-cell c =
+    omega (arith, sizes (c .before .before .before .before .before .pre .0 .headed) .names)
+
+-- src/lib.rt:45:17
+name-at-requires : tie.Need-name-at-requires Inv-loop μ-loop
+name-at-requires c κs =
+    (c .before .before .before .before .before .before .before .pre .0 .headed, omega arith)
+
+-- src/lib.rt:46:32
+cast-put-name : tie.Need-cast-put-name Inv-loop μ-loop
+cast-put-name c =
+    omega (arith, image-length (c .before .before .before .before .before .before .before .before .before .before .pre .0 .headed), text-inside (c .before .before .before .before .before .before .before .before .before .before .pre .0 .headed))
+
+-- src/lib.rt:46:32
+add-put-name : tie.Need-add-put-name Inv-loop μ-loop
+add-put-name c =
+    let s = c .before .before .before .before .before .before .before .before .before .before .before .pre .0 in
+    let start = ap (λ (r : NameRecord). r .start) (c .before .before .before .name-at .ensures) in
+    let here : c .before .before .before .before .before .before .before .before .loop .k < nameCount (c .before .before .before .before .before .before .before .before .before .before .before .args .image .now) = omega arith in
+    omega (arith, image-length (s .headed), text-inside (s .headed), text-fits (s .headed) (s .names) (c .before .before .before .before .before .before .before .before .loop .k) here)
+
+-- src/lib.rt:46:71
+number-of-requires : tie.Need-number-of-requires Inv-loop μ-loop
+number-of-requires c κs =
+    omega arith
+
+-- src/lib.rt:46:13
+put-name-requires : tie.Need-put-name-requires Inv-loop μ-loop
+put-name-requires c κs =
+    (omega (arith, c .before .before .before .before .before .before .before .before .before .loop .inv .few, sizes (c .before .before .before .before .before .before .before .before .before .before .before .before .pre .0 .headed) .names), c .before .before .before .before .before .before .before .before .before .loop .inv .long)
+
+-- src/lib.rt:47:13
+add-c : tie.Need-add-c Inv-loop μ-loop
+add-c c =
+    omega (arith, c .before .before .before .before .before .before .before .before .before .before .loop .inv .few, sizes (c .before .before .before .before .before .before .before .before .before .before .before .before .before .pre .0 .headed) .names)
+
+-- src/lib.rt:49:9
+add-k : tie.Need-add-k Inv-loop μ-loop
+add-k c =
+    omega (arith, sizes (c .before .before .before .before .before .before .before .pre .0 .headed) .names)
+
+-- src/lib.rt:42:5
+loop-less : tie.Need-loop-less Inv-loop μ-loop
+loop-less c = search needs
+
+-- src/lib.rt:42:5
+loop-again : tie.Need-loop-again Inv-loop μ-loop
+loop-again c =
+    let s = c .before .before .before .before .before .before .before .pre .0 in
+    let here : c .before .before .before .before .loop .k < nameCount (c .before .before .before .before .before .before .before .args .image .now) = omega arith in
+    let texts = c .before .before .before .before .before .areas .ensures .texts in
+    ⊎-elim
+    (λ w.
+    let start = ap (λ (r : NameRecord). r .start) (w .1 .ensures) in
+    let size = ap (λ (r : NameRecord). r .size) (w .1 .ensures) in
+    rw (w .7, w .8) (naming-put s (c .before .before .before .before .loop .inv) here (w .0 .taken) (w .6 .ensures) (omega (arith, texts, start)) size (w .5 .ensures)))
+    (λ w. rw (w .1, w .2) (naming-skip s (c .before .before .before .before .loop .inv) here (w .0 .left)))
+    (c .if2 .came)
+
+-- src/lib.rt:29:1
+returns : tie.Need-returns Inv-loop μ-loop
+returns c =
+    naming-end (c .before .before .before .before .before .pre .0) (c .before .before .loop .inv) (omega arith)
+
+pub list-names-spec : {M : Type 1} → statement M
+list-names-spec =
+    tie.close
+    (tie.spec
+    Inv-loop
+    μ-loop
+    areas-requires
+    loop-holds
+    mul-cell
+    mul-cell-2
+    index-1-cell
+    index-2-cell
+    name-at-requires
+    cast-put-name
+    add-put-name
+    number-of-requires
+    put-name-requires
+    add-c
+    add-k
+    loop-less
+    loop-again
+    returns)

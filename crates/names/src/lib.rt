@@ -1,0 +1,58 @@
+// The names of an accepted program.
+ghost use mathlib.Core.Path.{_≡_};
+ghost use Prim.Native.Nat.{_-_, _<_};
+ghost use lib.ListN.{length};
+ghost use Rattle.meaning.proofs.Faults.{Sound};
+ghost use Rattle.names.specs.Names.{PutName, Names};
+use image::areas;
+use image::name_at;
+
+// Name c of the list: where its text starts, how long it is, and its type.
+fn put_name(names: &mut [u32; 384], c: usize, from: u32, len: u32, ty: u32)
+    requires { ⌜ (c < 128) × (length (now names) ≡ 384) ⌝ }
+    ensures { λ _. ⌜ PutName (now (names .entry)) (now (names .exit)) c from len ty ⌝ }
+{
+    names[3 * c] = from;
+    names[3 * c + 1] = len;
+    names[3 * c + 2] = ty;
+}
+
+// A row's cell is a type's number + 1. In a function of its own, since a cell read from a row is not known to fit its width.
+fn number_of(cell: u16) -> u32
+    requires { ⌜ 0 < cell ⌝ }
+    ensures { λ r. ⌜ r ≡ cell - 1 ⌝ }
+{
+    (cell - 1) as u32
+}
+
+// Lists the names that the row `top` holds, in order, with their types, and gives their number.
+pub fn list_names(
+    image: &[u8],
+    frames: &[[u16; 128]; 8],
+    top: usize,
+    names: &mut [u32; 384],
+) -> usize
+    requires { ⌜ Sound (now image) ⌝ }
+    requires { ⌜ (top < 8) × (length (now names) ≡ 384) ⌝ }
+    ensures { λ r. ⌜ Names (now (image .entry)) (now (frames .entry)) top (now (names .exit)) r ⌝ }
+{
+    let l = areas(image);
+    let mut k = 0;
+    let mut c = 0;
+    while k < l.names {
+        let cell = frames[top][k];
+        if cell != 0 {
+            let name = name_at(image, k);
+            put_name(
+                names,
+                c,
+                l.texts as u32 + name.start,
+                name.len,
+                number_of(cell),
+            );
+            c += 1;
+        }
+        k += 1;
+    }
+    c
+}

@@ -1,0 +1,12 @@
+mod Places
+mod Meeting
+mod Marking
+mod Visiting
+mod Names
+mod Sizes
+mod Areas
+mod Whole
+mod Reading
+mod Typing
+mod Naming
+mod Ending

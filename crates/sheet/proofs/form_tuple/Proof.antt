@@ -1,0 +1,30 @@
+-- The answers stand by name in answers/form_tuple.txt.
+use Rattle.sheet.proofs.Reading.{tuple-gather, tuple-listed, tuple-made}
+use lib.ListN.{length-replicate}
+use Prim.Native.Nat.{ℕ}
+use native.Mathlib.Omega.{arith}
+use borrow.Author.Needs.{needs}
+use Rattle.sheet.proofs.form_tuple.Statement.{statement}
+use Rattle.sheet.proofs.form_tuple.Tie as tie
+use Rattle.sheet.proofs.form_tuple.Reads as reads
+use Rattle.sheet.proofs.form_tuple.Lts as lts
+use Rattle.sheet.proofs.gather.Reads as gather-reads
+use Rattle.types.proofs.tuple_of.Reads as tuple-of-reads
+
+-- src/lib.rt:502:5
+gather-requires : tie.Need-gather-requires
+gather-requires c κs =
+    tuple-gather (c .before .before .pre) (length-replicate {A = ℕ} 2048 0)
+
+-- src/lib.rt:503:5
+tuple-of-requires : tie.Need-tuple-of-requires
+tuple-of-requires c κs =
+    tuple-listed (c .before .before .before .before .before .pre) (c .before .before .gather .ensures)
+
+-- src/lib.rt:485:1
+returns : tie.Need-returns
+returns c =
+    tuple-made (c .before .before .before .before .before .before .pre) (c .before .before .before .gather .ensures) (c .tuple-of .ensures)
+
+pub form-tuple-spec : {M : Type 1} → statement M
+form-tuple-spec = tie.close (tie.spec gather-requires tuple-of-requires returns)

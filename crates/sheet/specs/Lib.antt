@@ -1,0 +1,4 @@
+pub mod Listing
+pub mod Marks
+pub mod Writing
+pub mod Reading
