@@ -1,3 +1,5 @@
+-- Rewriting and the specs are what callers cite.
+pub mod Rewriting
 mod Places
 mod Meeting
 mod Marking

@@ -725,3 +725,41 @@ fn refused() -> ReadSheet
         names: 0,
     }
 }
+
+// A call of its own, since answers say `start` for a function's entry.
+fn begin_table(table: &mut [u32; 10272])
+    requires { ⌜ length (now table) ≡ 10272 ⌝ }
+    ensures { λ _. ⌜ Wf (tab (now (table .exit)) 8 0) ⌝ }
+{
+    start(table);
+}
+
+// Reads a sheet into a table of its types and a list of its names: whatever the bytes, it says whether they are one.
+pub fn read(sheet: &[u8], table: &mut [u32; 10272], names: &mut [u32; 384]) -> ReadSheet
+    requires { ⌜ (length (now table) ≡ 10272) × (length (now names) ≡ 384) ⌝ }
+    ensures { λ r. ⌜ Reads (now (sheet .entry)) (r .stands) (tab (now (table .exit)) (r .counts .types) (r .counts .elements)) (now (names .exit)) (r .names) ⌝ }
+{
+    if !bounded(sheet) {
+        return refused();
+    }
+    begin_table(table);
+    let mut numbers = [0u32; 2048];
+    let types = read_types(sheet, table, &mut numbers);
+    if !types.stands {
+        return refused();
+    }
+    if !read_names(sheet, &numbers, names) {
+        return refused();
+    }
+    let counts = types.counts;
+    let n = word_at(sheet, 20);
+    if !texts_stand(sheet, names, n) {
+        return refused();
+    }
+    let stands = rewrites(sheet, table, counts, names, n);
+    ReadSheet {
+        stands,
+        counts,
+        names: n,
+    }
+}
