@@ -18,7 +18,7 @@ use Rattle.meaning.proofs.Answers.{overlaid-none}
 use Rattle.types.specs.Table.{Tab, Wf}
 use Rattle.frames.specs.Env.{Rows, framesOf}
 use Rattle.stmt.specs.Contract.{Ran}
-use Rattle.checker.specs.Answers.{Answers, Wrote, Told, Numbers, bareNumbers, numbersOf, numbersIn, Stands}
+use Rattle.checker.specs.Answers.{Answers, Wrote, Told, Numbers, bareNumbers, numbersOf, numbersIn, Stands, Replies}
 use Rattle.checker.specs.Steps.{Accepting, Refusing, refusedAs}
 use Rattle.checker.specs.declared.Refusal.{Refusal}
 use Rattle.checker.specs.declared.Answer.{Answer}
@@ -123,3 +123,8 @@ one-outcome a {r} {q} x y = (
   x .sheet ∙ sym (y .sheet),
   x .message ∙ sym (y .message),
 )
+
+-- ---- for other languages
+
+pub replies : {a : Meant} {r : Answer} {n : Numbers} {s s₁ m m₁ : List ℕ} → n ≡ numbersOf r → Answers a r s s₁ m m₁ → Replies a n s s₁ m m₁
+replies e x = record { numbers = e ∙ x .numbers; sheet = x .sheet; message = x .message }

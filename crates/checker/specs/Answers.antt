@@ -3,9 +3,16 @@ use mathlib.Core.Path.{_≡_}
 use mathlib.Core.List.{List}
 use Prim.Native.Nat.{ℕ, _≤_}
 use lib.ListN.{length}
-use Rattle.meaning.specs.Answer.{overlaid}
+use Rattle.meaning.specs.Base.{ifSome}
+use Rattle.meaning.specs.Read.{readSheet}
+use Rattle.meaning.specs.Answer.{overlaid, bare, writeAnswer}
 use Rattle.meaning.specs.Answer.{Answer as Meant}
 use Rattle.checker.specs.declared.Refusal.{Refusal}
+use Rattle.checker.specs.declared.Reply.{Reply}
+use Rattle.checker.specs.declared.Reading.{Reading}
+use Rattle.checker.specs.declared.Reading.the-variants.{Sheet, NoSheet}
+use Rattle.checker.specs.declared.Rewriting.{Rewriting}
+use Rattle.checker.specs.declared.Rewriting.the-variants.{Written, NoRoom, NotRead}
 use Rattle.checker.specs.declared.Answer.{Answer}
 use Rattle.checker.specs.declared.Answer.the-variants.{Accepted, BadHead, BadCount, BadOffset, BadName, UnsafeName, BadNode, BadNesting, TooDeep, NinthFrame, ShortBuffer, Typing}
 
@@ -81,3 +88,44 @@ pub record Told (a : Meant) (r : Answer) (old new : List ℕ) : Type 0 where
   pub numbers : numbersOf r ≡ numbersIn a
   pub stands : Stands r
   pub message : new ≡ overlaid (a .message) old
+
+-- ---- the sheet's reader and writer
+
+abbrev pub readingNumbers : Reading → Numbers
+readingNumbers Sheet = bareNumbers 0 0
+readingNumbers NoSheet = bareNumbers 12 0
+
+abbrev pub rewritingNumbers : Rewriting → Numbers
+rewritingNumbers (Written n) = record { code = 0; place = 0; spanStart = 0; spanEnd = 0; sheet = n; message = 0 }
+rewritingNumbers NoRoom = bareNumbers 10 0
+rewritingNumbers NotRead = bareNumbers 12 0
+
+-- what was read, written into so much room: "Writing what was read into too short a buffer gives 10."
+unfoldable pub rewritten : List ℕ → ℕ → Meant
+rewritten bs room = ifSome (readSheet bs) (λ es. writeAnswer es room) (bare 12 0)
+
+pub record Rewrote (a : Meant) (r : Rewriting) (old new : List ℕ) : Type 0 where
+  pub numbers : rewritingNumbers r ≡ numbersIn a
+  pub sheet : new ≡ overlaid (a .sheet) old
+
+-- ---- for other languages
+
+abbrev pub replyMeans : Reply → Numbers
+replyMeans r =
+    record {
+      code = r .code;
+      place = r .place;
+      spanStart = r .«span_start»;
+      spanEnd = r .«span_end»;
+      sheet = r .«sheet_length»;
+      message = r .«message_length»;
+    }
+
+pub record Replies (a : Meant) (n : Numbers) (oldSheet newSheet oldMessage newMessage : List ℕ) : Type 0 where
+  pub numbers : n ≡ numbersIn a
+  pub sheet : newSheet ≡ overlaid (a .sheet) oldSheet
+  pub message : newMessage ≡ overlaid (a .message) oldMessage
+
+pub record Relaid (a : Meant) (n : Numbers) (old new : List ℕ) : Type 0 where
+  pub numbers : n ≡ numbersIn a
+  pub sheet : new ≡ overlaid (a .sheet) old

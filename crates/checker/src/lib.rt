@@ -5,17 +5,18 @@ ghost use lib.ListN.{length};
 ghost use Rattle.meaning.specs.Image.{namesOf};
 ghost use Rattle.meaning.specs.Frames.{newest};
 ghost use Rattle.meaning.specs.Sheet.{entries, sheetOf};
-ghost use Rattle.meaning.specs.Answer.{answer, written};
+ghost use Rattle.meaning.specs.Answer.{answer, written, readAnswer};
 ghost use Rattle.meaning.proofs.Faults.{Sound};
 ghost use Rattle.types.specs.Table.{tab};
 ghost use Rattle.frames.specs.Env.{framesOf};
-ghost use Rattle.checker.specs.Answers.{Answers, Wrote, Told};
+ghost use Rattle.checker.specs.Answers.{Answers, Wrote, Told, numbersOf, numbersIn, bareNumbers, readingNumbers, rewritingNumbers, rewritten, Rewrote, replyMeans, Replies, Relaid};
 ghost use Rattle.checker.specs.Steps.{Accepting, Refusing, refusedAs};
 use image::Judged;
 use image::areas;
 use image::judge;
 use image::node_at;
 use names::list_names;
+use sheet::read;
 use stmt::program;
 use types::Counts;
 use types::start;
@@ -159,4 +160,154 @@ pub fn check(image: &[u8], sheet: &mut [u8], message: &mut [u8]) -> Answer
         Judged::BadNesting(i) => Answer::BadNesting(i),
         Judged::TooDeep(i) => Answer::TooDeep(i),
     }
+}
+
+// ---- the type sheet
+
+// What the reader says: code 0, or 12.
+pub enum Reading {
+    Sheet,
+    NoSheet,
+}
+
+// Whether the bytes are a sheet.
+pub fn read_sheet(sheet: &[u8]) -> Reading
+    ensures { λ r. ⌜ readingNumbers r ≡ numbersIn (readAnswer (now (sheet .entry))) ⌝ }
+{
+    let mut table = [0u32; 10272];
+    let mut names = [0u32; 384];
+    let r = read(sheet, &mut table, &mut names);
+    if r.stands {
+        return Reading::Sheet;
+    }
+    Reading::NoSheet
+}
+
+// Code 0 with the sheet's length, 10, or 12.
+pub enum Rewriting {
+    Written(usize),
+    NoRoom,
+    NotRead,
+}
+
+// Reads a sheet and writes what was read with the check's own writer: the same bytes, if they fit.
+pub fn write_sheet(sheet: &[u8], out: &mut [u8]) -> Rewriting
+    ensures { λ r. ⌜ Rewrote (rewritten (now (sheet .entry)) (length (now (out .entry)))) r (now (out .entry)) (now (out .exit)) ⌝ }
+{
+    let mut table = [0u32; 10272];
+    let mut names = [0u32; 384];
+    let r = read(sheet, &mut table, &mut names);
+    if !r.stands {
+        return Rewriting::NotRead;
+    }
+    let w = sheet::write(sheet, &table, r.counts, &names, r.names, out);
+    if w.fits {
+        return Rewriting::Written(w.length);
+    }
+    Rewriting::NoRoom
+}
+
+// ---- for C and Rust
+
+// An answer in the scope's numbers.
+#[repr(C)]
+pub struct Reply {
+    pub code: u32,
+    pub span_start: u32,
+    pub span_end: u32,
+    pub place: usize,
+    pub sheet_length: usize,
+    pub message_length: usize,
+}
+
+// A code with a place, and no span.
+fn bare(code: u32, place: usize) -> Reply
+    ensures { λ r. ⌜ replyMeans r ≡ bareNumbers code place ⌝ }
+{
+    Reply {
+        code,
+        span_start: 0,
+        span_end: 0,
+        place,
+        sheet_length: 0,
+        message_length: 0,
+    }
+}
+
+fn replied(a: Answer) -> Reply
+    ensures { λ r. ⌜ replyMeans r ≡ numbersOf a ⌝ }
+{
+    match a {
+        Answer::Accepted(n) => Reply {
+            code: 0,
+            span_start: 0,
+            span_end: 0,
+            place: 0,
+            sheet_length: n,
+            message_length: 0,
+        },
+        Answer::BadHead => bare(1, 0),
+        Answer::BadCount => bare(2, 0),
+        Answer::BadOffset => bare(3, 0),
+        Answer::BadName(i) => bare(4, i),
+        Answer::UnsafeName(i) => bare(5, i),
+        Answer::BadNode(i) => bare(6, i),
+        Answer::BadNesting(i) => bare(7, i),
+        Answer::TooDeep(i) => bare(8, i),
+        Answer::NinthFrame(i) => bare(9, i),
+        Answer::ShortBuffer => bare(10, 0),
+        Answer::Typing(r) => Reply {
+            code: r.code,
+            span_start: r.begins,
+            span_end: r.ends,
+            place: r.place,
+            sheet_length: 0,
+            message_length: r.message,
+        },
+    }
+}
+
+// `check` for other languages.
+#[no_mangle]
+pub extern "C" fn cablebirch_check(image: &[u8], sheet: &mut [u8], message: &mut [u8]) -> Reply
+    ensures { λ r. ⌜ Replies (answer (now (image .entry)) (length (now (sheet .entry))) (length (now (message .entry))))
+        (replyMeans r) (now (sheet .entry)) (now (sheet .exit)) (now (message .entry)) (now (message .exit)) ⌝ }
+{
+    replied(check(image, sheet, message))
+}
+
+// `read_sheet` for other languages: 0 or 12.
+#[no_mangle]
+pub extern "C" fn cablebirch_read_sheet(sheet: &[u8]) -> u32
+    ensures { λ r. ⌜ r ≡ readAnswer (now (sheet .entry)) .code ⌝ }
+{
+    match read_sheet(sheet) {
+        Reading::Sheet => 0,
+        Reading::NoSheet => 12,
+    }
+}
+
+fn relaid(r: Rewriting) -> Reply
+    ensures { λ p. ⌜ replyMeans p ≡ rewritingNumbers r ⌝ }
+{
+    match r {
+        Rewriting::Written(n) => Reply {
+            code: 0,
+            span_start: 0,
+            span_end: 0,
+            place: 0,
+            sheet_length: n,
+            message_length: 0,
+        },
+        Rewriting::NoRoom => bare(10, 0),
+        Rewriting::NotRead => bare(12, 0),
+    }
+}
+
+// `write_sheet` for other languages: 0, 10 or 12.
+#[no_mangle]
+pub extern "C" fn cablebirch_write_sheet(sheet: &[u8], out: &mut [u8]) -> Reply
+    ensures { λ r. ⌜ Relaid (rewritten (now (sheet .entry)) (length (now (out .entry)))) (replyMeans r) (now (out .entry)) (now (out .exit)) ⌝ }
+{
+    relaid(write_sheet(sheet, out))
 }

@@ -37,8 +37,7 @@ module _ {bs : List ℕ} {t : Tab} {cells : List ℕ} {n : ℕ} {stands : Bool} 
   pub rewritten-out : stands ≡ true → {fits : Bool} {long : ℕ} {old new : List ℕ} → Wrote (listed bs t cells n) fits long old new
       → (fits ≡ leb (length bs) (length old)) × (long ≡ length (written (length old) bs .sheet)) × (new ≡ overlaid (written (length old) bs .sheet) old)
   rewritten-out z {fits} {long} {old} {new} w =
-      let e = rewritten z in
-      (
+      let e = rewritten z in (
         w .fits-is ∙ ap (λ (l : List ℕ). leb (length l) (length old)) e,
         w .length-is ∙ ap (λ (l : List ℕ). length (written (length old) l .sheet)) e,
         w .out-is ∙ ap (λ (l : List ℕ). overlaid (written (length old) l .sheet) old) e,

@@ -1,0 +1,58 @@
+-- What the reader and the writer of sheets promise.
+use mathlib.Core.Path.{_≡_, refl, sym, ap, _∙_}
+use mathlib.Core.Bool.{Bool, true, false}
+use mathlib.Core.List.{List, []}
+use Prim.Native.Nat.{ℕ}
+use lib.ListN.{length}
+use Rattle.meaning.specs.Base.{if_then_else_, ifSome}
+use Rattle.meaning.specs.Sheet.{sheetOf}
+use Rattle.meaning.specs.Read.{entriesIn, isSheet, readSheet}
+use Rattle.meaning.specs.Answer.{Answer as Meant, bare, written, writeAnswer, readAnswer, overlaid}
+use Rattle.meaning.proofs.Answers.{overlaid-none}
+use Rattle.types.specs.Table.{Tab}
+use Rattle.sheet.specs.Listing.{listed}
+use Rattle.sheet.specs.Listing.{Wrote as Laid}
+use Rattle.sheet.specs.Reading.{Reads}
+use Rattle.checker.specs.Answers.{Answers, Numbers, numbersIn, readingNumbers, rewritingNumbers, rewritten, Rewrote, Replies, Relaid}
+use Rattle.checker.specs.declared.Rewriting.{Rewriting}
+use Rattle.checker.specs.declared.Reading.the-variants.{Sheet, NoSheet}
+use Rattle.checker.specs.declared.Rewriting.the-variants.{Written, NoRoom, NotRead}
+
+module _ {bs : List ℕ} {stands : Bool} {t : Tab} {cells : List ℕ} {n : ℕ} (r : Reads bs stands t cells n) where
+  pub reading-yes : stands ≡ true → readingNumbers Sheet ≡ numbersIn (readAnswer bs)
+  unfolding readAnswer readSheet ifSome if_then_else_
+  reading-yes e = rw (sym (r .stands-is) ∙ e)
+
+  pub reading-no : stands ≡ false → readingNumbers NoSheet ≡ numbersIn (readAnswer bs)
+  unfolding readAnswer readSheet ifSome if_then_else_
+  reading-no e = rw (sym (r .stands-is) ∙ e)
+
+  again : stands ≡ true → (room : ℕ) → rewritten bs room ≡ written room (sheetOf (entriesIn bs))
+  unfolding rewritten readSheet writeAnswer ifSome if_then_else_
+  again e room = rw (sym (r .stands-is) ∙ e)
+
+  pub not-read : {out : List ℕ} → stands ≡ false → Rewrote (rewritten bs (length out)) NotRead out out
+  unfolding rewritten readSheet ifSome if_then_else_
+  not-read {out} e =
+      rw (sym (r .stands-is) ∙ e) record { numbers = refl; sheet = sym (overlaid-none out) }
+
+  module _ {fits : Bool} {long : ℕ} {old new : List ℕ} (s : stands ≡ true) (w : Laid (listed bs t cells n) fits long old new) where
+    pub rewritten-yes : fits ≡ true → Rewrote (rewritten bs (length old)) (Written long) old new
+    unfolding written if_then_else_
+    rewritten-yes e =
+        let f = sym (w .fits-is) ∙ e in
+        rw (again s (length old), ← r .listed-is s) record { numbers = rw (w .length-is, f); sheet = w .out-is }
+
+    pub rewritten-no : fits ≡ false → Rewrote (rewritten bs (length old)) NoRoom old new
+    unfolding written if_then_else_
+    rewritten-no e =
+        let f = sym (w .fits-is) ∙ e in
+        rw (again s (length old), ← r .listed-is s) record { numbers = rw f; sheet = w .out-is }
+
+-- ---- for other languages
+
+pub read-code : (bs : List ℕ) (c : ℕ) → c ≡ numbersIn (readAnswer bs) .code → c ≡ readAnswer bs .code
+read-code bs c e = e
+
+pub relays : {a : Meant} {r : Rewriting} {n : Numbers} {old new : List ℕ} → n ≡ rewritingNumbers r → Rewrote a r old new → Relaid a n old new
+relays e w = record { numbers = e ∙ w .numbers; sheet = w .sheet }

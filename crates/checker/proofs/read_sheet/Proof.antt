@@ -1,0 +1,27 @@
+use mathlib.Core.Path.{refl, sym, ap, _∙_}
+use Rattle.checker.proofs.Sheets.{reading-yes, reading-no}
+use native.Mathlib.Omega.{arith}
+use borrow.Author.Needs.{needs}
+use Rattle.checker.proofs.read_sheet.Statement.{statement}
+use Rattle.checker.proofs.read_sheet.Tie as tie
+use Rattle.checker.proofs.read_sheet.Reads as reads
+use Rattle.checker.proofs.read_sheet.Lts as lts
+use Rattle.sheet.proofs.read.Reads as read-reads
+
+-- src/lib.rt:179:9
+read-requires : tie.Need-read-requires
+read-requires c κs =
+    (refl, refl)
+
+-- src/lib.rt:181:9
+returns : tie.Need-returns
+returns c =
+    reading-yes (c .before .read .ensures) (c .if1 .taken)
+
+-- src/lib.rt:174:1
+returns-2 : tie.Need-returns-2
+returns-2 c =
+    reading-no (c .before .read .ensures) (c .if1 .left)
+
+pub read-sheet-spec : {M : Type 1} → statement M
+read-sheet-spec = tie.close (tie.spec read-requires returns returns-2)

@@ -1,0 +1,31 @@
+-- What is asked of the one who prints a line, and what each piece of it leaves behind.
+use mathlib.Core.Path.{_≡_}
+use mathlib.Core.List.{List}
+use Prim.Native.Nat.{ℕ, _+_, _<_, _≤_}
+use lib.Dec.{eqb}
+use lib.ListN.{length}
+use Rattle.meaning.specs.Answer.{Answer}
+use Rattle.meaning.specs.Base.{if_then_else_, bytes}
+use Rattle.words.specs.Words.{putAt}
+
+-- an accepted image has a sheet with a header, whose length is a word; the line finds room whatever its numbers are
+pub record Printable (code : ℕ) (sheet message out : List ℕ) : Type 0 where
+  pub headed : code ≡ 0 → 40 ≤ length sheet
+  pub short : length sheet < 4294967296
+  pub room : 64 + length message ≤ length out
+
+-- the answer whose sheet and message are the written parts of the two buffers
+abbrev pub answered : ℕ → ℕ → ℕ → ℕ → List ℕ → List ℕ → Answer
+answered code place begins ends sheet message =
+    record { code = code; place = place; spanStart = begins; spanEnd = ends; sheet = sheet; message = message }
+
+-- "message or `-`"
+unfoldable pub orDash : List ℕ → List ℕ
+orDash message = if eqb (length message) 0 then bytes "-" else message
+
+-- s was written into d at a place, and ends at another: e is what is there then
+pub record Wrote (d : List ℕ) (at : ℕ) (s e : List ℕ) (end : ℕ) : Type 0 where
+  pub same : e ≡ putAt d at s
+  pub ends : end ≡ at + length s
+  pub long : length e ≡ length d
+  pub inside : end ≤ length e

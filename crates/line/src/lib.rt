@@ -1,0 +1,98 @@
+// The one line that the program prints for an image: what was accepted, or why it was refused.
+ghost use mathlib.Core.Path.{_≡_};
+ghost use mathlib.Core.List.{[], _∷_};
+ghost use Prim.Native.Nat.{_+_, _<_, _≤_};
+ghost use lib.ListN.{length};
+ghost use Rattle.meaning.specs.Answer.{overlaid};
+ghost use Rattle.meaning.specs.Line.{spaced, acceptedLine, refusedLine, lineOf};
+ghost use Rattle.line.specs.Printing.{Printable, answered, orDash, Wrote};
+use words::get_word;
+use words::put;
+use words::put_decimal;
+
+// ---- the pieces: each returns where it ends in `out`
+
+fn put_spaced(out: &mut [u8], at: usize, n: u32) -> usize
+    requires { ⌜ at + 11 ≤ length (now out) ⌝ }
+    ensures { λ r. ⌜ Wrote (now (out .entry)) at (spaced (n ∷ [])) (now (out .exit)) r ⌝ }
+    ensures { λ r. ⌜ r ≤ at + 11 ⌝ }
+{
+    let number = put(out, at, b" ");
+    put_decimal(out, number, n)
+}
+
+fn put_three(out: &mut [u8], at: usize, a: u32, b: u32, c: u32) -> usize
+    requires { ⌜ at + 33 ≤ length (now out) ⌝ }
+    ensures { λ r. ⌜ Wrote (now (out .entry)) at (spaced (a ∷ b ∷ c ∷ [])) (now (out .exit)) r ⌝ }
+    ensures { λ r. ⌜ r ≤ at + 33 ⌝ }
+{
+    let second = put_spaced(out, at, a);
+    let third = put_spaced(out, second, b);
+    put_spaced(out, third, c)
+}
+
+fn put_message(out: &mut [u8], at: usize, message: &[u8]) -> usize
+    requires { ⌜ at + 1 + length (now message) ≤ length (now out) ⌝ }
+    ensures { λ r. ⌜ Wrote (now (out .entry)) at (orDash (now (message .entry))) (now (out .exit)) r ⌝ }
+    ensures { λ r. ⌜ r ≤ at + 1 + length (now (message .entry)) ⌝ }
+{
+    if message.len() == 0 {
+        return put(out, at, b"-");
+    }
+    put(out, at, message)
+}
+
+// ---- the two lines
+
+fn accepted_line(sheet: &[u8], out: &mut [u8]) -> usize
+    requires { ⌜ 40 ≤ length (now sheet) ⌝ }
+    requires { ⌜ length (now sheet) < 4294967296 ⌝ }
+    requires { ⌜ 64 ≤ length (now out) ⌝ }
+    ensures { λ r. ⌜ Wrote (now (out .entry)) 0 (acceptedLine (now (sheet .entry))) (now (out .exit)) r ⌝ }
+{
+    let names = get_word(sheet, 20);
+    let types = get_word(sheet, 4);
+    let numbers = put(out, 0, b"accepted");
+    let end = put_three(out, numbers, names, types, sheet.len() as u32);
+    put(out, end, b"\n")
+}
+
+fn refused_line(
+    code: u32,
+    place: u32,
+    begins: u32,
+    ends: u32,
+    message: &[u8],
+    out: &mut [u8],
+) -> usize
+    requires { ⌜ 64 + length (now message) ≤ length (now out) ⌝ }
+    ensures { λ r. ⌜ Wrote (now (out .entry)) 0 (refusedLine (answered code place begins ends [] (now (message .entry)))) (now (out .exit)) r ⌝ }
+{
+    let numbers = put(out, 0, b"refused");
+    let others = put_spaced(out, numbers, code);
+    let space = put_three(out, others, place, begins, ends);
+    let text = put(out, space, b" ");
+    let end = put_message(out, text, message);
+    put(out, end, b"\n")
+}
+
+// `sheet` and `message` are the parts of the two buffers that were written. Returns the length of the line.
+pub fn write(
+    code: u32,
+    place: u32,
+    begins: u32,
+    ends: u32,
+    sheet: &[u8],
+    message: &[u8],
+    out: &mut [u8],
+) -> usize
+    requires { ⌜ Printable code (now sheet) (now message) (now out) ⌝ }
+    ensures { λ _. ⌜ now (out .exit)
+        ≡ overlaid (lineOf (answered code place begins ends (now (sheet .entry)) (now (message .entry)))) (now (out .entry)) ⌝ }
+    ensures { λ r. ⌜ r ≡ length (lineOf (answered code place begins ends (now (sheet .entry)) (now (message .entry)))) ⌝ }
+{
+    if code == 0 {
+        return accepted_line(sheet, out);
+    }
+    refused_line(code, place, begins, ends, message, out)
+}
