@@ -200,6 +200,12 @@ if grep '^first broken:' "$scratch/sheets.txt" | grep -q ' 0  '; then fail "a ru
 $oracle exhaust-sheets > "$scratch/sheets.txt" || { cat "$scratch/sheets.txt"; fail "a small sheet is read wrongly"; }
 tail -1 "$scratch/sheets.txt"
 
+# With a rule left out something is wrong: the check can fail.
+for rule in $($oracle sheet-rules | grep -v ' always ' | cut -d' ' -f1); do
+    if $oracle check-sheets --seed 4 --count 1280 --without "$rule" > "$scratch/sheets.txt"; then fail "$rule left out is not noticed"; fi
+    grep -q '^1280 sheets, ' "$scratch/sheets.txt" || fail "the check ends early without $rule"
+done
+
 say "the sheets of document 01's runs are read"
 for run in 1 2 12; do
     size=$(($(words $run | wc -c) / 2))
@@ -230,5 +236,10 @@ for rule in $($oracle sheet-rules | grep -v ' always ' | cut -d' ' -f1); do
     grep -q "breaks $rule " "$scratch/compare.txt" || { cat "$scratch/compare.txt"; fail "$rule left out is told by another rule"; }
     printf '%s: %s\n' "$rule" "$(tail -1 "$scratch/compare.txt")"
 done
+
+if $oracle compare --sheets --show 0 true < stored/sheets.batch > "$scratch/compare.txt"; then fail "a silent program passes"; fi
+count=$(wc -l < stored/sheets-answers.txt)
+grep -q "^$count sheets, $count differ" "$scratch/compare.txt" || fail "a silent program passes in part"
+ORACLE="$oracle" $oracle compare --sheets --no-checksum sh -c '"$ORACLE" read | sed "s/ #.*//"' < stored/sheets.batch > "$scratch/compare.txt" || fail "lines without a checksum"
 
 say "all is well"

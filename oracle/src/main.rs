@@ -50,7 +50,7 @@ usage:
   oracle sheets --seed S --count N > batch                 sheets, good and damaged (oracle sheet-kinds)
   oracle read [--without RULE] < batch                     the reader's line for each sheet (oracle sheet-rules)
   oracle compare --sheets [--show K] [--save FILE] [--single] [--no-checksum] PROGRAM [ARGS..] < batch
-  oracle check-sheets --seed S --count N                   the reader against a second opinion
+  oracle check-sheets --seed S --count N [--without RULE]  the reader against a second opinion
   oracle exhaust-sheets                                    the same on every sheet of few words
   oracle store-sheets --seed S --out FOLDER                write the stored list of sheets
   oracle sheet-kinds, oracle sheet-rules                   the kinds of sheets; the reader's rules
@@ -139,18 +139,13 @@ fn command() -> Result<i32, String> {
             write_batch((0..count).map(|number| sheets::made(seed, number).bytes))
         }
         "read" => {
-            let without = match Options::new(rest)?.text("--without") {
-                None => None,
-                Some(name) => {
-                    let known = reader::RULES.iter().find(|(_, known, droppable, _)| *known == name && *droppable);
-                    Some(known.ok_or_else(|| format!("no rule {} that could be left out", name))?.0)
-                }
-            };
+            let without = Options::new(rest)?.rule_left_out()?;
             each_line(|sheet| sheets::line(sheet, without))
         }
         "check-sheets" => {
             let options = Options::new(rest)?;
-            Ok(i32::from(!sheets::check(options.wanted("--seed")?, options.wanted("--count")?)))
+            let (seed, count) = (options.wanted("--seed")?, options.wanted("--count")?);
+            Ok(i32::from(!sheets::check(seed, count, options.rule_left_out()?)))
         }
         "exhaust-sheets" => Ok(i32::from(!sheets::exhaust())),
         "store-sheets" => {
@@ -240,6 +235,15 @@ impl Options {
             }
             family => Ok(family),
         }
+    }
+
+    /// A rule of the sheet reader that is to be left out.
+    fn rule_left_out(&self) -> Result<Option<reader::Rule>, String> {
+        let found = |name: &str| {
+            let known = reader::RULES.iter().find(|(_, known, droppable, _)| *known == name && *droppable);
+            known.map(|(rule, _, _, _)| *rule).ok_or_else(|| format!("no rule {} that could be left out", name))
+        };
+        self.text("--without").map(found).transpose()
     }
 
     fn rooms(&self) -> Result<Rooms, String> {

@@ -223,14 +223,14 @@ struct Tally {
 const SHOWN: u64 = 5;
 
 /// The reader on `count` sheets: against what must come of each kind, what the good ones say, and the second
-/// opinion.
-pub fn check(seed: u64, count: u64) -> bool {
+/// opinion. With a rule left out it must fail.
+pub fn check(seed: u64, count: u64, without: Option<Rule>) -> bool {
     let mut tallies: BTreeMap<&str, Tally> = BTreeMap::new();
     let mut broken: BTreeMap<Rule, u64> = BTreeMap::new();
     let mut wrong = 0;
     for number in 0..count {
         let made = made(seed, number);
-        let read = reader::examine(&made.bytes, None);
+        let read = reader::examine(&made.bytes, without);
         let second = second::is_sheet(&made.bytes);
         let as_must_be = match made.fate {
             Read => read.is_ok(),
