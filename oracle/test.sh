@@ -129,7 +129,8 @@ $oracle store --seed $seed --out "$scratch"
 for file in images.batch answers.txt notes.txt tight-images.batch tight-answers.txt tight-notes.txt; do
     cmp "$scratch/$file" "stored/$file" || fail "stored/$file is not what seed $seed makes"
 done
-[ "$(cat stored/* | wc -c)" -lt 3000000 ] || fail "the stored lists are 3 MB or more"
+images_and_answers="stored/images.batch stored/answers.txt stored/notes.txt stored/tight-images.batch stored/tight-answers.txt stored/tight-notes.txt"
+[ "$(cat $images_and_answers | wc -c)" -lt 3000000 ] || fail "the stored lists are 3 MB or more"
 
 say "the stored answers are T's, and the reference's"
 $oracle judge --rules < stored/images.batch | cmp - stored/answers.txt || fail "T answers otherwise"
@@ -190,5 +191,55 @@ ORACLE="$(pwd)/$oracle" $oracle compare --single sh "$scratch/one.sh" < "$scratc
 say "T as is says different things where the order of a merge shows"
 printf 'if True:\n  if True:\n    a = 1\n    b = 1\n  else:\n    b = "s"\na - 1\na + "s"\n' | $oracle encode > "$scratch/order.batch"
 [ "$($oracle hash-order --runs 400 < "$scratch/order.batch" | wc -l)" -eq 3 ] || fail "T as is always says the same"
+
+say "sheets are read as they must be, and two opinions agree"
+# Every good sheet is read and says what it was written from; every damage is refused, or the second opinion tells.
+$oracle check-sheets --seed 4 --count 32000 > "$scratch/sheets.txt" || { cat "$scratch/sheets.txt"; fail "a sheet is read wrongly"; }
+tail -1 "$scratch/sheets.txt"
+if grep '^first broken:' "$scratch/sheets.txt" | grep -q ' 0  '; then fail "a rule of the reader is never the first broken"; fi
+$oracle exhaust-sheets > "$scratch/sheets.txt" || { cat "$scratch/sheets.txt"; fail "a small sheet is read wrongly"; }
+tail -1 "$scratch/sheets.txt"
+
+# With a rule left out something is wrong: the check can fail.
+for rule in $($oracle sheet-rules | grep -v ' always ' | cut -d' ' -f1); do
+    if $oracle check-sheets --seed 4 --count 1280 --without "$rule" > "$scratch/sheets.txt"; then fail "$rule left out is not noticed"; fi
+    grep -q '^1280 sheets, ' "$scratch/sheets.txt" || fail "the check ends early without $rule"
+done
+
+say "the sheets of document 01's runs are read"
+for run in 1 2 12; do
+    size=$(($(words $run | wc -c) / 2))
+    printf "$(printf '\\%03o\\%03o\\0\\0' $((size % 256)) $((size / 256)))"
+    printf "$(words $run | sed 's/../& /g' | tr ' ' '\n' | while read -r byte; do [ -z "$byte" ] || printf '\\%03o' "0x$byte"; done)"
+done > "$scratch/run-sheets.batch"
+printf 'read 0 0\nread 1 0\nread 2 2\n' > "$scratch/wanted.txt"
+$oracle read < "$scratch/run-sheets.batch" | sed 's/ #[0-9a-f]*$//' | cmp - "$scratch/wanted.txt" || fail "the runs' sheets"
+
+say "the stored sheets are what their seed makes"
+$oracle store-sheets --seed $seed --out "$scratch"
+for file in sheets.batch sheets-answers.txt sheets-notes.txt; do
+    cmp "$scratch/$file" "stored/$file" || fail "stored/$file is not what seed $seed makes"
+done
+[ "$(cat stored/sheets* | wc -c)" -lt 1500000 ] || fail "the stored sheets are 1.5 MB or more"
+$oracle read < stored/sheets.batch | cmp - stored/sheets-answers.txt || fail "the reader answers otherwise"
+$oracle sheet-kinds | while read -r kind fate _; do
+    count=$(cut -f2 stored/sheets-notes.txt | grep -cx "$kind" || true)
+    [ "$fate" = read ] || [ "$count" -ge 5 ] || fail "only $count stored sheets of $kind"
+    [ "$count" -ge 1 ] || fail "no stored sheet of $kind"
+done
+
+say "the stored sheets tell a reader with any rule left out"
+$oracle compare --sheets $oracle read < stored/sheets.batch > "$scratch/compare.txt" || { cat "$scratch/compare.txt"; fail "the reader compares otherwise"; }
+for rule in $($oracle sheet-rules | grep -v ' always ' | cut -d' ' -f1); do
+    if $oracle compare --sheets --show 1 $oracle read --without "$rule" < stored/sheets.batch > "$scratch/compare.txt"; then fail "$rule left out is not told"; fi
+    # Told by a sheet that breaks this rule, and not by a program that ends.
+    grep -q "breaks $rule " "$scratch/compare.txt" || { cat "$scratch/compare.txt"; fail "$rule left out is told by another rule"; }
+    printf '%s: %s\n' "$rule" "$(tail -1 "$scratch/compare.txt")"
+done
+
+if $oracle compare --sheets --show 0 true < stored/sheets.batch > "$scratch/compare.txt"; then fail "a silent program passes"; fi
+count=$(wc -l < stored/sheets-answers.txt)
+grep -q "^$count sheets, $count differ" "$scratch/compare.txt" || fail "a silent program passes in part"
+ORACLE="$oracle" $oracle compare --sheets --no-checksum sh -c '"$ORACLE" read | sed "s/ #.*//"' < stored/sheets.batch > "$scratch/compare.txt" || fail "lines without a checksum"
 
 say "all is well"

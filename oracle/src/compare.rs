@@ -3,6 +3,8 @@
 use crate::answer::Rooms;
 use crate::batch;
 use crate::judge::{self, Engine};
+use crate::reader;
+use crate::sheets;
 use crate::show;
 use crate::shrink;
 use std::io::{Read, Write};
@@ -134,6 +136,44 @@ pub fn compare(other: &Other, images: &[Vec<u8>], rooms: Rooms, show: usize) -> 
         result.smallest.push(smallest);
     }
     Ok(result)
+}
+
+/// The sheets on which the program's line is not the reader's.
+pub struct Differing {
+    pub compared: usize,
+    pub sheets: Vec<Vec<u8>>,
+}
+
+/// Compares a program that reads sheets with the reader, and prints the first `show` differences. Nothing is made
+/// smaller: the generated sheets are small, and the rule that is broken is told.
+pub fn compare_sheets(other: &Other, sheets: &[Vec<u8>], show: usize) -> Result<Differing, String> {
+    let theirs = other.lines(sheets)?;
+    let mut differing = Differing { compared: sheets.len(), sheets: Vec::new() };
+    for (number, (sheet, line)) in sheets.iter().zip(&theirs).enumerate() {
+        let mut wanted = sheets::line(sheet, None);
+        if other.no_checksum {
+            if let Some(end) = wanted.iter().position(|byte| *byte == b'#') {
+                wanted.truncate(end - 1);
+            }
+        }
+        if wanted == *line {
+            continue;
+        }
+        differing.sheets.push(sheet.clone());
+        if differing.sheets.len() > show {
+            continue;
+        }
+        let rule = reader::examine(sheet, None).err();
+        let broken = reader::RULES.iter().find(|(known, _, _, _)| Some(*known) == rule);
+        let why = broken.map_or("good".to_string(), |(_, name, _, what)| format!("breaks {} ({})", name, what));
+        println!("sheet {} ({} bytes), {}:", number, sheet.len(), why);
+        println!("    reader  {}", String::from_utf8_lossy(&wanted));
+        println!("    program {}", String::from_utf8_lossy(line));
+        if sheet.len() <= HEX_BYTES {
+            println!("    bytes {}", crate::answer::hex(sheet));
+        }
+    }
+    Ok(differing)
 }
 
 fn print_pair(wanted: &[u8], line: &[u8]) {

@@ -13,9 +13,11 @@ mod mistakes;
 mod parser;
 mod program;
 mod random;
+mod reader;
 mod reference;
 mod semantic;
 mod sheet;
+mod sheets;
 mod show;
 mod shrink;
 mod source;
@@ -45,6 +47,13 @@ usage:
   oracle mistakes [--tight FILE] < batch                   which images tell each mistake from the truth
   oracle hash-order [--runs N] < batch                     the different answers of T as is, run again and again
   oracle families                                          the generator's families
+  oracle sheets --seed S --count N > batch                 sheets, good and damaged (oracle sheet-kinds)
+  oracle read [--without RULE] < batch                     the reader's line for each sheet (oracle sheet-rules)
+  oracle compare --sheets [--show K] [--save FILE] [--single] [--no-checksum] PROGRAM [ARGS..] < batch
+  oracle check-sheets --seed S --count N [--without RULE]  the reader against a second opinion
+  oracle exhaust-sheets                                    the same on every sheet of few words
+  oracle store-sheets --seed S --out FOLDER                write the stored list of sheets
+  oracle sheet-kinds, oracle sheet-rules                   the kinds of sheets; the reader's rules
 ROOMS: --sheet-room N --message-room N
 ";
 
@@ -124,6 +133,40 @@ fn command() -> Result<i32, String> {
             }
             Ok(0)
         }
+        "sheets" => {
+            let options = Options::new(rest)?;
+            let (seed, count) = (options.wanted("--seed")?, options.wanted("--count")?);
+            write_batch((0..count).map(|number| sheets::made(seed, number).bytes))
+        }
+        "read" => {
+            let without = Options::new(rest)?.rule_left_out()?;
+            each_line(|sheet| sheets::line(sheet, without))
+        }
+        "check-sheets" => {
+            let options = Options::new(rest)?;
+            let (seed, count) = (options.wanted("--seed")?, options.wanted("--count")?);
+            Ok(i32::from(!sheets::check(seed, count, options.rule_left_out()?)))
+        }
+        "exhaust-sheets" => Ok(i32::from(!sheets::exhaust())),
+        "store-sheets" => {
+            let options = Options::new(rest)?;
+            let folder = options.text("--out").ok_or("--out is missing")?;
+            print!("{}", sheets::write(options.wanted("--seed")?, Path::new(folder))?);
+            Ok(0)
+        }
+        "sheet-kinds" => {
+            for (name, fate, what) in sheets::kinds() {
+                println!("{:22} {:8} {}", name, format!("{:?}", fate).to_lowercase(), what);
+            }
+            Ok(0)
+        }
+        "sheet-rules" => {
+            // The first word alone is a name for --without; the others cannot be left out.
+            for (_, name, droppable, what) in reader::RULES.iter() {
+                println!("{:16} {:6} {}", name, if *droppable { "" } else { "always" }, what);
+            }
+            Ok(0)
+        }
         other => Err(format!("no command {}\n{}", other, USAGE)),
     }
 }
@@ -133,7 +176,7 @@ struct Options {
     given: Vec<(String, String)>,
 }
 
-const VALUES: [&str; 11] = [
+const VALUES: [&str; 12] = [
     "--sheet-room",
     "--message-room",
     "--seed",
@@ -145,8 +188,9 @@ const VALUES: [&str; 11] = [
     "--out",
     "--tight",
     "--runs",
+    "--without",
 ];
-const FLAGS: [&str; 5] = ["--full", "--rules", "--single", "--no-checksum", "--source"];
+const FLAGS: [&str; 6] = ["--full", "--rules", "--single", "--no-checksum", "--source", "--sheets"];
 
 impl Options {
     fn new(args: &[String]) -> Result<Options, String> {
@@ -191,6 +235,15 @@ impl Options {
             }
             family => Ok(family),
         }
+    }
+
+    /// A rule of the sheet reader that is to be left out.
+    fn rule_left_out(&self) -> Result<Option<reader::Rule>, String> {
+        let found = |name: &str| {
+            let known = reader::RULES.iter().find(|(_, known, droppable, _)| *known == name && *droppable);
+            known.map(|(rule, _, _, _)| *rule).ok_or_else(|| format!("no rule {} that could be left out", name))
+        };
+        self.text("--without").map(found).transpose()
     }
 
     fn rooms(&self) -> Result<Rooms, String> {
@@ -257,6 +310,20 @@ fn compare_batch(args: &[String]) -> Result<i32, String> {
         no_checksum: options.flag("--no-checksum"),
     };
     let show = options.number("--show")?.unwrap_or(3) as usize;
+    if options.flag("--sheets") {
+        if options.text("--sheet-room").is_some() || options.text("--message-room").is_some() {
+            return Err("a reader has no rooms".to_string());
+        }
+        let differing = compare::compare_sheets(&other, &images()?, show)?;
+        if let Some(file) = options.text("--save") {
+            let mut out = std::fs::File::create(file).map_err(|e| format!("{}: {}", file, e))?;
+            for sheet in &differing.sheets {
+                batch::write(&mut out, sheet).map_err(|e| format!("{}: {}", file, e))?;
+            }
+        }
+        println!("{} sheets, {} differ", differing.compared, differing.sheets.len());
+        return Ok(i32::from(!differing.sheets.is_empty()));
+    }
     let result = compare::compare(&other, &images()?, options.rooms()?, show)?;
     if let Some(file) = options.text("--save") {
         let mut out = std::fs::File::create(file).map_err(|e| format!("{}: {}", file, e))?;
@@ -303,9 +370,13 @@ fn generate_batch(options: Options) -> Result<i32, String> {
     let seed = options.wanted("--seed")?;
     let count = options.wanted("--count")?;
     let family = options.family()?.ok_or("--family is missing")?;
+    write_batch((0..count).map(|number| generate::image(seed, family, number)))
+}
+
+fn write_batch(images: impl Iterator<Item = Vec<u8>>) -> Result<i32, String> {
     let mut out = BufWriter::new(io::stdout());
-    for number in 0..count {
-        batch::write(&mut out, &generate::image(seed, family, number)).map_err(|e| e.to_string())?;
+    for image in images {
+        batch::write(&mut out, &image).map_err(|e| e.to_string())?;
     }
     out.flush().map_err(|e| e.to_string())?;
     Ok(0)

@@ -23,6 +23,7 @@ pub const FILTER_ITER: u32 = 12;
 
 const PLAIN: [&str; 8] = ["Unknown", "Int", "Bool", "String", "Float", "NoneType", "Range", "Function"];
 
+#[derive(Clone)]
 struct Structured {
     kind: u32,
     parts: Vec<Ty>,
@@ -33,6 +34,7 @@ struct Structured {
     length: u128,
 }
 
+#[derive(Clone)]
 pub struct Types {
     structured: Vec<Structured>,
     numbers: HashMap<(u32, Vec<Ty>), Ty>,

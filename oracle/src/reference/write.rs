@@ -213,7 +213,8 @@ impl Numbers<'_> {
     }
 }
 
-fn sheet(walk: &Walk, mind: Mind) -> Vec<u8> {
+/// The sheet of the walk's module frame.
+pub fn sheet(walk: &Walk, mind: Mind) -> Vec<u8> {
     let types = &walk.types;
     let module = walk.frames[0].iter().enumerate().filter_map(|(i, t)| t.map(|t| (i, t)));
     let names: Vec<(usize, Ty)> = module.filter(|(_, t)| *t != UNKNOWN || !mind.slips(UnknownLeftOut)).collect();
