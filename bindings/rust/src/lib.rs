@@ -1,0 +1,163 @@
+//! Safe calls of Cablebirch, a proved script checker. What is proved is the library that is linked; of this crate nothing is.
+//!
+//! A script loads unseen exactly when it is accepted and its type sheet equals the last approved sheet, byte for byte:
+//!
+//! ```no_run
+//! # let (image, approved): (Vec<u8>, Vec<u8>) = (vec![], vec![]);
+//! let (mut sheet, mut message) = (vec![0; cablebirch::SHEET_MAX], [0; cablebirch::MESSAGE_ROOM]);
+//! match cablebirch::check(&image, &mut sheet, &mut message) {
+//!     cablebirch::Answer::Accepted { sheet } if sheet == approved => println!("loads unseen"),
+//!     cablebirch::Answer::Accepted { .. } => println!("someone must look at the new sheet"),
+//!     cablebirch::Answer::Refused(refusal) => println!("{}", refusal),
+//! }
+//! ```
+//!
+//! The functions keep no state: any number of threads may call them at once.
+
+#![warn(missing_docs)]
+
+use std::fmt;
+
+/// No sheet is longer: with this much room, code 10 cannot come.
+pub const SHEET_MAX: usize = 42_532;
+/// No program image is longer.
+pub const IMAGE_MAX: usize = 59_936;
+/// The room for a message that the program `typecheck` has. A message that does not fit is left out whole.
+pub const MESSAGE_ROOM: usize = 1_024;
+
+/// The answer to a program image.
+#[derive(Debug, Clone, Copy, PartialEq, Eq)]
+pub enum Answer<'a> {
+    /// Code 0.
+    Accepted {
+        /// The type sheet: the front of the buffer that was lent for it.
+        sheet: &'a [u8],
+    },
+    /// Every other code.
+    Refused(Refusal<'a>),
+}
+
+/// Why an image was refused, and where.
+#[derive(Debug, Clone, Copy, PartialEq, Eq)]
+pub struct Refusal<'a> {
+    /// 1 to 10, or 20 to 50: see `docs/CODES.md`.
+    pub code: u32,
+    /// Codes 4 and 5: a name's number; 6 to 9 and 20 to 50: a node's number; else 0.
+    pub place: u32,
+    /// Codes 20 to 50: start and end of that node's span, as the image has them; else 0 and 0.
+    pub span: (u32, u32),
+    /// Codes 20 to 50: the message, the front of the buffer that was lent for it; empty if it did not fit, and for other codes.
+    pub message: &'a [u8],
+}
+
+/// Why a sheet was not written again.
+#[derive(Debug, Clone, Copy, PartialEq, Eq)]
+pub enum SheetError {
+    /// Code 10: the buffer is too short.
+    TooShort,
+    /// Code 12: the bytes are no type sheet.
+    NoSheet,
+}
+
+/// Judges a program image. An accepted one's sheet is written to the front of `sheet`, a typing error's message to the front of
+/// `message`; no other byte of the two changes.
+pub fn check<'a>(image: &[u8], sheet: &'a mut [u8], message: &'a mut [u8]) -> Answer<'a> {
+    // Safety: the pointers and lengths are those of slices, and the two that are written are borrowed by this call alone.
+    let raw = unsafe {
+        raw::cablebirch_check(
+            image.as_ptr(),
+            image.len(),
+            sheet.as_mut_ptr(),
+            sheet.len(),
+            message.as_mut_ptr(),
+            message.len(),
+        )
+    };
+    if raw.code == 0 {
+        return Answer::Accepted { sheet: &sheet[..raw.sheet_length as usize] };
+    }
+    Answer::Refused(Refusal {
+        code: raw.code,
+        place: raw.place,
+        span: (raw.span_start, raw.span_end),
+        message: &message[..raw.message_length as usize],
+    })
+}
+
+/// Whether these bytes are a type sheet, as a check writes it.
+pub fn read_sheet(sheet: &[u8]) -> Result<(), SheetError> {
+    // Safety: pointer and length are a slice's, and nothing is written.
+    match unsafe { raw::cablebirch_read_sheet(sheet.as_ptr(), sheet.len()) } {
+        0 => Ok(()),
+        _ => Err(SheetError::NoSheet),
+    }
+}
+
+/// Reads a sheet and writes it again to the front of `out`, which it hands back. On a refusal `out` is not touched.
+pub fn write_sheet<'a>(sheet: &[u8], out: &'a mut [u8]) -> Result<&'a [u8], SheetError> {
+    // Safety: the pointers and lengths are those of slices, and the one that is written is borrowed by this call alone.
+    let raw = unsafe { raw::cablebirch_write_sheet(sheet.as_ptr(), sheet.len(), out.as_mut_ptr(), out.len()) };
+    match raw.code {
+        0 => Ok(&out[..raw.sheet_length as usize]),
+        10 => Err(SheetError::TooShort),
+        _ => Err(SheetError::NoSheet),
+    }
+}
+
+/// The line that the program `typecheck` prints.
+impl fmt::Display for Answer<'_> {
+    fn fmt(&self, f: &mut fmt::Formatter<'_>) -> fmt::Result {
+        match self {
+            Answer::Accepted { sheet } => {
+                let word = |at: usize| u32::from_le_bytes([0, 1, 2, 3].map(|i| sheet[4 * at + i]));
+                write!(f, "accepted {} {} {}", word(5), word(1), sheet.len())
+            }
+            Answer::Refused(refusal) => refusal.fmt(f),
+        }
+    }
+}
+
+/// The line that the program `typecheck` prints.
+impl fmt::Display for Refusal<'_> {
+    fn fmt(&self, f: &mut fmt::Formatter<'_>) -> fmt::Result {
+        let message = if self.message.is_empty() { "-".into() } else { String::from_utf8_lossy(self.message) };
+        write!(f, "refused {} {} {} {} {}", self.code, self.place, self.span.0, self.span.1, message)
+    }
+}
+
+impl fmt::Display for SheetError {
+    fn fmt(&self, f: &mut fmt::Formatter<'_>) -> fmt::Result {
+        f.write_str(match self {
+            SheetError::TooShort => "the buffer is too short for the sheet",
+            SheetError::NoSheet => "not a type sheet",
+        })
+    }
+}
+
+impl std::error::Error for SheetError {}
+
+/// The library's own functions, as `include/cablebirch.h` has them.
+mod raw {
+    #[repr(C)]
+    pub struct RawAnswer {
+        pub code: u32,
+        pub place: u32,
+        pub span_start: u32,
+        pub span_end: u32,
+        pub sheet_length: u32,
+        pub message_length: u32,
+    }
+
+    extern "C" {
+        pub fn cablebirch_check(
+            image: *const u8,
+            image_len: usize,
+            sheet: *mut u8,
+            sheet_len: usize,
+            message: *mut u8,
+            message_len: usize,
+        ) -> RawAnswer;
+        pub fn cablebirch_read_sheet(sheet: *const u8, len: usize) -> u32;
+        pub fn cablebirch_write_sheet(sheet: *const u8, len: usize, out: *mut u8, out_len: usize) -> RawAnswer;
+    }
+}
