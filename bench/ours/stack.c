@@ -2,7 +2,7 @@
    The call runs on a stack of its own that was painted before. The lowest byte that is no longer paint, counted from
    the stack pointer at the call, is how deep it went. Done with two paints, since a byte may be written with the very
    value of the paint; the deeper one counts. A byte that a frame reserves and never writes is seen only if something
-   below it is written.
+   below it is written. There are 16 MiB; a call that needs more runs into a page that may not be touched, and dies.
 
    Prints for each file: bytes, the call's code, and the file. With --sheet a file is a sheet, read and written again. */
 #define _GNU_SOURCE
@@ -12,7 +12,7 @@
 #include <sys/mman.h>
 #include <ucontext.h>
 
-enum { ROOM = 64 << 20, GUARD = 1 << 16 };
+enum { ROOM = 16 << 20, GUARD = 1 << 16 };
 
 static uint8_t image[IMAGE_ROOM], sheet[SHEET_ROOM + 1], message[MESSAGE_ROOM];
 static size_t length;
