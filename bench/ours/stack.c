@@ -1,0 +1,86 @@
+/* The stack that one call needs: stack [--sheet] FILE...
+   The call runs on a stack of its own that was painted before. The lowest byte that is no longer paint, counted from
+   the stack pointer at the call, is how deep it went. Done with two paints, since a byte may be written with the very
+   value of the paint; the deeper one counts. A byte that a frame reserves and never writes is seen only if something
+   below it is written. There are 16 MiB; a call that needs more runs into a page that may not be touched, and dies.
+
+   Prints for each file: bytes, the call's code, and the file. With --sheet a file is a sheet, read and written again. */
+#define _GNU_SOURCE
+#include "cablebirch.h"
+#include <stdio.h>
+#include <string.h>
+#include <sys/mman.h>
+#include <ucontext.h>
+
+enum { ROOM = 16 << 20, GUARD = 1 << 16 };
+
+static uint8_t image[IMAGE_ROOM], sheet[SHEET_ROOM + 1], message[MESSAGE_ROOM];
+static size_t length;
+static int sheets;
+static cablebirch_answer answer;
+static uint8_t *entered;
+static ucontext_t here, there;
+
+static void call(void) {
+    /* Pushing its return address is the first thing that a call writes. */
+    __asm__ volatile("mov %%rsp, %0" : "=m"(entered));
+    if (!sheets) {
+        answer = cablebirch_check(image, length, sheet, SHEET_ROOM, message, sizeof message);
+    } else {
+#ifdef SHEETS
+        answer = cablebirch_write_sheet(image, length, sheet, SHEET_ROOM);
+#endif
+    }
+}
+
+static size_t depth(uint8_t *stack, uint8_t paint) {
+    memset(stack, paint, ROOM);
+    getcontext(&there);
+    there.uc_stack.ss_sp = stack;
+    there.uc_stack.ss_size = ROOM;
+    there.uc_link = &here;
+    makecontext(&there, call, 0);
+    swapcontext(&here, &there);
+    uint64_t word, painted;
+    memset(&painted, paint, sizeof painted);
+    uint8_t *at = stack;
+    for (; at < entered; at += sizeof word) {
+        memcpy(&word, at, sizeof word);
+        if (word != painted) break;
+    }
+    while (at < entered && *at == paint) at++;
+    return (size_t)(entered - at);
+}
+
+int main(int argc, char **argv) {
+    int first = 1;
+    if (argc > 1 && !strcmp(argv[1], "--sheet")) {
+        sheets = 1;
+        first = 2;
+#ifndef SHEETS
+        fprintf(stderr, "stack: the archive has no cablebirch_write_sheet\n");
+        return 3;
+#endif
+    }
+    if (first >= argc) {
+        fprintf(stderr, "usage: stack [--sheet] FILE...\n");
+        return 2;
+    }
+    uint8_t *mapped = mmap(NULL, GUARD + ROOM, PROT_NONE, MAP_PRIVATE | MAP_ANONYMOUS, -1, 0);
+    if (mapped == MAP_FAILED || mprotect(mapped + GUARD, ROOM, PROT_READ | PROT_WRITE)) {
+        perror("stack");
+        return 2;
+    }
+    for (int i = first; i < argc; i++) {
+        FILE *file = fopen(argv[i], "rb");
+        if (!file) {
+            perror(argv[i]);
+            return 2;
+        }
+        length = fread(image, 1, sizeof image, file);
+        fclose(file);
+        size_t one = depth(mapped + GUARD, 0xa5), other = depth(mapped + GUARD, 0x5a);
+        printf("%zu %u %s\n", one > other ? one : other, answer.code, argv[i]);
+    }
+    return 0;
+}
