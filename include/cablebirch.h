@@ -37,12 +37,12 @@ extern "C" {
 #define CABLEBIRCH_NO_SHEET 12
 
 typedef struct {
-    uint32_t code;           /* 0 accepted, else why not */
-    uint32_t place;          /* codes 4 and 5: a name's number; 6 to 9 and 20 to 50: a node's number; else 0 */
-    uint32_t span_start;     /* codes 20 to 50: the span of that node, as the image has it; else 0 */
+    uint32_t code;         /* 0 accepted, else why not */
+    uint32_t span_start;   /* codes 20 to 50: the span of the node at `place`, as the image has it; else 0 */
     uint32_t span_end;
-    uint32_t sheet_length;   /* code 0: how many bytes of the sheet were written, at its front; else 0 */
-    uint32_t message_length; /* codes 20 to 50: how many bytes of the message were written, at its front; 0 if it did not fit */
+    size_t place;          /* codes 4 and 5: a name's number; 6 to 9 and 20 to 50: a node's number; else 0 */
+    size_t sheet_length;   /* code 0: how many bytes of the sheet were written, at its front; else 0 */
+    size_t message_length; /* codes 20 to 50: how many bytes of the message were written, at its front; 0 if it did not fit */
 } cablebirch_answer;
 
 /* Judges a program image.

@@ -3,7 +3,8 @@
 #include <stdint.h>
 
 typedef struct {
-    uint32_t code, place, span_start, span_end, sheet_length, message_length;
+    uint32_t code, span_start, span_end;
+    size_t place, sheet_length, message_length;
 } cablebirch_answer;
 
 cablebirch_answer cablebirch_check(const uint8_t *image, size_t image_len, uint8_t *sheet, size_t sheet_len,

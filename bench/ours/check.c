@@ -22,9 +22,9 @@ int main(int argc, char **argv) {
     if (answer.code == 0) {
         printf("accepted\n");
     } else if (answer.code >= 20) {
-        printf("refused %u %.*s\n", answer.place, (int)answer.message_length, (const char *)message);
+        printf("refused %zu %.*s\n", answer.place, (int)answer.message_length, (const char *)message);
     } else {
-        printf("no tree: %u %u\n", answer.code, answer.place);
+        printf("no tree: %u %zu\n", answer.code, answer.place);
     }
     return 0;
 }

@@ -41,11 +41,11 @@ mod vm;
 #[repr(C)]
 pub struct CablebirchAnswer {
     code: u32,
-    place: u32,
     span_start: u32,
     span_end: u32,
-    sheet_length: u32,
-    message_length: u32,
+    place: usize,
+    sheet_length: usize,
+    message_length: usize,
 }
 
 /// # Safety
@@ -66,10 +66,10 @@ pub unsafe extern "C" fn cablebirch_check(
     std::ptr::copy_nonoverlapping(told.message.as_ptr(), message, told.message.len());
     CablebirchAnswer {
         code: told.code,
-        place: told.place,
+        place: told.place as usize,
         span_start: told.span_start,
         span_end: told.span_end,
-        sheet_length: told.sheet.len() as u32,
-        message_length: told.message.len() as u32,
+        sheet_length: told.sheet.len(),
+        message_length: told.message.len(),
     }
 }

@@ -40,11 +40,11 @@ int main(int count, char **words)
 
     cablebirch_answer a = cablebirch_check(image, image_length, sheet, sizeof sheet, message, sizeof message);
     if (a.code != CABLEBIRCH_ACCEPTED) {
-        printf("refused %u %u %u %u ", a.code, a.place, a.span_start, a.span_end);
+        printf("refused %u %zu %u %u ", a.code, a.place, a.span_start, a.span_end);
         printf("%.*s\n", a.message_length ? (int)a.message_length : 1, a.message_length ? (char *)message : "-");
         return 0;
     }
-    printf("accepted %u %u %u\n", word(5), word(1), a.sheet_length);
+    printf("accepted %u %u %zu\n", word(5), word(1), a.sheet_length);
 
     /* What a check writes, the reader takes, and the writer writes the same again. */
     cablebirch_answer w = cablebirch_write_sheet(sheet, a.sheet_length, again, sizeof again);

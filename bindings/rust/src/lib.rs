@@ -43,7 +43,7 @@ pub struct Refusal<'a> {
     /// 1 to 10, or 20 to 50: see `docs/CODES.md`.
     pub code: u32,
     /// Codes 4 and 5: a name's number; 6 to 9 and 20 to 50: a node's number; else 0.
-    pub place: u32,
+    pub place: usize,
     /// Codes 20 to 50: start and end of that node's span, as the image has them; else 0 and 0.
     pub span: (u32, u32),
     /// Codes 20 to 50: the message, the front of the buffer that was lent for it; empty if it did not fit, and for other codes.
@@ -74,13 +74,13 @@ pub fn check<'a>(image: &[u8], sheet: &'a mut [u8], message: &'a mut [u8]) -> An
         )
     };
     if raw.code == 0 {
-        return Answer::Accepted { sheet: &sheet[..raw.sheet_length as usize] };
+        return Answer::Accepted { sheet: &sheet[..raw.sheet_length] };
     }
     Answer::Refused(Refusal {
         code: raw.code,
         place: raw.place,
         span: (raw.span_start, raw.span_end),
-        message: &message[..raw.message_length as usize],
+        message: &message[..raw.message_length],
     })
 }
 
@@ -98,7 +98,7 @@ pub fn write_sheet<'a>(sheet: &[u8], out: &'a mut [u8]) -> Result<&'a [u8], Shee
     // Safety: the pointers and lengths are those of slices, and the one that is written is borrowed by this call alone.
     let raw = unsafe { raw::cablebirch_write_sheet(sheet.as_ptr(), sheet.len(), out.as_mut_ptr(), out.len()) };
     match raw.code {
-        0 => Ok(&out[..raw.sheet_length as usize]),
+        0 => Ok(&out[..raw.sheet_length]),
         10 => Err(SheetError::TooShort),
         _ => Err(SheetError::NoSheet),
     }
@@ -141,11 +141,11 @@ mod raw {
     #[repr(C)]
     pub struct RawAnswer {
         pub code: u32,
-        pub place: u32,
         pub span_start: u32,
         pub span_end: u32,
-        pub sheet_length: u32,
-        pub message_length: u32,
+        pub place: usize,
+        pub sheet_length: usize,
+        pub message_length: usize,
     }
 
     extern "C" {
