@@ -1,10 +1,10 @@
 -- What the reader and the writer of sheets promise.
 use mathlib.Core.Path.{_≡_, refl, sym, ap, _∙_}
 use mathlib.Core.Bool.{Bool, true, false}
-use mathlib.Core.List.{List, []}
+use mathlib.Core.List.{List, [], _∷_}
 use Prim.Native.Nat.{ℕ}
 use lib.ListN.{length}
-use Rattle.meaning.specs.Base.{if_then_else_, ifSome}
+use Rattle.meaning.specs.Base.{if_then_else_, ifSome, choose}
 use Rattle.meaning.specs.Sheet.{sheetOf}
 use Rattle.meaning.specs.Read.{entriesIn, isSheet, readSheet}
 use Rattle.meaning.specs.Answer.{Answer as Meant, bare, written, writeAnswer, readAnswer, overlaid}
@@ -14,6 +14,7 @@ use Rattle.sheet.specs.Listing.{listed}
 use Rattle.sheet.specs.Listing.{Wrote as Laid}
 use Rattle.sheet.specs.Reading.{Reads}
 use Rattle.checker.specs.Answers.{Answers, Numbers, numbersIn, readingNumbers, rewritingNumbers, rewritten, Rewrote, Replies, Relaid}
+use Rattle.checker.specs.declared.Reading.{Reading}
 use Rattle.checker.specs.declared.Rewriting.{Rewriting}
 use Rattle.checker.specs.declared.Reading.the-variants.{Sheet, NoSheet}
 use Rattle.checker.specs.declared.Rewriting.the-variants.{Written, NoRoom, NotRead}
@@ -56,3 +57,29 @@ read-code bs c e = e
 
 pub relays : {a : Meant} {r : Rewriting} {n : Numbers} {old new : List ℕ} → n ≡ rewritingNumbers r → Rewrote a r old new → Relaid a n old new
 relays e w = record { numbers = e ∙ w .numbers; sheet = w .sheet }
+
+-- ---- no second outcome fits
+
+unfoldable readingFrom : Numbers → Reading
+readingFrom n = choose (n .code) NoSheet ((0, Sheet) ∷ [])
+
+reading-back : (r : Reading) → readingFrom (readingNumbers r) ≡ r
+unfolding readingFrom choose if_then_else_
+reading-back Sheet = refl
+reading-back NoSheet = refl
+
+pub one-reading : (a : Meant) {r q : Reading} → readingNumbers r ≡ numbersIn a → readingNumbers q ≡ numbersIn a → r ≡ q
+one-reading a {r} {q} x y = sym (reading-back r) ∙ ap readingFrom (x ∙ sym y) ∙ reading-back q
+
+unfoldable rewritingFrom : Numbers → Rewriting
+rewritingFrom n = choose (n .code) NotRead ((0, Written (n .sheet)) ∷ (10, NoRoom) ∷ [])
+
+rewriting-back : (r : Rewriting) → rewritingFrom (rewritingNumbers r) ≡ r
+unfolding rewritingFrom choose if_then_else_
+rewriting-back (Written n) = refl
+rewriting-back NoRoom = refl
+rewriting-back NotRead = refl
+
+pub one-rewriting : (a : Meant) {r q : Rewriting} {old new₁ new₂ : List ℕ} → Rewrote a r old new₁ → Rewrote a q old new₂ → (r ≡ q) × (new₁ ≡ new₂)
+one-rewriting a {r} {q} x y =
+    (sym (rewriting-back r) ∙ ap rewritingFrom (x .numbers ∙ sym (y .numbers)) ∙ rewriting-back q, x .sheet ∙ sym (y .sheet))
