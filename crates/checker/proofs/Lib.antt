@@ -1,3 +1,4 @@
+mod Places
 pub mod Ends
 pub mod Outcomes
 pub mod Sheets

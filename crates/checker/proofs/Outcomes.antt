@@ -13,7 +13,7 @@ use Rattle.meaning.specs.Image.{Fault, imageFault, nodeCount, nodesFrom, namesO
 use Rattle.meaning.specs.Frames.{newest}
 use Rattle.meaning.specs.Sheet.{entries, sheetOf}
 use Rattle.meaning.specs.Answer.{Answer as Meant, bare, written, answer, overlaid}
-use Rattle.meaning.proofs.Faults.{Sound}
+use Rattle.meaning.proofs.Faults.{Sound, sizes}
 use Rattle.meaning.proofs.Answers.{overlaid-none}
 use Rattle.types.specs.Table.{Tab, Wf}
 use Rattle.frames.specs.Env.{Rows, framesOf}
@@ -23,6 +23,7 @@ use Rattle.checker.specs.Steps.{Accepting, Refusing, refusedAs}
 use Rattle.checker.specs.declared.Refusal.{Refusal}
 use Rattle.checker.specs.declared.Answer.{Answer}
 use Rattle.checker.specs.declared.Answer.the-variants.{Accepted, BadHead, BadCount, BadOffset, BadName, UnsafeName, BadNode, BadNesting, TooDeep, NinthFrame, ShortBuffer, Typing}
+use Rattle.checker.proofs.Places.{fault-near}
 use Rattle.checker.proofs.Ends.{answer-fault, ran-well, ran-deep, ran-ill, ran-typing}
 
 -- a buffer that nothing was written to
@@ -37,10 +38,18 @@ no-message room bs = by (leb (length bs) room)
     by true = refl
     by false = refl
 
+no-place : (room : ℕ) (bs : List ℕ) → written room bs .place ≡ 0
+unfolding written if_then_else_
+no-place room bs = by (leb (length bs) room)
+  where
+    by : (b : Bool) → (if b then record { code = 0; place = 0; spanStart = 0; spanEnd = 0; sheet = bs; message = [] } else bare 10 0) .place ≡ 0
+    by true = refl
+    by false = refl
+
 pub answers-fault : (bs : List ℕ) (x y : ℕ) {f : Fault} {q : Answer} {s m : List ℕ} → imageFault bs ≡ some f → numbersOf q ≡ bareNumbers (f .code) (f .place)
     → Stands q → Answers (answer bs x y) q s s m m
 answers-fault bs x y {f} {q} {s} {m} e n t =
-    rw (answer-fault bs f x y e) record { numbers = n; stands = t; sheet = kept s; message = kept m }
+    rw (answer-fault bs f x y e) record { numbers = n; stands = t; near = fault-near bs f e; sheet = kept s; message = kept m }
 
 module _ {bs : List ℕ} {t u : Tab} {gs : Rows} {top : ℕ} {su : List ℕ} {code place a b : ℕ} (h : Sound bs) (r : Ran bs t u gs top su code place a b) where
   pub ran-accepting : code ≡ 0 → Accepting bs u gs top
@@ -52,12 +61,13 @@ module _ {bs : List ℕ} {t u : Tab} {gs : Rows} {top : ℕ} {su : List ℕ} {co
       rw (ran-well h r z (length old) (length m)) record {
         numbers = w .numbers;
         stands = w .stands;
+        near = rw (no-place (length old) (sheetOf (entries (namesOf bs) (newest (framesOf u gs top))))) (omega arith);
         sheet = w .sheet;
         message = rw (no-message (length old) (sheetOf (entries (namesOf bs) (newest (framesOf u gs top))))) (kept m);
       }
 
   pub answers-deep : (x y : ℕ) {s m : List ℕ} → (code ≡ 0 → ⊥) → code ≡ 9 → Answers (answer bs x y) (NinthFrame place) s s m m
-  answers-deep x y {s} {m} z n = rw (ran-deep h r z n x y) record { numbers = refl; stands = tt; sheet = kept s; message = kept m }
+  answers-deep x y {s} {m} z n = rw (ran-deep h r z n x y) record { numbers = refl; stands = tt; near = omega (arith, r .placed n, sizes (h .headed) .nodes); sheet = kept s; message = kept m }
 
   pub ran-refusing : {nodes : ℕ} → nodes ≡ nodesFrom bs → (code ≡ 0 → ⊥) → (code ≡ 9 → ⊥) → Refusing bs nodes u code place a b
   ran-refusing e z n = record {
@@ -72,7 +82,13 @@ module _ {bs : List ℕ} {t u : Tab} {gs : Rows} {top : ℕ} {su : List ℕ} {co
       → Answers (answer bs x (length old)) q s s old new
   unfolding refusedAs
   answers-refused x {q} {s} {old} {new} z n w =
-      rw (ran-ill h r z n x (length old)) record { numbers = w .numbers; stands = w .stands; sheet = kept s; message = w .message }
+      rw (ran-ill h r z n x (length old)) record {
+        numbers = w .numbers;
+        stands = w .stands;
+        near = omega (arith, r .named n .placed z, sizes (h .headed) .nodes);
+        sheet = kept s;
+        message = w .message;
+      }
 
 -- ---- no second outcome fits
 
@@ -127,4 +143,4 @@ one-outcome a {r} {q} x y = (
 -- ---- for other languages
 
 pub replies : {a : Meant} {r : Answer} {n : Numbers} {s s₁ m m₁ : List ℕ} → n ≡ numbersOf r → Answers a r s s₁ m m₁ → Replies a n s s₁ m m₁
-replies e x = record { numbers = e ∙ x .numbers; sheet = x .sheet; message = x .message }
+replies e x = record { numbers = e ∙ x .numbers; near = x .near; sheet = x .sheet; message = x .message }

@@ -1,7 +1,7 @@
 -- The answers of the public functions in the document's numbers, and what they leave of the lent bytes.
 use mathlib.Core.Path.{_≡_}
 use mathlib.Core.List.{List}
-use Prim.Native.Nat.{ℕ, _≤_}
+use Prim.Native.Nat.{ℕ, _≤_, _<_}
 use lib.ListN.{length}
 use Rattle.meaning.specs.Base.{ifSome}
 use Rattle.meaning.specs.Read.{readSheet}
@@ -71,10 +71,11 @@ numbersIn a =
       message = length (a .message);
     }
 
--- r has the numbers of a, a's sheet stands at the front of the one buffer and its message at the front of the other, and the rest is kept
+-- r has the numbers of a, its place is a word, a's sheet stands at the front of the one buffer and its message at the front of the other, and the rest is kept
 pub record Answers (a : Meant) (r : Answer) (oldSheet newSheet oldMessage newMessage : List ℕ) : Type 0 where
   pub numbers : numbersOf r ≡ numbersIn a
   pub stands : Stands r
+  pub near : a .place < 4294967296
   pub sheet : newSheet ≡ overlaid (a .sheet) oldSheet
   pub message : newMessage ≡ overlaid (a .message) oldMessage
 
@@ -123,6 +124,7 @@ replyMeans r =
 
 pub record Replies (a : Meant) (n : Numbers) (oldSheet newSheet oldMessage newMessage : List ℕ) : Type 0 where
   pub numbers : n ≡ numbersIn a
+  pub near : a .place < 4294967296
   pub sheet : newSheet ≡ overlaid (a .sheet) oldSheet
   pub message : newMessage ≡ overlaid (a .message) oldMessage
 

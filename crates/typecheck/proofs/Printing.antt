@@ -1,0 +1,106 @@
+-- The printed line, from what the check left in the buffers.
+use mathlib.Core.Path.{_≡_, refl, sym, ap, _∙_}
+use mathlib.Core.Bool.{Bool, true, false}
+use mathlib.Core.List.{List, []}
+use mathlib.Core.Option.{Option, none, some}
+use Prim.Native.Nat.{ℕ, _+_, _≤_, _<_}
+use native.Mathlib.Omega.{arith}
+use lib.Dec.{leb}
+use lib.ListN.{length, take}
+use lib.Seq.{take-append-seam, length-take-le}
+use Rattle.meaning.specs.Base.{if_then_else_, ifSome}
+use Rattle.meaning.specs.Image.{Fault, Name, Node, imageFault, namesOf, nodesOf}
+use Rattle.meaning.specs.Sheet.{entries, sheetOf}
+use Rattle.meaning.specs.Frames.{newest}
+use Rattle.meaning.specs.Message.{Refusal}
+use Rattle.meaning.specs.Walk.{State, End, done, wrong, tooDeep}
+use Rattle.meaning.specs.Answer.{Answer, bare, written, ended, walked, answer, overlaid}
+use Rattle.meaning.specs.Line.{lineOf}
+use Rattle.meaning.proofs.Faults.{fault-told}
+use Rattle.meaning.proofs.Kept.{refused-typing}
+use Rattle.meaning.proofs.Answers.{overlaid-length}
+use Rattle.meaning.proofs.Answers.{answered as bounds}
+use Rattle.meaning.proofs.SheetForm.{sheet-size}
+use Rattle.line.specs.Printing.{Printable, answered}
+use Rattle.checker.specs.Answers.{Numbers, numbersIn, Replies}
+
+-- ---- an accepted program's sheet has a header
+
+pub record Header (a : Answer) : Type 0 where
+  pub forty : a .code ≡ 0 → 40 ≤ length (a .sheet)
+
+bare-header : (c n : ℕ) → 1 ≤ c → Header (bare c n)
+bare-header c n h = record { forty = λ e. absurd (omega arith) }
+
+written-header : (room : ℕ) (bs : List ℕ) → 40 ≤ length bs → Header (written room bs)
+unfolding written if_then_else_
+written-header room bs h = by (leb (length bs) room)
+  where
+    by : (b : Bool) → Header (if b then record { code = 0; place = 0; spanStart = 0; spanEnd = 0; sheet = bs; message = [] } else bare 10 0)
+    by true = record { forty = λ e. h }
+    by false = bare-header 10 0 (omega arith)
+
+ended-header : (ws : List Name) (ds : List Node) (x y : ℕ) (e : End) → ((r : Refusal) (s : State) → e ≡ wrong r s → 20 ≤ r .code) → Header (ended ws ds x y e)
+unfolding ended
+ended-header ws ds x y (done s) h = let es = entries ws (newest (s .frames)) in written-header x (sheetOf es) (omega (arith, sheet-size es))
+ended-header ws ds x y (wrong r s) h = let k = h r s refl in record { forty = λ e. absurd (omega arith) }
+ended-header ws ds x y (tooDeep n) h = bare-header 9 n (omega arith)
+
+fault-header : (o : Option Fault) (a : Answer) → ((f : Fault) → o ≡ some f → 1 ≤ f .code) → Header a → Header (ifSome o (λ f. bare (f .code) (f .place)) a)
+unfolding ifSome
+fault-header none a h g = g
+fault-header (some f) a h g = bare-header (f .code) (f .place) (h f refl)
+
+pub answer-header : (bs : List ℕ) (x y : ℕ) → Header (answer bs x y)
+unfolding answer walked
+answer-header bs x y =
+    fault-header (imageFault bs) _ (λ f e. fault-told bs f e .above)
+    (ended-header (namesOf bs) (nodesOf bs) x y _ (λ r s e. refused-typing (namesOf bs) _ r s e .above))
+
+-- ---- the buffers
+
+module _ (bs : List ℕ) {n : Numbers} (s s₁ m m₁ : List ℕ) (ls : length s ≡ 42532) (lm : length m ≡ 1024)
+    (r : Replies (answer bs (length s) (length m)) n s s₁ m m₁) where
+  long-s : length s₁ ≡ 42532
+  long-s = ap length (r .sheet) ∙ overlaid-length _ s (bounds (length s) (length m) bs .sheet-fits) ∙ ls
+
+  long-m : length m₁ ≡ 1024
+  long-m = ap length (r .message) ∙ overlaid-length _ m (bounds (length s) (length m) bs .message-fits) ∙ lm
+
+  sheet-is : n .sheet ≡ length (answer bs (length s) (length m) .sheet)
+  sheet-is = ap (λ k. k .sheet) (r .numbers)
+
+  message-is : n .message ≡ length (answer bs (length s) (length m) .message)
+  message-is = ap (λ k. k .message) (r .numbers)
+
+  pub place-near : n .place < 4294967296
+  place-near = rw (ap (λ k. k .place) (r .numbers)) (r .near)
+
+  pub sheet-in : n .sheet ≤ length s₁
+  sheet-in = omega (arith, sheet-is, long-s, bounds (length s) (length m) bs .sheet-fits)
+
+  pub message-in : n .message ≤ length m₁
+  message-in = omega (arith, message-is, long-m, bounds (length s) (length m) bs .message-fits)
+
+  front : (w old : List ℕ) → take (length w) (overlaid w old) ≡ w
+  unfolding overlaid
+  front w old = take-append-seam w _
+
+  sheet-part : take (n .sheet) s₁ ≡ answer bs (length s) (length m) .sheet
+  sheet-part = rw (sheet-is, r .sheet) (front _ s)
+
+  message-part : take (n .message) m₁ ≡ answer bs (length s) (length m) .message
+  message-part = rw (message-is, r .message) (front _ m)
+
+  pub printable : {out : List ℕ} → 1088 ≤ length out → Printable (n .code) (take (n .sheet) s₁) (take (n .message) m₁) out
+  printable h =
+      let q = length-take-le (n .sheet) s₁ sheet-in in
+      let t = length-take-le (n .message) m₁ message-in in
+      record {
+        headed = λ z. omega (arith, q, sheet-is, answer-header bs (length s) (length m) .forty (sym (ap (λ k. k .code) (r .numbers)) ∙ z));
+        short = omega (arith, q, sheet-in, long-s);
+        room = omega (arith, t, message-in, long-m);
+      }
+
+  pub line-is : (p : ℕ) → p ≡ n .place → lineOf (answered (n .code) p (n .spanStart) (n .spanEnd) (take (n .sheet) s₁) (take (n .message) m₁)) ≡ lineOf (answer bs 42532 1024)
+  line-is p e = rw (e, sheet-part, message-part, r .numbers, ls, lm)
