@@ -51,7 +51,7 @@ pub enum Answer {
 // Code 0 and the sheet of the names that the row `top` holds, or 10.
 fn accept(
     image: &[u8],
-    table: &[u32; 10272],
+    table: &[u16; 10272],
     counts: Counts,
     frames: &[[u16; 128]; 8],
     top: usize,
@@ -76,7 +76,7 @@ fn accept(
 fn refuse(
     image: &[u8],
     nodes: usize,
-    table: &[u32; 10272],
+    table: &[u16; 10272],
     counts: Counts,
     code: u32,
     place: usize,
@@ -107,10 +107,10 @@ fn walk_image(image: &[u8], sheet: &mut [u8], message: &mut [u8]) -> Answer
     ensures { λ r. ⌜ Answers (answer (now (image .entry)) (length (now (sheet .entry))) (length (now (message .entry))))
         r (now (sheet .entry)) (now (sheet .exit)) (now (message .entry)) (now (message .exit)) ⌝ }
 {
-    let mut table = [0u32; 10272];
+    let mut table = [1u16; 10272];
     start(&mut table);
     let mut frames = [[0u16; 128]; 8];
-    let mut stack = [0u32; 2048];
+    let mut stack = [1u16; 2048];
     let l = areas(image);
     let w = program(
         image,
@@ -174,7 +174,7 @@ pub enum Reading {
 pub fn read_sheet(sheet: &[u8]) -> Reading
     ensures { λ r. ⌜ readingNumbers r ≡ numbersIn (readAnswer (now (sheet .entry))) ⌝ }
 {
-    let mut table = [0u32; 10272];
+    let mut table = [1u16; 10272];
     let mut names = [0u32; 384];
     let r = read(sheet, &mut table, &mut names);
     if r.stands {
@@ -194,7 +194,7 @@ pub enum Rewriting {
 pub fn write_sheet(sheet: &[u8], out: &mut [u8]) -> Rewriting
     ensures { λ r. ⌜ Rewrote (rewritten (now (sheet .entry)) (length (now (out .entry)))) r (now (out .entry)) (now (out .exit)) ⌝ }
 {
-    let mut table = [0u32; 10272];
+    let mut table = [1u16; 10272];
     let mut names = [0u32; 384];
     let r = read(sheet, &mut table, &mut names);
     if !r.stands {

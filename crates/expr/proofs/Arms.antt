@@ -37,11 +37,14 @@ expr-form ws Γ ds zero i h = absurd (omega arith)
 expr-form ws Γ ds (suc d) i h = rw sub-one
 
 -- the kinds that a match leaves
-pub above-27 : {k : ℕ} → 24 ≤ k → (k ≡ 24 → ⊥) → (k ≡ 25 → ⊥) → (k ≡ 26 → ⊥) → (k ≡ 27 → ⊥) → 28 ≤ k
-above-27 h a b c d = omega arith
+above-23 : {k : ℕ} → 20 ≤ k → (k ≡ 20 → ⊥) → (k ≡ 21 → ⊥) → (k ≡ 22 → ⊥) → (k ≡ 23 → ⊥) → 24 ≤ k
+above-23 h a b c d = omega arith
 
-pub above-21 : {k : ℕ} → 20 ≤ k → (k ≡ 20 → ⊥) → (k ≡ 21 → ⊥) → 22 ≤ k
-above-21 h a b = omega arith
+beyond : {k : ℕ} → 24 ≤ k → (k ≡ 24 → ⊥) → (k ≡ 25 → ⊥) → (k ≡ 26 → ⊥) → (k ≡ 27 → ⊥) → 28 ≤ k
+beyond h a b c d = omega arith
+
+pub above-27 : {k : ℕ} → 20 ≤ k → (k ≡ 20 → ⊥) → (k ≡ 21 → ⊥) → (k ≡ 22 → ⊥) → (k ≡ 23 → ⊥) → (k ≡ 24 → ⊥) → (k ≡ 25 → ⊥) → (k ≡ 26 → ⊥) → (k ≡ 27 → ⊥) → 28 ≤ k
+above-27 h a b c d = beyond (above-23 h a b c d)
 
 not-in : (k m : ℕ) → (k < 20) ⊎ (31 < k) → 20 ≤ m → m ≤ 31 → eqb k m ≡ false
 not-in k m h a b = ⊎-elim (λ l. ne-eqb k m (λ e. absurd (omega arith))) (λ l. ne-eqb k m (λ e. absurd (omega arith))) h

@@ -7,6 +7,7 @@ mod Listing
 mod Pairing
 mod Bounding
 mod Calling
+mod Binary
 mod Arguing
 mod Streaming
 mod Arms

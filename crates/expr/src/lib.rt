@@ -22,6 +22,7 @@ use nodes::given;
 use nodes::list_of;
 use nodes::literal;
 use nodes::looked;
+use nodes::operated;
 use nodes::plan;
 use nodes::stop_of;
 use nodes::variable;
@@ -32,25 +33,25 @@ use rules::list_step;
 use rules::stream;
 use types::Counts;
 
-fn wide(x: u32) -> usize
+fn wide(x: u16) -> usize
     ensures { λ r. ⌜ r ≡ x ⌝ }
 {
     x as usize
 }
 
 // The number at a place of the stack.
-fn number_at(stack: &[u32; 2048], at: usize) -> usize
+fn number_at(stack: &[u16; 2048], at: usize) -> usize
     requires { ⌜ at < 2048 ⌝ }
     ensures { λ r. ⌜ r ≡ getD (now (stack .entry)) at 0 ⌝ }
 {
     wide(stack[at])
 }
 
-fn push(stack: &mut [u32; 2048], at: usize, number: usize)
+fn push(stack: &mut [u16; 2048], at: usize, number: usize)
     requires { ⌜ (at < 2048) × (number < 2056) ⌝ }
     ensures { λ _. ⌜ now (stack .exit) ≡ set (now (stack .entry)) at number ⌝ }
 {
-    stack[at] = number as u32;
+    stack[at] = number as u16;
 }
 
 // The expression at node `at`.
@@ -59,9 +60,9 @@ pub fn expr(
     nodes: usize,
     frames: &[[u16; 128]; 8],
     top: usize,
-    table: &mut [u32; 10272],
+    table: &mut [u16; 10272],
     counts: Counts,
-    stack: &mut [u32; 2048],
+    stack: &mut [u16; 2048],
     sp: usize,
     at: usize,
     depth: usize,
@@ -79,7 +80,20 @@ pub fn expr(
     match kind {
         20 => given(literal(node.arg), counts),
         21 => given(variable(frames, top, node.arg as usize), counts),
-        22..=23 => operands(
+        22 => operands(
+            image,
+            nodes,
+            frames,
+            top,
+            table,
+            counts,
+            stack,
+            sp,
+            at,
+            depth - 1,
+            node,
+        ),
+        23 => pair(
             image,
             nodes,
             frames,
@@ -161,15 +175,57 @@ pub fn expr(
     }
 }
 
+// The same for a child. Most nodes are Literals and Variables: these are decided without a call.
+fn child(
+    image: &[u8],
+    nodes: usize,
+    frames: &[[u16; 128]; 8],
+    top: usize,
+    table: &mut [u16; 10272],
+    counts: Counts,
+    stack: &mut [u16; 2048],
+    sp: usize,
+    at: usize,
+    depth: usize,
+) -> Value
+    requires { ⌜ Ready (now image) nodes (now frames) top (tab (now table) (counts .types) (counts .elements)) (now stack) sp at (stopOf (nodesOf (now image)) at) ⌝ }
+    requires { ⌜ At (now image) at depth ⌝ }
+    ensures { λ r. ⌜ Done (namesOf (now (image .entry)))
+        (check (namesOf (now (image .entry))) (framesOf (tab (now (table .entry)) (counts .types) (counts .elements)) (now (frames .entry)) top) (exprAt (nodesOf (now (image .entry))) depth at))
+        (tab (now (table .entry)) (counts .types) (counts .elements))
+        (tab (now (table .exit)) (r .counts .types) (r .counts .elements))
+        (now (stack .entry)) (now (stack .exit)) sp at (stopOf (nodesOf (now (image .entry))) at) (nodeCount (now (image .entry))) (r .code) (r .place) (r .number) (r .a) (r .b) ⌝ }
+{
+    let node = node_at(image, nodes, at);
+    if node.kind == 20 {
+        return given(literal(node.arg), counts);
+    }
+    if node.kind == 21 {
+        return given(variable(frames, top, node.arg as usize), counts);
+    }
+    expr(
+        image,
+        nodes,
+        frames,
+        top,
+        table,
+        counts,
+        stack,
+        sp,
+        at,
+        depth,
+    )
+}
+
 // n expressions from node `from` on, their types on the stack from sp on.
 fn values(
     image: &[u8],
     nodes: usize,
     frames: &[[u16; 128]; 8],
     top: usize,
-    table: &mut [u32; 10272],
+    table: &mut [u16; 10272],
     counts: Counts,
-    stack: &mut [u32; 2048],
+    stack: &mut [u16; 2048],
     sp: usize,
     from: usize,
     n: usize,
@@ -188,7 +244,7 @@ fn values(
     let mut left = n;
     let mut up = sp;
     while 0 < left {
-        let r = expr(image, nodes, frames, top, table, c, stack, up, at, depth);
+        let r = child(image, nodes, frames, top, table, c, stack, up, at, depth);
         if r.code != 0 {
             return r;
         }
@@ -207,9 +263,9 @@ fn operands(
     nodes: usize,
     frames: &[[u16; 128]; 8],
     top: usize,
-    table: &mut [u32; 10272],
+    table: &mut [u16; 10272],
     counts: Counts,
-    stack: &mut [u32; 2048],
+    stack: &mut [u16; 2048],
     sp: usize,
     at: usize,
     depth: usize,
@@ -244,15 +300,75 @@ fn operands(
     decide(image, nodes, table, r.counts, stack, sp, at, node)
 }
 
+// A Binary: its operands without the turns of a loop.
+fn pair(
+    image: &[u8],
+    nodes: usize,
+    frames: &[[u16; 128]; 8],
+    top: usize,
+    table: &mut [u16; 10272],
+    counts: Counts,
+    stack: &mut [u16; 2048],
+    sp: usize,
+    at: usize,
+    depth: usize,
+    node: Node,
+) -> Value
+    requires { ⌜ Ready (now image) nodes (now frames) top (tab (now table) (counts .types) (counts .elements)) (now stack) sp at (stopOf (nodesOf (now image)) at) ⌝ }
+    requires { ⌜ Inner (now image) at depth (nodeMeans node) ⌝ }
+    requires { ⌜ node .kind ≡ 23 ⌝ }
+    ensures { λ r. ⌜ Done (namesOf (now (image .entry)))
+        (checkForm (namesOf (now (image .entry))) (framesOf (tab (now (table .entry)) (counts .types) (counts .elements)) (now (frames .entry)) top) at (formAt (nodesOf (now (image .entry))) (λ j. exprAt (nodesOf (now (image .entry))) depth j) at))
+        (tab (now (table .entry)) (counts .types) (counts .elements))
+        (tab (now (table .exit)) (r .counts .types) (r .counts .elements))
+        (now (stack .entry)) (now (stack .exit)) sp at (stopOf (nodesOf (now (image .entry))) at) (nodeCount (now (image .entry))) (r .code) (r .place) (r .number) (r .a) (r .b) ⌝ }
+{
+    let left = at + 1;
+    let l = child(
+        image,
+        nodes,
+        frames,
+        top,
+        table,
+        counts,
+        stack,
+        sp,
+        left,
+        depth,
+    );
+    if l.code != 0 {
+        return l;
+    }
+    push(stack, sp, l.number);
+    let right = stop_of(image, nodes, left);
+    let r = child(
+        image,
+        nodes,
+        frames,
+        top,
+        table,
+        l.counts,
+        stack,
+        sp + 1,
+        right,
+        depth,
+    );
+    if r.code != 0 {
+        return r;
+    }
+    push(stack, sp + 1, r.number);
+    operated(image, nodes, table, r.counts, stack, sp, at, node)
+}
+
 // A List: "List stops at the first mismatch".
 fn list(
     image: &[u8],
     nodes: usize,
     frames: &[[u16; 128]; 8],
     top: usize,
-    table: &mut [u32; 10272],
+    table: &mut [u16; 10272],
     counts: Counts,
-    stack: &mut [u32; 2048],
+    stack: &mut [u16; 2048],
     sp: usize,
     at: usize,
     depth: usize,
@@ -306,9 +422,9 @@ fn dict(
     nodes: usize,
     frames: &[[u16; 128]; 8],
     top: usize,
-    table: &mut [u32; 10272],
+    table: &mut [u16; 10272],
     counts: Counts,
-    stack: &mut [u32; 2048],
+    stack: &mut [u16; 2048],
     sp: usize,
     at: usize,
     depth: usize,
@@ -364,9 +480,9 @@ fn call(
     nodes: usize,
     frames: &[[u16; 128]; 8],
     top: usize,
-    table: &mut [u32; 10272],
+    table: &mut [u16; 10272],
     counts: Counts,
-    stack: &mut [u32; 2048],
+    stack: &mut [u16; 2048],
     sp: usize,
     at: usize,
     depth: usize,
@@ -433,9 +549,9 @@ fn arguments(
     nodes: usize,
     frames: &[[u16; 128]; 8],
     top: usize,
-    table: &mut [u32; 10272],
+    table: &mut [u16; 10272],
     counts: Counts,
-    stack: &mut [u32; 2048],
+    stack: &mut [u16; 2048],
     sp: usize,
     at: usize,
     from: usize,
@@ -510,9 +626,9 @@ fn bounds(
     nodes: usize,
     frames: &[[u16; 128]; 8],
     top: usize,
-    table: &mut [u32; 10272],
+    table: &mut [u16; 10272],
     counts: Counts,
-    stack: &mut [u32; 2048],
+    stack: &mut [u16; 2048],
     sp: usize,
     at: usize,
     from: usize,
@@ -575,9 +691,9 @@ fn streams(
     nodes: usize,
     frames: &[[u16; 128]; 8],
     top: usize,
-    table: &mut [u32; 10272],
+    table: &mut [u16; 10272],
     counts: Counts,
-    stack: &mut [u32; 2048],
+    stack: &mut [u16; 2048],
     sp: usize,
     from: usize,
     n: usize,

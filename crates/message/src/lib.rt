@@ -88,7 +88,7 @@ struct Pieces {
 // ---- the parts of a type, by number
 
 // How many parts type i has: a plain type has none.
-fn parts_of(table: &[u32; 10272], i: usize) -> usize
+fn parts_of(table: &[u16; 10272], i: usize) -> usize
     requires { ⌜ Known (now table) i ⌝ }
     ensures { λ r. ⌜ r ≡ length (parts (typeAt (now (table .entry)) i)) ⌝ }
 {
@@ -104,7 +104,7 @@ fn parts_of(table: &[u32; 10272], i: usize) -> usize
 }
 
 // Part j of type i. Its number is lower than i: this is what all recursion over types rests on.
-fn part_at(table: &[u32; 10272], i: usize, j: usize) -> usize
+fn part_at(table: &[u16; 10272], i: usize, j: usize) -> usize
     requires { ⌜ Known (now table) i ⌝ }
     requires { ⌜ j < length (parts (typeAt (now table) i)) ⌝ }
     ensures { λ r. ⌜ PartAt (now (table .entry)) i j r ⌝ }
@@ -225,7 +225,7 @@ fn clip(x: usize, y: usize, cap: usize) -> usize
 }
 
 // Counted from the lengths of its parts, which have lower numbers.
-fn size_of(table: &[u32; 10272], i: usize, lens: &[usize; 2056], cap: usize) -> usize
+fn size_of(table: &[u16; 10272], i: usize, lens: &[usize; 2056], cap: usize) -> usize
     requires { ⌜ Known (now table) i ⌝ }
     requires { ⌜ Sized (now table) cap (now lens) i ⌝ }
     ensures { λ r. ⌜ r ≡ sizeAt (now (table .entry)) cap i ⌝ }
@@ -243,7 +243,7 @@ fn size_of(table: &[u32; 10272], i: usize, lens: &[usize; 2056], cap: usize) -> 
 }
 
 // The lengths of the texts of the first `types` numbers, each worked out once.
-fn measure(table: &[u32; 10272], types: usize, cap: usize, lens: &mut [usize; 2056])
+fn measure(table: &[u16; 10272], types: usize, cap: usize, lens: &mut [usize; 2056])
     requires { ⌜ AllKnown (now table) types ⌝ }
     requires { ⌜ length (now lens) ≡ 2056 ⌝ }
     ensures { λ _. ⌜ Sized (now (table .entry)) cap (now (lens .exit)) types ⌝ }
@@ -258,7 +258,7 @@ fn measure(table: &[u32; 10272], types: usize, cap: usize, lens: &mut [usize; 20
 // ---- a type's text
 
 // Recurs by the type's number, which falls; one frame for each type that lies around another.
-fn put_type(table: &[u32; 10272], i: usize, out: &mut [u8], at: usize) -> usize
+fn put_type(table: &[u16; 10272], i: usize, out: &mut [u8], at: usize) -> usize
     requires { ⌜ Known (now table) i ⌝ }
     requires { ⌜ at + length (text (typeAt (now table) i)) ≤ length (now out) ⌝ }
     ensures { λ _. ⌜ now (out .exit) ≡ putAt (now (out .entry)) at (text (typeAt (now (table .entry)) i)) ⌝ }
@@ -446,7 +446,7 @@ fn passed(image: &[u8], a: usize, b: usize) -> Pieces
 // What the message of a code names.
 fn pieces_of(
     image: &[u8],
-    table: &[u32; 10272],
+    table: &[u16; 10272],
     counts: Counts,
     code: u32,
     a: usize,
@@ -547,7 +547,7 @@ fn size_one(c: u8, piece: Piece, lens: &[usize; 2056]) -> usize
 // The length of the message, up to the cap.
 fn total(
     image: &[u8],
-    table: &[u32; 10272],
+    table: &[u16; 10272],
     format: &[u8],
     pieces: Pieces,
     lens: &[usize; 2056],
@@ -569,7 +569,7 @@ fn total(
     size
 }
 
-fn measured(image: &[u8], table: &[u32; 10272], format: &[u8], pieces: Pieces, cap: usize) -> usize
+fn measured(image: &[u8], table: &[u16; 10272], format: &[u8], pieces: Pieces, cap: usize) -> usize
     requires { ⌜ Ready (now image) (now table) pieces ⌝ }
     ensures { λ r. ⌜ r ≡ clipped cap (length (put-in (now (image .entry)) (now (table .entry)) pieces (now (format .entry)))) ⌝ }
 {
@@ -588,7 +588,7 @@ fn put_range(p: u32, q: u32, out: &mut [u8], at: usize) -> usize
     put_decimal(out, second, q)
 }
 
-fn put_piece(image: &[u8], table: &[u32; 10272], piece: Piece, out: &mut [u8], at: usize) -> usize
+fn put_piece(image: &[u8], table: &[u16; 10272], piece: Piece, out: &mut [u8], at: usize) -> usize
     requires { ⌜ Shown (now image) (now table) piece ⌝ }
     requires { ⌜ at + length (meant (now image) (now table) piece) ≤ length (now out) ⌝ }
     ensures { λ _. ⌜ now (out .exit) ≡ putAt (now (out .entry)) at (meant (now (image .entry)) (now (table .entry)) piece) ⌝ }
@@ -606,7 +606,7 @@ fn put_piece(image: &[u8], table: &[u32; 10272], piece: Piece, out: &mut [u8], a
 
 fn put_one(
     image: &[u8],
-    table: &[u32; 10272],
+    table: &[u16; 10272],
     c: u8,
     piece: Piece,
     out: &mut [u8],
@@ -626,7 +626,7 @@ fn put_one(
 
 fn fill_in(
     image: &[u8],
-    table: &[u32; 10272],
+    table: &[u16; 10272],
     format: &[u8],
     pieces: Pieces,
     out: &mut [u8],
@@ -651,7 +651,7 @@ fn fill_in(
 // One more than the room is the cap: it stands for every length that does not fit.
 fn deliver(
     image: &[u8],
-    table: &[u32; 10272],
+    table: &[u16; 10272],
     format: &[u8],
     pieces: Pieces,
     out: &mut [u8],
@@ -757,7 +757,7 @@ fn put_format(code: u32, buf: &mut [u8]) -> usize
 // numbers of the types that it names; for 26 its two counts; for 23, 37 and 38 a name's number and a count.
 pub fn write(
     image: &[u8],
-    table: &[u32; 10272],
+    table: &[u16; 10272],
     counts: Counts,
     code: u32,
     a: usize,

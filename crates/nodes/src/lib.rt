@@ -75,14 +75,14 @@ pub fn decided(d: Decision, place: usize, counts: Counts) -> Value
 
 // ---- the stack
 
-fn wide(x: u32) -> usize
+fn wide(x: u16) -> usize
     ensures { λ r. ⌜ r ≡ x ⌝ }
 {
     x as usize
 }
 
 // The type that stands at a place of the stack.
-fn type_at(stack: &[u32; 2048], at: usize) -> usize
+fn type_at(stack: &[u16; 2048], at: usize) -> usize
     requires { ⌜ at < 2048 ⌝ }
     ensures { λ r. ⌜ r ≡ getD (now (stack .entry)) at 0 ⌝ }
 {
@@ -129,7 +129,7 @@ pub fn stop_of(image: &[u8], nodes: usize, at: usize) -> usize
 
 // ---- List and Dict
 
-pub fn list_of(table: &mut [u32; 10272], counts: Counts, element: usize) -> Value
+pub fn list_of(table: &mut [u16; 10272], counts: Counts, element: usize) -> Value
     requires { ⌜ Asks (tab (now table) (counts .types) (counts .elements)) element ⌝ }
     ensures { λ r. ⌜ r .code ≡ 0 ⌝ }
     ensures { λ r. ⌜ Made (tab (now (table .entry)) (counts .types) (counts .elements))
@@ -150,7 +150,7 @@ pub fn list_of(table: &mut [u32; 10272], counts: Counts, element: usize) -> Valu
     }
 }
 
-pub fn dict_of(table: &mut [u32; 10272], counts: Counts, key: usize, value: usize) -> Value
+pub fn dict_of(table: &mut [u16; 10272], counts: Counts, key: usize, value: usize) -> Value
     requires { ⌜ Asks (tab (now table) (counts .types) (counts .elements)) key ⌝ }
     requires { ⌜ Asks (tab (now table) (counts .types) (counts .elements)) value ⌝ }
     ensures { λ r. ⌜ r .code ≡ 0 ⌝ }
@@ -187,9 +187,9 @@ fn index_place(code: u32, object: usize, index: usize) -> usize
 
 // The Tuple of the n types on the stack from sp on.
 fn tupled(
-    table: &mut [u32; 10272],
+    table: &mut [u16; 10272],
     counts: Counts,
-    stack: &[u32; 2048],
+    stack: &[u16; 2048],
     sp: usize,
     n: usize,
 ) -> Value
@@ -216,7 +216,7 @@ fn tupled(
 
 // What the types of an object and an index give, at their nodes m and n.
 fn indexed(
-    table: &[u32; 10272],
+    table: &[u16; 10272],
     counts: Counts,
     object: usize,
     key: usize,
@@ -232,13 +232,39 @@ fn indexed(
     decided(d, index_place(d.code, m, n), counts)
 }
 
+// What a Binary at node `at` gives, its operands' types on the stack from sp on.
+pub fn operated(
+    image: &[u8],
+    nodes: usize,
+    table: &[u16; 10272],
+    counts: Counts,
+    stack: &[u16; 2048],
+    sp: usize,
+    at: usize,
+    node: Node,
+) -> Value
+    requires { ⌜ Decidable (now image) nodes (tab (now table) (counts .types) (counts .elements)) (now stack) sp at (nodeMeans node) ⌝ }
+    requires { ⌜ node .kind ≡ 23 ⌝ }
+    ensures { λ r. ⌜ r .counts ≡ counts ⌝ }
+    ensures { λ r. ⌜ Given (namesOf (now (image .entry)))
+        (operandRule (node .kind) (node .arg) at (suc at) (stopOf (nodesOf (now (image .entry))) (suc at))
+        (map (denote (tab (now (table .entry)) (counts .types) (counts .elements))) (take (node .children) (drop sp (now (stack .entry))))))
+        (tab (now (table .entry)) (counts .types) (counts .elements))
+        (tab (now (table .entry)) (counts .types) (counts .elements))
+        (node .children) (nodeCount (now (image .entry))) (r .code) (r .place) (r .number) (r .a) (r .b) ⌝ }
+{
+    let left = type_at(stack, sp);
+    let right = type_at(stack, sp + 1);
+    decided(binary(table, node.arg, left, right), at, counts)
+}
+
 // What node `at` gives, its children's types on the stack from sp on.
 pub fn decide(
     image: &[u8],
     nodes: usize,
-    table: &mut [u32; 10272],
+    table: &mut [u16; 10272],
     counts: Counts,
-    stack: &[u32; 2048],
+    stack: &[u16; 2048],
     sp: usize,
     at: usize,
     node: Node,
@@ -254,11 +280,7 @@ pub fn decide(
     let kind = node.kind;
     match kind {
         22 => decided(unary(table, node.arg, type_at(stack, sp)), at, counts),
-        23 => decided(
-            binary(table, node.arg, type_at(stack, sp), type_at(stack, sp + 1)),
-            at,
-            counts,
-        ),
+        23 => operated(image, nodes, table, counts, stack, sp, at, node),
         28 => tupled(table, counts, stack, sp, node.children as usize),
         31 => indexed(
             table,
@@ -334,9 +356,9 @@ pub fn looked(rule: u32, count: usize) -> usize
 
 // What a rule gives at node `at`, the types of the arguments that it looks at on the stack from sp on.
 pub fn argued(
-    table: &[u32; 10272],
+    table: &[u16; 10272],
     counts: Counts,
-    stack: &[u32; 2048],
+    stack: &[u16; 2048],
     sp: usize,
     rule: u32,
     look: usize,

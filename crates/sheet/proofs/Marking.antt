@@ -149,7 +149,7 @@ module _ (t : Tab) (ms : List ℕ) (i : ℕ) (m : Marked t ms) (below : i < t.n)
         m .wf .base,
       )
 
-  add-marked : getD ms i 0 ≡ 0 → Ordered [] (us ++ (ty ∷ [])) → Marked t (added ms i)
+  add-marked : getD ms i 0 ≡ 1 → Ordered [] (us ++ (ty ∷ [])) → Marked t (added ms i)
   add-marked z o =
       let room = room-of o in
       let small : i < 2056 = omega (arith, m .wf .room) in
@@ -186,16 +186,16 @@ module _ (t : Tab) (ms : List ℕ) (i : ℕ) (m : Marked t ms) (below : i < t.n)
 
   -- ---- what `complete` does
 
-  completed-new : getD ms i 0 ≡ 0 → completed ms i ≡ added ms i
+  completed-new : getD ms i 0 ≡ 1 → completed ms i ≡ added ms i
   unfolding completed if_then_else_
   completed-new z = rw (eq-eqb _ _ z)
 
-  completed-old : (getD ms i 0 ≡ 0 → ⊥) → completed ms i ≡ ms
+  completed-old : (getD ms i 0 ≡ 1 → ⊥) → completed ms i ≡ ms
   unfolding completed if_then_else_
   completed-old n = rw (ne-eqb _ _ n)
 
   module _ (o : Ordered [] (addNew ty us)) where
-    fresh-ordered : getD ms i 0 ≡ 0 → Ordered [] (us ++ (ty ∷ []))
+    fresh-ordered : getD ms i 0 ≡ 1 → Ordered [] (us ++ (ty ∷ []))
     fresh-ordered z = subst (Ordered []) (add-fresh ty us (m .fresh i below z)) o
 
     pub completing : Completing ms i
@@ -207,13 +207,13 @@ module _ (t : Tab) (ms : List ℕ) (i : ℕ) (m : Marked t ms) (below : i < t.n)
     }
 
     pub completed-marked : Marked t (completed ms i)
-    completed-marked = elim (ℕ-discrete (getD ms i 0) 0) [
+    completed-marked = elim (ℕ-discrete (getD ms i 0) 1) [
       | yes z ↦ rw (completed-new z) (add-marked z (fresh-ordered z))
       | no n ↦ rw (completed-old n) m
     ]
 
     pub completed-types : typesIn t (completed ms i) ≡ addNew ty us
-    completed-types = elim (ℕ-discrete (getD ms i 0) 0) [
+    completed-types = elim (ℕ-discrete (getD ms i 0) 1) [
       | yes z ↦
           rw (completed-new z, add-fresh ty us (m .fresh i below z))
           (added-types ms i (m .long) (omega (arith, m .wf .room)) (room-of (fresh-ordered z)) t)

@@ -116,6 +116,6 @@ pub number-high : (ms : List ℕ) (i r : ℕ) → (i < 8 → ⊥) → r ≡ getD
 number-high ms i r h e = record {
   says = λ t m b k.
       let g = structured (m .wf) i b (omega arith) in
-      let there : getD ms i 0 ≡ 0 → ⊥ = λ z. m .fresh i b z (k g) in
+      let there : getD ms i 0 ≡ 1 → ⊥ = λ z. m .fresh i b z (k g) in
       e ∙ m .number i b there ∙ sym (number-above (typesIn t ms) (denote t i) g);
 }

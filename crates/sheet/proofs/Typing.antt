@@ -291,7 +291,7 @@ module _ {bs xs : List ℕ} {n k used : ℕ} {t : Tab} (l : TypesLoop bs xs n k 
             ∙ l .left;
       }
 
-  pub loop-small : {u : Tab} {after r : ℕ} → Typed bs xs k used t u after r → r < 4294967296
+  pub loop-small : {u : Tab} {after r : ℕ} → Typed bs xs k used t u after r → r < 65536
   loop-small d = omega (arith, d .below, d .grown .wf .room)
 
   pub loop-end : (k < n → ⊥) → TypesRead bs xs t

@@ -24,7 +24,7 @@ module _ {cs ms : List ℕ} {i : ℕ} (v : Visiting cs ms i) where
     met-is = sym (met-plain _ _ (rw (plain-kind-of (v .marked .wf) i (v .below) h) h));
   }
 
-  pub visit-known : (getD ms i 0 ≡ 0 → ⊥) → Visited cs ms ms i
+  pub visit-known : (getD ms i 0 ≡ 1 → ⊥) → Visited cs ms ms i
   visit-known n = record {
     marked = v .marked;
     met-is = sym (met-again _ _ (v .marked .ordered) (v .marked .known i (v .below) n));

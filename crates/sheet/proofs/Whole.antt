@@ -75,24 +75,21 @@ module _ (source : List ℕ) (t : Tab) (cells : List ℕ) where
 
 -- ---- before the walk
 
-zeros : (n x : ℕ) → _≡_ {A = ℕ} (getD (replicate n 0) x 0) 0
-zeros n x = elim (decLt x n) [ yes l ↦ getD-replicate n x 0 0 l | no l ↦ List·getD-eq-default (replicate n 0) 0 {n = x} (rw length-replicate (omega arith)) ]
-
-pub blank : Blank (replicate 4112 0)
-blank = record { long = length-replicate {A = ℕ} 4112 0; zero-at = zeros 4112 }
+pub blank : Blank (replicate 4112 1)
+blank = record { long = length-replicate {A = ℕ} 4112 1; one-at = λ x l. getD-replicate 4112 x 1 0 l }
 
 module _ (t : Tab) (w : Wf t) (bs : List ℕ) (b : Blank bs) where
   abbrev ms₀ : List ℕ
-  ms₀ = set (set bs 4105 (t .n)) 4106 (t .m)
+  ms₀ = set (set (set bs 4104 0) 4105 (t .n)) 4106 (t .m)
 
-  begun-other : (x : ℕ) → (x ≡ 4105 → ⊥) → (x ≡ 4106 → ⊥) → getD ms₀ x 0 ≡ 0
-  begun-other x p q = getD-set-other (set bs 4105 (t .n)) 4106 x (t .m) 0 q ∙ getD-set-other bs 4105 x (t .n) 0 p ∙ b .zero-at x
+  begun-above : (x : ℕ) → (x ≡ 4105 → ⊥) → (x ≡ 4106 → ⊥) → getD ms₀ x 0 ≡ getD (set bs 4104 0) x 0
+  begun-above x p q = getD-set-other (set (set bs 4104 0) 4105 (t .n)) 4106 x (t .m) 0 q ∙ getD-set-other (set bs 4104 0) 4105 x (t .n) 0 p
 
   begun-long : length ms₀ ≡ 4112
   begun-long = simp length-set (b .long)
 
   begun-count : countIn ms₀ ≡ 0
-  begun-count = begun-other 4104 (λ e. absurd (omega arith)) (λ e. absurd (omega arith))
+  begun-count = begun-above 4104 (λ e. absurd (omega arith)) (λ e. absurd (omega arith)) ∙ getD-set-same bs 4104 0 0 (omega (arith, b .long))
 
   begun-types : typesIn t ms₀ ≡ []
   unfolding typesIn
@@ -100,12 +97,17 @@ module _ (t : Tab) (w : Wf t) (bs : List ℕ) (b : Blank bs) where
 
   pub begun : Marked t ms₀
   begun =
-      let low : (i : ℕ) → i < t.n → getD ms₀ i 0 ≡ 0 = λ i h. begun-other i (λ e. absurd (omega (arith, w .room))) (λ e. absurd (omega (arith, w .room))) in
+      let low : (i : ℕ) → i < t.n → getD ms₀ i 0 ≡ 1 = λ i h.
+      begun-above i (λ e. absurd (omega (arith, w .room))) (λ e. absurd (omega (arith, w .room)))
+      ∙ getD-set-other bs 4104 i 0 0 (λ e. absurd (omega (arith, w .room)))
+      ∙ b .one-at i (omega (arith, w .room)) in
       record {
         wf = w;
         long = begun-long;
-        types = getD-set-other (set bs 4105 (t .n)) 4106 4105 (t .m) 0 (λ e. absurd (omega arith)) ∙ getD-set-same bs 4105 (t .n) 0 (omega (arith, b .long));
-        elements = getD-set-same (set bs 4105 (t .n)) 4106 (t .m) 0 (omega (arith, length-set bs 4105 (t .n), b .long));
+        types =
+            getD-set-other (set (set bs 4104 0) 4105 (t .n)) 4106 4105 (t .m) 0 (λ e. absurd (omega arith))
+            ∙ getD-set-same (set bs 4104 0) 4105 (t .n) 0 (omega (arith, length-set bs 4104 0, b .long));
+        elements = getD-set-same (set (set bs 4104 0) 4105 (t .n)) 4106 (t .m) 0 (omega (arith, length-set (set bs 4104 0) 4105 (t .n), length-set bs 4104 0, b .long));
         few = omega (arith, begun-count);
         within = λ k h. absurd (omega (arith, begun-count));
         ordered = rw begun-types tt;
@@ -227,7 +229,7 @@ pub record Walked (source : List ℕ) (t : Tab) (cells : List ℕ) (n : ℕ) (ms
   pub marked : Marked t ms
   pub types-are : typesIn t ms ≡ typesOf (listed source t cells n) []
 
-module _ {source cs cells bs ms : List ℕ} {N M n : ℕ} (l : Listing source (tab cs N M) cells n) (b : Blank bs) (e : ms ≡ set (set bs 4105 N) 4106 M) where
+module _ {source cs cells bs ms : List ℕ} {N M n : ℕ} (l : Listing source (tab cs N M) cells n) (b : Blank bs) (e : ms ≡ set (set (set bs 4104 0) 4105 N) 4106 M) where
   first-marked : Marked (tab cs N M) ms
   first-marked = subst (Marked (tab cs N M)) (sym e) (begun (tab cs N M) (l .wf) bs b)
 

@@ -1,4 +1,4 @@
--- The marks of the writer's walk: cell i is the number that type i of the table has in the sheet, or 0; from cell 2056 on stand the
+-- The marks of the writer's walk: cell i is the number that type i of the table has in the sheet, or 1 for none; from cell 2056 on stand the
 -- table's numbers in the sheet's order; cell 4104 says how many, cells 4105 and 4106 are the table's counts.
 use mathlib.Core.Path.{_≡_}
 use mathlib.Core.List.{List, [], _∷_, map, List·Memᴰ}
@@ -50,20 +50,20 @@ pub record Marked (t : Tab) (ms : List ℕ) : Type 0 where
   pub few : countIn ms ≤ 2048
   pub within : (k : ℕ) → k < countIn ms → (8 ≤ getD ms (2056 + k) 0) × (getD ms (2056 + k) 0 < t.n)
   pub ordered : Ordered [] (typesIn t ms)
-  pub known : (i : ℕ) → i < t.n → (getD ms i 0 ≡ 0 → ⊥) → List·Memᴰ (denote t i) (typesIn t ms)
-  pub number : (i : ℕ) → i < t.n → (getD ms i 0 ≡ 0 → ⊥) → getD ms i 0 ≡ 8 + position (denote t i) (typesIn t ms)
-  pub fresh : (i : ℕ) → i < t.n → getD ms i 0 ≡ 0 → List·Memᴰ (denote t i) (typesIn t ms) → ⊥
+  pub known : (i : ℕ) → i < t.n → (getD ms i 0 ≡ 1 → ⊥) → List·Memᴰ (denote t i) (typesIn t ms)
+  pub number : (i : ℕ) → i < t.n → (getD ms i 0 ≡ 1 → ⊥) → getD ms i 0 ≡ 8 + position (denote t i) (typesIn t ms)
+  pub fresh : (i : ℕ) → i < t.n → getD ms i 0 ≡ 1 → List·Memᴰ (denote t i) (typesIn t ms) → ⊥
 
 -- i is the next type of the sheet, if it has no number
 unfoldable pub completed : List ℕ → ℕ → List ℕ
 completed ms i =
-    if eqb (getD ms i 0) 0 then set (set (set ms i (8 + countIn ms)) (2056 + countIn ms) i) 4104 (countIn ms + 1) else ms
+    if eqb (getD ms i 0) 1 then set (set (set ms i (8 + countIn ms)) (2056 + countIn ms) i) 4104 (countIn ms + 1) else ms
 
 pub record Completing (ms : List ℕ) (i : ℕ) : Type 0 where
   pub number : i < 2056
   pub long : length ms ≡ 4112
   pub few : countIn ms ≤ 2048
-  pub room : getD ms i 0 ≡ 0 → countIn ms < 2048
+  pub room : getD ms i 0 ≡ 1 → countIn ms < 2048
 
 -- ---- the walk
 

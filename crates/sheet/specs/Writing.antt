@@ -111,7 +111,7 @@ pub record TextsFit (source cells : List ℕ) (n : ℕ) (out : List ℕ) (at : �
 -- marks before the walk
 pub record Blank (ms : List ℕ) : Type 0 where
   pub long : length ms ≡ 4112
-  pub zero-at : (x : ℕ) → getD ms x 0 ≡ 0
+  pub one-at : (x : ℕ) → x < 4112 → getD ms x 0 ≡ 1
 
 unfoldable pub headerBytes : ℕ → ℕ → ℕ → ℕ → List ℕ
 headerBytes types elements names size =

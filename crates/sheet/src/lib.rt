@@ -42,25 +42,32 @@ fn wide(x: u32) -> usize
     x as usize
 }
 
-fn cell(table: &[u32; 10272], at: usize) -> usize
+// The same of a cell.
+fn broad(x: u16) -> usize
+    ensures { λ r. ⌜ (r ≡ x) × (r < 65536) ⌝ }
+{
+    x as usize
+}
+
+fn cell(table: &[u16; 10272], at: usize) -> usize
     requires { ⌜ at < 10272 ⌝ }
     ensures { λ r. ⌜ r ≡ getD (now (table .entry)) at 0 ⌝ }
 {
-    wide(table[at])
+    broad(table[at])
 }
 
-fn mark(marks: &[u32; 4112], at: usize) -> usize
+fn mark(marks: &[u16; 4112], at: usize) -> usize
     requires { ⌜ at < 4112 ⌝ }
     ensures { λ r. ⌜ r ≡ getD (now (marks .entry)) at 0 ⌝ }
-    ensures { λ r. ⌜ r < 4294967296 ⌝ }
+    ensures { λ r. ⌜ r < 65536 ⌝ }
 {
-    wide(marks[at])
+    broad(marks[at])
 }
 
 // ---- the walk: parts left to right and before the whole, each type once
 
 // How many parts the structured type i has.
-fn parts_of(table: &[u32; 10272], i: usize) -> usize
+fn parts_of(table: &[u16; 10272], i: usize) -> usize
     requires { ⌜ i < 2056 ⌝ }
     ensures { λ r. ⌜ PartsOf (now (table .entry)) i r ⌝ }
 {
@@ -75,7 +82,7 @@ fn parts_of(table: &[u32; 10272], i: usize) -> usize
 }
 
 // The part j of the structured type i.
-fn part_at(table: &[u32; 10272], i: usize, j: usize) -> usize
+fn part_at(table: &[u16; 10272], i: usize, j: usize) -> usize
     requires { ⌜ HasPart (now table) i j ⌝ }
     ensures { λ r. ⌜ PartAt (now (table .entry)) i j r ⌝ }
 {
@@ -90,27 +97,27 @@ fn part_at(table: &[u32; 10272], i: usize, j: usize) -> usize
 }
 
 // Gives i the next number of the sheet, unless it has one.
-fn complete(marks: &mut [u32; 4112], i: usize)
+fn complete(marks: &mut [u16; 4112], i: usize)
     requires { ⌜ Completing (now marks) i ⌝ }
     ensures { λ _. ⌜ now (marks .exit) ≡ completed (now (marks .entry)) i ⌝ }
 {
-    if marks[i] == 0 {
+    if marks[i] == 1 {
         let k = mark(marks, 4104);
-        marks[i] = (8 + k) as u32;
-        marks[2056 + k] = i as u32;
-        marks[4104] = (k + 1) as u32;
+        marks[i] = (8 + k) as u16;
+        marks[2056 + k] = i as u16;
+        marks[4104] = (k + 1) as u16;
     }
 }
 
 // The frame is kept small: types nest up to 2,048 deep.
-fn visit(table: &[u32; 10272], i: usize, marks: &mut [u32; 4112])
+fn visit(table: &[u16; 10272], i: usize, marks: &mut [u16; 4112])
     requires { ⌜ Visiting (now table) (now marks) i ⌝ }
     ensures { λ _. ⌜ Visited (now (table .entry)) (now (marks .entry)) (now (marks .exit)) i ⌝ }
 {
     if i < 8 {
         return;
     }
-    if marks[i] != 0 {
+    if marks[i] != 1 {
         return;
     }
     let n = parts_of(table, i);
@@ -130,7 +137,7 @@ fn name_cell(names: &[u32; 384], at: usize) -> usize
 }
 
 // Visits the types of the names, in their order.
-fn meet_all(table: &[u32; 10272], names: &[u32; 384], count: usize, marks: &mut [u32; 4112])
+fn meet_all(table: &[u16; 10272], names: &[u32; 384], count: usize, marks: &mut [u16; 4112])
     requires { ⌜ Meeting (now table) (now marks) (now names) count ⌝ }
     ensures { λ _. ⌜ MetAll (now (table .entry)) (now (marks .entry)) (now (marks .exit)) (now (names .entry)) count ⌝ }
 {
@@ -144,7 +151,7 @@ fn meet_all(table: &[u32; 10272], names: &[u32; 384], count: usize, marks: &mut 
 // ---- sizes
 
 // How many elements the type i has: none, unless it is a Tuple.
-fn elements_in(table: &[u32; 10272], i: usize) -> usize
+fn elements_in(table: &[u16; 10272], i: usize) -> usize
     requires { ⌜ i < 2056 ⌝ }
     ensures { λ r. ⌜ ElementsIn (now (table .entry)) i r ⌝ }
 {
@@ -155,7 +162,7 @@ fn elements_in(table: &[u32; 10272], i: usize) -> usize
 }
 
 // How many elements the types of the sheet have.
-fn elements_of(table: &[u32; 10272], marks: &[u32; 4112]) -> usize
+fn elements_of(table: &[u16; 10272], marks: &[u16; 4112]) -> usize
     requires { ⌜ Marked (tabOf (now table) (now marks)) (now marks) ⌝ }
     ensures { λ r. ⌜ r ≡ length (elementsOf (typesIn (tabOf (now (table .entry)) (now (marks .entry))) (now (marks .entry)))) ⌝ }
     ensures { λ r. ⌜ r ≤ 4194304 ⌝ }
@@ -187,10 +194,10 @@ fn size_of(names: &[u32; 384], count: usize) -> usize
 // ---- areas
 
 // The number in the sheet of type i, which is plain or was met.
-fn number_of(marks: &[u32; 4112], i: usize) -> usize
+fn number_of(marks: &[u16; 4112], i: usize) -> usize
     requires { ⌜ i < 2056 ⌝ }
     ensures { λ r. ⌜ NumberOf (now (marks .entry)) i r ⌝ }
-    ensures { λ r. ⌜ r < 4294967296 ⌝ }
+    ensures { λ r. ⌜ r < 65536 ⌝ }
 {
     if i < 8 {
         return i;
@@ -210,8 +217,8 @@ fn put_three(out: &mut [u8], at: usize, a: usize, b: usize, c: usize)
 
 // The record of type i of the table, `from` elements after the first.
 fn write_type(
-    table: &[u32; 10272],
-    marks: &[u32; 4112],
+    table: &[u16; 10272],
+    marks: &[u16; 4112],
     i: usize,
     from: usize,
     out: &mut [u8],
@@ -231,7 +238,7 @@ fn write_type(
     }
 }
 
-fn write_types(table: &[u32; 10272], marks: &[u32; 4112], out: &mut [u8])
+fn write_types(table: &[u16; 10272], marks: &[u16; 4112], out: &mut [u8])
     requires { ⌜ Marked (tabOf (now table) (now marks)) (now marks) ⌝ }
     requires { ⌜ 40 + 12 * getD (now marks) 4104 0 ≤ length (now out) ⌝ }
     ensures { λ _. ⌜ Put (now (out .entry)) (now (out .exit)) 40 (typesBytes (tabOf (now (table .entry)) (now (marks .entry))) (now (marks .entry))) ⌝ }
@@ -249,8 +256,8 @@ fn write_types(table: &[u32; 10272], marks: &[u32; 4112], out: &mut [u8])
 
 // The elements of type i of the table. Returns where they end.
 fn write_parts(
-    table: &[u32; 10272],
-    marks: &[u32; 4112],
+    table: &[u16; 10272],
+    marks: &[u16; 4112],
     i: usize,
     out: &mut [u8],
     at: usize,
@@ -270,7 +277,7 @@ fn write_parts(
     at + 4 * n
 }
 
-fn write_elements(table: &[u32; 10272], marks: &[u32; 4112], out: &mut [u8], from: usize)
+fn write_elements(table: &[u16; 10272], marks: &[u16; 4112], out: &mut [u8], from: usize)
     requires { ⌜ Marked (tabOf (now table) (now marks)) (now marks) ⌝ }
     requires { ⌜ from + 4 * length (elementsOf (typesIn (tabOf (now table) (now marks)) (now marks))) ≤ length (now out) ⌝ }
     ensures { λ _. ⌜ Put (now (out .entry)) (now (out .exit)) from (elementsBytes (tabOf (now (table .entry)) (now (marks .entry))) (now (marks .entry))) ⌝ }
@@ -284,7 +291,7 @@ fn write_elements(table: &[u32; 10272], marks: &[u32; 4112], out: &mut [u8], fro
     }
 }
 
-fn write_names(marks: &[u32; 4112], names: &[u32; 384], count: usize, out: &mut [u8], at: usize)
+fn write_names(marks: &[u16; 4112], names: &[u32; 384], count: usize, out: &mut [u8], at: usize)
     requires { ⌜ NamesFit (now names) count (now out) at ⌝ }
     ensures { λ _. ⌜ NamesPut (now (marks .entry)) (now (names .entry)) count (now (out .entry)) (now (out .exit)) at ⌝ }
 {
@@ -330,8 +337,8 @@ fn write_header(out: &mut [u8], types: usize, elements: usize, names: usize, siz
 
 fn fill(
     source: &[u8],
-    table: &[u32; 10272],
-    marks: &[u32; 4112],
+    table: &[u16; 10272],
+    marks: &[u16; 4112],
     names: &[u32; 384],
     count: usize,
     elements: usize,
@@ -353,18 +360,19 @@ fn fill(
     write_texts(source, names, count, out, c);
 }
 
-fn begin(marks: &mut [u32; 4112], counts: Counts)
+fn begin(marks: &mut [u16; 4112], counts: Counts)
     requires { ⌜ (counts .types ≤ 2056) × (counts .elements ≤ 2048) ⌝ }
-    ensures { λ _. ⌜ now (marks .exit) ≡ set (set (now (marks .entry)) 4105 (counts .types)) 4106 (counts .elements) ⌝ }
+    ensures { λ _. ⌜ now (marks .exit) ≡ set (set (set (now (marks .entry)) 4104 0) 4105 (counts .types)) 4106 (counts .elements) ⌝ }
 {
-    marks[4105] = counts.types as u32;
-    marks[4106] = counts.elements as u32;
+    marks[4104] = 0;
+    marks[4105] = counts.types as u16;
+    marks[4106] = counts.elements as u16;
 }
 
 // Writes the sheet of the names to the front of `out` if it fits: if not, no byte changes.
 pub fn write(
     source: &[u8],
-    table: &[u32; 10272],
+    table: &[u16; 10272],
     counts: Counts,
     names: &[u32; 384],
     count: usize,
@@ -374,7 +382,7 @@ pub fn write(
     ensures { λ r. ⌜ Wrote (listed (now (source .entry)) (tab (now (table .entry)) (counts .types) (counts .elements)) (now (names .entry)) count)
         (r .fits) (r .length) (now (out .entry)) (now (out .exit)) ⌝ }
 {
-    let mut marks = [0u32; 4112];
+    let mut marks = [1u16; 4112];
     begin(&mut marks, counts);
     meet_all(table, names, count, &mut marks);
     let elements = elements_of(table, &marks);
@@ -450,16 +458,16 @@ fn bounded(sheet: &[u8]) -> bool
 }
 
 // The table's number of the sheet's number n: the first k types of the sheet have a number.
-fn number_in(numbers: &[u32; 2048], k: usize, n: usize) -> usize
+fn number_in(numbers: &[u16; 2048], k: usize, n: usize) -> usize
     requires { ⌜ k ≤ 2048 ⌝ }
     ensures { λ r. ⌜ r ≡ numberIn (take k (now (numbers .entry))) n ⌝ }
-    ensures { λ r. ⌜ r < 4294967296 ⌝ }
+    ensures { λ r. ⌜ r < 65536 ⌝ }
 {
     if n < 8 {
         return n;
     }
     if n - 8 < k {
-        return wide(numbers[n - 8]);
+        return broad(numbers[n - 8]);
     }
     0
 }
@@ -468,17 +476,17 @@ fn number_in(numbers: &[u32; 2048], k: usize, n: usize) -> usize
 fn gather(
     sheet: &[u8],
     at: usize,
-    numbers: &[u32; 2048],
+    numbers: &[u16; 2048],
     k: usize,
     q: usize,
-    stack: &mut [u32; 2048],
+    stack: &mut [u16; 2048],
 )
     requires { ⌜ Gathering (now sheet) at k q (now stack) ⌝ }
     ensures { λ _. ⌜ Gathered (now (sheet .entry)) at (take k (now (numbers .entry))) q (now (stack .exit)) ⌝ }
 {
     let mut j = 0;
     while j < q {
-        stack[j] = number_in(numbers, k, word_at(sheet, at + 4 * j)) as u32;
+        stack[j] = number_in(numbers, k, word_at(sheet, at + 4 * j)) as u16;
         j += 1;
     }
 }
@@ -486,10 +494,10 @@ fn gather(
 fn form_tuple(
     sheet: &[u8],
     at: usize,
-    numbers: &[u32; 2048],
+    numbers: &[u16; 2048],
     k: usize,
     q: usize,
-    table: &mut [u32; 10272],
+    table: &mut [u16; 10272],
     counts: Counts,
 ) -> Formed
     requires { ⌜ Tupling (now sheet) at (now numbers) k q (tab (now table) (counts .types) (counts .elements)) ⌝ }
@@ -499,12 +507,12 @@ fn form_tuple(
         (tupleAt (now (sheet .entry)) at (take k (now (numbers .entry))) q (tab (now (table .entry)) (counts .types) (counts .elements)))
         q ⌝ }
 {
-    let mut stack = [0u32; 2048];
+    let mut stack = [1u16; 2048];
     gather(sheet, at, numbers, k, q, &mut stack);
     tuple_of(table, counts, &stack, 0, q)
 }
 
-fn second_in(numbers: &[u32; 2048], k: usize, kind: usize, q: usize) -> usize
+fn second_in(numbers: &[u16; 2048], k: usize, kind: usize, q: usize) -> usize
     requires { ⌜ k ≤ 2048 ⌝ }
     ensures { λ r. ⌜ r ≡ (if eqb kind 9 then numberIn (take k (now (numbers .entry))) q else 0) ⌝ }
 {
@@ -516,12 +524,12 @@ fn second_in(numbers: &[u32; 2048], k: usize, kind: usize, q: usize) -> usize
 
 // A kind that is none is read as Unknown.
 fn form_other(
-    numbers: &[u32; 2048],
+    numbers: &[u16; 2048],
     k: usize,
     kind: usize,
     p: usize,
     q: usize,
-    table: &mut [u32; 10272],
+    table: &mut [u16; 10272],
     counts: Counts,
 ) -> Formed
     requires { ⌜ Forming (now numbers) k kind (tab (now table) (counts .types) (counts .elements)) ⌝ }
@@ -547,8 +555,8 @@ fn read_type(
     sheet: &[u8],
     k: usize,
     used: usize,
-    numbers: &[u32; 2048],
-    table: &mut [u32; 10272],
+    numbers: &[u16; 2048],
+    table: &mut [u16; 10272],
     counts: Counts,
 ) -> Typed
     requires { ⌜ Typing (now sheet) (now numbers) k used (tab (now table) (counts .types) (counts .elements)) ⌝ }
@@ -600,7 +608,7 @@ fn read_type(
 }
 
 // The types of all records; the table holds the plain types alone before.
-fn read_types(sheet: &[u8], table: &mut [u32; 10272], numbers: &mut [u32; 2048]) -> Types
+fn read_types(sheet: &[u8], table: &mut [u16; 10272], numbers: &mut [u16; 2048]) -> Types
     requires { ⌜ Bounds (now sheet) ⌝ }
     requires { ⌜ Wf (tab (now table) 8 0) ⌝ }
     requires { ⌜ length (now numbers) ≡ 2048 ⌝ }
@@ -622,7 +630,7 @@ fn read_types(sheet: &[u8], table: &mut [u32; 10272], numbers: &mut [u32; 2048])
                 counts: grown,
             };
         }
-        numbers[k] = r.number as u32;
+        numbers[k] = r.number as u16;
         used = r.used;
         types = grown.types;
         elements = grown.elements;
@@ -635,7 +643,7 @@ fn read_types(sheet: &[u8], table: &mut [u32; 10272], numbers: &mut [u32; 2048])
 }
 
 // Name k: its text must lie in the bytes and be short enough.
-fn read_name(sheet: &[u8], k: usize, numbers: &[u32; 2048], names: &mut [u32; 384]) -> bool
+fn read_name(sheet: &[u8], k: usize, numbers: &[u16; 2048], names: &mut [u32; 384]) -> bool
     requires { ⌜ Naming (now sheet) k (now names) ⌝ }
     ensures { λ r. ⌜ Told (NameStep (now (sheet .entry)) (now (numbers .entry)) (now (names .entry)) (now (names .exit)) k) (now (sheet .entry)) r ⌝ }
 {
@@ -658,7 +666,7 @@ fn read_name(sheet: &[u8], k: usize, numbers: &[u32; 2048], names: &mut [u32; 38
     true
 }
 
-fn read_names(sheet: &[u8], numbers: &[u32; 2048], names: &mut [u32; 384]) -> bool
+fn read_names(sheet: &[u8], numbers: &[u16; 2048], names: &mut [u32; 384]) -> bool
     requires { ⌜ Bounds (now sheet) ⌝ }
     requires { ⌜ length (now names) ≡ 384 ⌝ }
     ensures { λ r. ⌜ Told (NamesRead (now (sheet .entry)) (take (word (now (sheet .entry)) 4) (now (numbers .entry))) (now (names .exit)) (word (now (sheet .entry)) 20)) (now (sheet .entry)) r ⌝ }
@@ -697,7 +705,7 @@ fn texts_stand(sheet: &[u8], names: &[u32; 384], count: usize) -> bool
 // Whether writing the names gives the bytes again: no sheet is longer than 42,532 bytes.
 fn rewrites(
     sheet: &[u8],
-    table: &[u32; 10272],
+    table: &[u16; 10272],
     counts: Counts,
     names: &[u32; 384],
     count: usize,
@@ -727,7 +735,7 @@ fn refused() -> ReadSheet
 }
 
 // A call of its own, since answers say `start` for a function's entry.
-fn begin_table(table: &mut [u32; 10272])
+fn begin_table(table: &mut [u16; 10272])
     requires { ⌜ length (now table) ≡ 10272 ⌝ }
     ensures { λ _. ⌜ Wf (tab (now (table .exit)) 8 0) ⌝ }
 {
@@ -735,7 +743,7 @@ fn begin_table(table: &mut [u32; 10272])
 }
 
 // Reads a sheet into a table of its types and a list of its names: whatever the bytes, it says whether they are one.
-pub fn read(sheet: &[u8], table: &mut [u32; 10272], names: &mut [u32; 384]) -> ReadSheet
+pub fn read(sheet: &[u8], table: &mut [u16; 10272], names: &mut [u32; 384]) -> ReadSheet
     requires { ⌜ (length (now table) ≡ 10272) × (length (now names) ≡ 384) ⌝ }
     ensures { λ r. ⌜ Reads (now (sheet .entry)) (r .stands) (tab (now (table .exit)) (r .counts .types) (r .counts .elements)) (now (names .exit)) (r .names) ⌝ }
 {
@@ -743,7 +751,7 @@ pub fn read(sheet: &[u8], table: &mut [u32; 10272], names: &mut [u32; 384]) -> R
         return refused();
     }
     begin_table(table);
-    let mut numbers = [0u32; 2048];
+    let mut numbers = [1u16; 2048];
     let types = read_types(sheet, table, &mut numbers);
     if !types.stands {
         return refused();

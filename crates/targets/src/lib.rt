@@ -74,7 +74,7 @@ fn assign_name(frames: &mut [[u16; 128]; 8], top: usize, at: usize, x: usize, ty
 }
 
 // Whether type `ty` can be unpacked into k targets: 26 where a Tuple has another length, 27 where the type has no parts to give.
-fn unpack(table: &[u32; 10272], ty: usize, k: u32) -> Verdict
+fn unpack(table: &[u16; 10272], ty: usize, k: u32) -> Verdict
     requires { ⌜ Known (now table) ty ⌝ }
     ensures { λ r. ⌜ Unpacks (now (table .entry)) ty k (r .code) (r .a) (r .b) ⌝ }
 {
@@ -114,7 +114,7 @@ fn unpack(table: &[u32; 10272], ty: usize, k: u32) -> Verdict
 }
 
 // The type that target j gets of type `ty`.
-fn part_for(table: &[u32; 10272], ty: usize, j: usize) -> usize
+fn part_for(table: &[u16; 10272], ty: usize, j: usize) -> usize
     requires { ⌜ Sharing (now table) ty j ⌝ }
     ensures { λ r. ⌜ Share (now (table .entry)) ty j r ⌝ }
 {
@@ -131,9 +131,9 @@ fn check_only(
     nodes: usize,
     frames: &[[u16; 128]; 8],
     top: usize,
-    table: &mut [u32; 10272],
+    table: &mut [u16; 10272],
     counts: Counts,
-    stack: &mut [u32; 2048],
+    stack: &mut [u16; 2048],
     at: usize,
     depth: usize,
 ) -> Outcome
@@ -185,9 +185,9 @@ fn single(
     nodes: usize,
     frames: &mut [[u16; 128]; 8],
     top: usize,
-    table: &mut [u32; 10272],
+    table: &mut [u16; 10272],
     counts: Counts,
-    stack: &mut [u32; 2048],
+    stack: &mut [u16; 2048],
     at: usize,
     node: Node,
     ty: usize,
@@ -245,9 +245,9 @@ pub fn assign(
     nodes: usize,
     frames: &mut [[u16; 128]; 8],
     top: usize,
-    table: &mut [u32; 10272],
+    table: &mut [u16; 10272],
     counts: Counts,
-    stack: &mut [u32; 2048],
+    stack: &mut [u16; 2048],
     at: usize,
     ty: usize,
     depth: usize,
@@ -321,9 +321,9 @@ fn assign_each(
     nodes: usize,
     frames: &mut [[u16; 128]; 8],
     top: usize,
-    table: &mut [u32; 10272],
+    table: &mut [u16; 10272],
     counts: Counts,
-    stack: &mut [u32; 2048],
+    stack: &mut [u16; 2048],
     at: usize,
     n: usize,
     ty: usize,

@@ -33,13 +33,13 @@ pub struct Perhaps {
     pub number: usize,
 }
 
-fn wide(x: u32) -> usize
+fn wide(x: u16) -> usize
     ensures { λ r. ⌜ r ≡ x ⌝ }
 {
     x as usize
 }
 
-fn cell(table: &[u32; 10272], at: usize) -> usize
+fn cell(table: &[u16; 10272], at: usize) -> usize
     requires { ⌜ at < 10272 ⌝ }
     ensures { λ r. ⌜ r ≡ getD (now (table .entry)) at 0 ⌝ }
 {
@@ -47,7 +47,7 @@ fn cell(table: &[u32; 10272], at: usize) -> usize
 }
 
 // Writes record i.
-fn put(table: &mut [u32; 10272], i: usize, k: u32, p: u32, q: u32)
+fn put(table: &mut [u16; 10272], i: usize, k: u16, p: u16, q: u16)
     requires { ⌜ (i < 2056) × (length (now table) ≡ 10272) ⌝ }
     ensures { λ _. ⌜ Written (now (table .entry)) (now (table .exit)) i k p q ⌝ }
 {
@@ -57,19 +57,19 @@ fn put(table: &mut [u32; 10272], i: usize, k: u32, p: u32, q: u32)
 }
 
 // The table with the plain types alone, whatever the cells held: 8 numbers and no element.
-pub fn start(table: &mut [u32; 10272])
+pub fn start(table: &mut [u16; 10272])
     requires { ⌜ length (now table) ≡ 10272 ⌝ }
     ensures { λ _. ⌜ Wf (tab (now (table .exit)) 8 0) ⌝ }
 {
     let mut i: usize = 0;
     while i < STRUCTURED {
-        put(table, i, i as u32, 0, 0);
+        put(table, i, i as u16, 0, 0);
         i += 1;
     }
 }
 
 // Whether record i is (k, p, q).
-fn holds(table: &[u32; 10272], i: usize, k: u32, p: u32, q: u32) -> bool
+fn holds(table: &[u16; 10272], i: usize, k: u16, p: u16, q: u16) -> bool
     requires { ⌜ i < 2056 ⌝ }
     ensures { λ r. ⌜ Told (RecordAt (now (table .entry)) k p q i) r ⌝ }
 {
@@ -86,7 +86,7 @@ fn holds(table: &[u32; 10272], i: usize, k: u32, p: u32, q: u32) -> bool
 }
 
 // The first number from 8 on whose record is (k, p, q), or `types` where there is none.
-fn find(table: &[u32; 10272], types: usize, k: u32, p: u32, q: u32) -> usize
+fn find(table: &[u16; 10272], types: usize, k: u16, p: u16, q: u16) -> usize
     requires { ⌜ (8 ≤ types) × (types ≤ 2056) ⌝ }
     ensures { λ r. ⌜ First (RecordAt (now (table .entry)) k p q) types r ⌝ }
 {
@@ -101,7 +101,7 @@ fn find(table: &[u32; 10272], types: usize, k: u32, p: u32, q: u32) -> usize
 }
 
 // The number of the List, Dict, MapIter or FilterIter of p (and q): the one it has, or the next one.
-pub fn form(table: &mut [u32; 10272], counts: Counts, kind: usize, p: usize, q: usize) -> Formed
+pub fn form(table: &mut [u16; 10272], counts: Counts, kind: usize, p: usize, q: usize) -> Formed
     requires { ⌜ Asked (tab (now table) (counts .types) (counts .elements)) kind p q ⌝ }
     ensures { λ r. ⌜ Made (tab (now (table .entry)) (counts .types) (counts .elements))
         (tab (now (table .exit)) (r .counts .types) (r .counts .elements))
@@ -111,11 +111,11 @@ pub fn form(table: &mut [u32; 10272], counts: Counts, kind: usize, p: usize, q: 
         0 ⌝ }
 {
     let types = counts.types;
-    let i = find(table, types, kind as u32, p as u32, q as u32);
+    let i = find(table, types, kind as u16, p as u16, q as u16);
     if i < types {
         Formed { number: i, counts }
     } else {
-        put(table, types, kind as u32, p as u32, q as u32);
+        put(table, types, kind as u16, p as u16, q as u16);
         Formed {
             number: types,
             counts: Counts {
@@ -127,7 +127,7 @@ pub fn form(table: &mut [u32; 10272], counts: Counts, kind: usize, p: usize, q: 
 }
 
 // Whether the n elements from p on are the n numbers of the stack from `from` on.
-fn alike(table: &[u32; 10272], p: usize, stack: &[u32; 2048], from: usize, n: usize) -> bool
+fn alike(table: &[u16; 10272], p: usize, stack: &[u16; 2048], from: usize, n: usize) -> bool
     requires { ⌜ (p + n ≤ 2048) × (from + n ≤ 2048) ⌝ }
     ensures { λ r. ⌜ Told (Equal (now (table .entry)) (8224 + p) (now (stack .entry)) from n) r ⌝ }
 {
@@ -142,7 +142,7 @@ fn alike(table: &[u32; 10272], p: usize, stack: &[u32; 2048], from: usize, n: us
 }
 
 // Whether record i is the Tuple of the n numbers of the stack from `from` on.
-fn matches(table: &[u32; 10272], i: usize, stack: &[u32; 2048], from: usize, n: usize) -> bool
+fn matches(table: &[u16; 10272], i: usize, stack: &[u16; 2048], from: usize, n: usize) -> bool
     requires { ⌜ IsNumber (now table) i ⌝ }
     requires { ⌜ from + n ≤ 2048 ⌝ }
     ensures { λ r. ⌜ Told (TupleAt (now (table .entry)) (now (stack .entry)) from n i) r ⌝ }
@@ -158,9 +158,9 @@ fn matches(table: &[u32; 10272], i: usize, stack: &[u32; 2048], from: usize, n: 
 
 // The first number from 8 on that is the Tuple of these, or `counts.types` where there is none.
 fn find_tuple(
-    table: &[u32; 10272],
+    table: &[u16; 10272],
     counts: Counts,
-    stack: &[u32; 2048],
+    stack: &[u16; 2048],
     from: usize,
     n: usize,
 ) -> usize
@@ -179,7 +179,7 @@ fn find_tuple(
 }
 
 // Writes the n numbers of the stack from `from` on as the elements from m on.
-fn copy(table: &mut [u32; 10272], m: usize, stack: &[u32; 2048], from: usize, n: usize)
+fn copy(table: &mut [u16; 10272], m: usize, stack: &[u16; 2048], from: usize, n: usize)
     requires { ⌜ (length (now table) ≡ 10272) × (m + n ≤ 2048) × (from + n ≤ 2048) ⌝ }
     ensures { λ _. ⌜ Copied (now (table .entry)) (now (table .exit)) m (now (stack .entry)) from n ⌝ }
 {
@@ -192,9 +192,9 @@ fn copy(table: &mut [u32; 10272], m: usize, stack: &[u32; 2048], from: usize, n:
 
 // The number of the Tuple of the n numbers of the stack from `from` on: the one it has, or the next one.
 pub fn tuple_of(
-    table: &mut [u32; 10272],
+    table: &mut [u16; 10272],
     counts: Counts,
-    stack: &[u32; 2048],
+    stack: &[u16; 2048],
     from: usize,
     n: usize,
 ) -> Formed
@@ -213,7 +213,7 @@ pub fn tuple_of(
         Formed { number: i, counts }
     } else {
         copy(table, m, stack, from, n);
-        put(table, types, 10, m as u32, n as u32);
+        put(table, types, 10, m as u16, n as u16);
         Formed {
             number: types,
             counts: Counts {
@@ -225,7 +225,7 @@ pub fn tuple_of(
 }
 
 // The kind of type i.
-pub fn kind_of(table: &[u32; 10272], i: usize) -> usize
+pub fn kind_of(table: &[u16; 10272], i: usize) -> usize
     requires { ⌜ i < 2056 ⌝ }
     ensures { λ r. ⌜ KindOf (now (table .entry)) i r ⌝ }
 {
@@ -233,7 +233,7 @@ pub fn kind_of(table: &[u32; 10272], i: usize) -> usize
 }
 
 // The first part of type i, if that is no Tuple: 0, Unknown, if it has none.
-pub fn part_of(table: &[u32; 10272], i: usize) -> usize
+pub fn part_of(table: &[u16; 10272], i: usize) -> usize
     requires { ⌜ i < 2056 ⌝ }
     ensures { λ r. ⌜ PartOf (now (table .entry)) 0 i r ⌝ }
 {
@@ -241,7 +241,7 @@ pub fn part_of(table: &[u32; 10272], i: usize) -> usize
 }
 
 // The second part of type i, if that is no Tuple: 0, Unknown, if it has none.
-pub fn second_of(table: &[u32; 10272], i: usize) -> usize
+pub fn second_of(table: &[u16; 10272], i: usize) -> usize
     requires { ⌜ i < 2056 ⌝ }
     ensures { λ r. ⌜ PartOf (now (table .entry)) 1 i r ⌝ }
 {
@@ -249,7 +249,7 @@ pub fn second_of(table: &[u32; 10272], i: usize) -> usize
 }
 
 // How many elements the Tuple i has.
-pub fn count_of(table: &[u32; 10272], i: usize) -> usize
+pub fn count_of(table: &[u16; 10272], i: usize) -> usize
     requires { ⌜ i < 2056 ⌝ }
     ensures { λ r. ⌜ CountOf (now (table .entry)) i r ⌝ }
 {
@@ -257,7 +257,7 @@ pub fn count_of(table: &[u32; 10272], i: usize) -> usize
 }
 
 // The element j of the Tuple i.
-pub fn element_at(table: &[u32; 10272], i: usize, j: usize) -> usize
+pub fn element_at(table: &[u16; 10272], i: usize, j: usize) -> usize
     requires { ⌜ IsElement (now table) i j ⌝ }
     ensures { λ r. ⌜ ElementAt (now (table .entry)) i j r ⌝ }
 {
@@ -266,7 +266,7 @@ pub fn element_at(table: &[u32; 10272], i: usize, j: usize) -> usize
 }
 
 // The number that the q elements from p on share, or 0.
-fn shared_of(table: &[u32; 10272], p: usize, q: usize) -> usize
+fn shared_of(table: &[u16; 10272], p: usize, q: usize) -> usize
     requires { ⌜ (length (now table) ≡ 10272) × (p + q ≤ 2048) ⌝ }
     ensures { λ r. ⌜ r ≡ shared (take q (drop (8224 + p) (now (table .entry)))) ⌝ }
 {
@@ -284,7 +284,7 @@ fn shared_of(table: &[u32; 10272], p: usize, q: usize) -> usize
 }
 
 // The type that all elements of the Tuple i share: 0, Unknown, if there is none.
-pub fn common_of(table: &[u32; 10272], i: usize) -> usize
+pub fn common_of(table: &[u16; 10272], i: usize) -> usize
     requires { ⌜ IsTuple (now table) i ⌝ }
     ensures { λ r. ⌜ CommonOf (now (table .entry)) i r ⌝ }
 {
@@ -292,7 +292,7 @@ pub fn common_of(table: &[u32; 10272], i: usize) -> usize
 }
 
 // What a walk over a value of type i gives.
-pub fn element_of(table: &[u32; 10272], i: usize) -> Perhaps
+pub fn element_of(table: &[u16; 10272], i: usize) -> Perhaps
     requires { ⌜ IsNumber (now table) i ⌝ }
     ensures { λ r. ⌜ ElementOf (now (table .entry)) i (r .there) (r .number) ⌝ }
 {

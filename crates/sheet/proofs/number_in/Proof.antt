@@ -7,7 +7,7 @@ use Rattle.sheet.proofs.number_in.Statement.{statement}
 use Rattle.sheet.proofs.number_in.Tie as tie
 use Rattle.sheet.proofs.number_in.Reads as reads
 use Rattle.sheet.proofs.number_in.Lts as lts
-use Rattle.sheet.proofs.wide.Reads as wide-reads
+use Rattle.sheet.proofs.broad.Reads as broad-reads
 
 -- src/lib.rt:458:9
 returns : tie.Need-returns
@@ -15,23 +15,23 @@ returns c =
     (sym (number-plain _ _ (c .if1 .taken)), omega arith)
 
 -- src/lib.rt:461:21
-mul-wide : tie.Need-mul-wide
-mul-wide c =
+mul-broad : tie.Need-mul-broad
+mul-broad c =
     omega (arith, c .before .if1 .left, c .if2 .taken, c .before .before .pre)
 
 -- src/lib.rt:461:21
-element-copy-out-wide : tie.Need-element-copy-out-wide
-element-copy-out-wide c =
+element-copy-out-broad : tie.Need-element-copy-out-broad
+element-copy-out-broad c =
     omega (arith, c .before .if1 .left, c .if2 .taken, c .before .before .pre)
 
 -- src/lib.rt:461:9
-wide-requires : tie.Need-wide-requires
-wide-requires c κs = search needs
+broad-requires : tie.Need-broad-requires
+broad-requires c κs = search needs
 
 -- src/lib.rt:461:9
 returns-2 : tie.Need-returns-2
 returns-2 c =
-    (c .wide .ensures .0 ∙ number-found (c .before .before .before .before .args .numbers .now) (c .before .before .before .before .args .k) (c .before .before .before .before .args .n) (λ h. absurd (omega (arith, c .before .before .before .if1 .left))) (c .before .before .if2 .taken), c .wide .ensures .1)
+    (c .broad .ensures .0 ∙ number-found (c .before .before .before .before .args .numbers .now) (c .before .before .before .before .args .k) (c .before .before .before .before .args .n) (λ h. absurd (omega (arith, c .before .before .before .if1 .left))) (c .before .before .if2 .taken), c .broad .ensures .1)
 
 -- src/lib.rt:452:1
 returns-3 : tie.Need-returns-3
@@ -40,4 +40,4 @@ returns-3 c =
 
 pub number-in-spec : {M : Type 1} → statement M
 number-in-spec =
-    tie.close (tie.spec returns mul-wide element-copy-out-wide wide-requires returns-2 returns-3)
+    tie.close (tie.spec returns mul-broad element-copy-out-broad broad-requires returns-2 returns-3)

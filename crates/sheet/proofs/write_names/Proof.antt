@@ -70,7 +70,7 @@ add-put-three c =
 -- src/lib.rt:277:9
 put-three-requires : tie.Need-put-three-requires Inv-loop μ-loop
 put-three-requires c κs =
-    (names-room (c .before .before .before .before .before .loop .inv) (c .before .before .before .before .loop-test .taken), names-small (c .before .before .before .before .before .loop .inv) (c .before .before .before .before .loop-test .taken) (c .before .before .before .name-cell .ensures) (c .before .number-of .ensures .1))
+    (names-room (c .before .before .before .before .before .loop .inv) (c .before .before .before .before .loop-test .taken), names-small (c .before .before .before .before .before .loop .inv) (c .before .before .before .before .loop-test .taken) (c .before .before .before .name-cell .ensures) (omega (arith, c .before .number-of .ensures .1)))
 
 -- src/lib.rt:278:9
 add-from : tie.Need-add-from Inv-loop μ-loop

@@ -65,7 +65,7 @@ number-of-requires-2 c κs =
 -- src/lib.rt:211:9
 put-three-requires-2 : tie.Need-put-three-requires-2
 put-three-requires-2 c κs =
-    (c .before .before .before .before .before .before .before .before .pre .1 .1, (kind-small (c .before .before .before .before .before .before .before .before .pre .0) (c .before .before .before .before .before .before .cell .ensures), c .before .before .before .number-of .ensures .1, c .before .number-of2 .ensures .1))
+    (c .before .before .before .before .before .before .before .before .pre .1 .1, (kind-small (c .before .before .before .before .before .before .before .before .pre .0) (c .before .before .before .before .before .before .cell .ensures), omega (arith, c .before .before .before .number-of .ensures .1), omega (arith, c .before .number-of2 .ensures .1)))
 
 -- src/lib.rt:193:1
 same-length : tie.Need-same-length

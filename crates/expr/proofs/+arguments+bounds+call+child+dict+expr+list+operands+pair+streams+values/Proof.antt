@@ -13,8 +13,9 @@ use Rattle.expr.proofs.Pairing.{Pairing, pairing-first, pairing-refused
 use Rattle.expr.proofs.Bounding.{Bounding, bounding-first, bounding-refused, bounding-wrong, bounding-next, bounding-end}
 use Rattle.expr.proofs.Streaming.{first-names, stream-ready, stream-row, stream-room, stream-refused, stream-wrong, stream-ready-2, stream-row-2, stream-refused-2, stream-asks, stream-done, streams-either}
 use Rattle.expr.proofs.Calling.{children-row, children-before, children-ready, node-done, operands-refused, operands-decidable, operands-done, operand-low, operand-attribute, operand-high, list-whole, dict-whole, call-some, callee-there, call-operand, name-there}
+use Rattle.expr.proofs.Binary.{binary-ready, binary-at, binary-room, binary-refused, binary-number, binary-ready-2, binary-at-2, binary-room-2, binary-refused-2, binary-number-2, binary-decidable, binary-done}
 use Rattle.expr.proofs.Arguing.{call-refused, call-ready, call-row, call-enough, call-done, look-ready, look-row, look-refused, look-listed, look-len, look-done, ranges}
-use Rattle.expr.proofs.Arms.{expr-done, literal-done, variable-there, variable-done, lambda-done, above-21, above-27}
+use Rattle.expr.proofs.Arms.{expr-done, literal-done, variable-there, variable-done, lambda-done, above-27}
 use native.Mathlib.Omega.{arith}
 use borrow.Author.Needs.{needs}
 use Prim.Native.Nat.{ℕ, _<_}
@@ -22,31 +23,37 @@ use borrow.Fn.Kinds.{In}
 use borrow.Fn.PlainCycle.{Measures, is, falls, and}
 use Rattle.expr.proofs.arguments.Reads as arguments
 use Rattle.expr.proofs.arguments.Kinds as arguments-kinds
-use Rattle.expr.proofs.+arguments+bounds+call+dict+expr+list+operands+streams+values.Lts-arguments as arguments-lts
+use Rattle.expr.proofs.+arguments+bounds+call+child+dict+expr+list+operands+pair+streams+values.Lts-arguments as arguments-lts
 use Rattle.expr.proofs.bounds.Reads as bounds
 use Rattle.expr.proofs.bounds.Kinds as bounds-kinds
-use Rattle.expr.proofs.+arguments+bounds+call+dict+expr+list+operands+streams+values.Lts-bounds as bounds-lts
+use Rattle.expr.proofs.+arguments+bounds+call+child+dict+expr+list+operands+pair+streams+values.Lts-bounds as bounds-lts
 use Rattle.expr.proofs.call.Reads as call
 use Rattle.expr.proofs.call.Kinds as call-kinds
-use Rattle.expr.proofs.+arguments+bounds+call+dict+expr+list+operands+streams+values.Lts-call as call-lts
+use Rattle.expr.proofs.+arguments+bounds+call+child+dict+expr+list+operands+pair+streams+values.Lts-call as call-lts
+use Rattle.expr.proofs.child.Reads as child
+use Rattle.expr.proofs.child.Kinds as child-kinds
+use Rattle.expr.proofs.+arguments+bounds+call+child+dict+expr+list+operands+pair+streams+values.Lts-child as child-lts
 use Rattle.expr.proofs.dict.Reads as dict
 use Rattle.expr.proofs.dict.Kinds as dict-kinds
-use Rattle.expr.proofs.+arguments+bounds+call+dict+expr+list+operands+streams+values.Lts-dict as dict-lts
+use Rattle.expr.proofs.+arguments+bounds+call+child+dict+expr+list+operands+pair+streams+values.Lts-dict as dict-lts
 use Rattle.expr.proofs.expr.Reads as expr
 use Rattle.expr.proofs.expr.Kinds as expr-kinds
-use Rattle.expr.proofs.+arguments+bounds+call+dict+expr+list+operands+streams+values.Lts-expr as expr-lts
+use Rattle.expr.proofs.+arguments+bounds+call+child+dict+expr+list+operands+pair+streams+values.Lts-expr as expr-lts
 use Rattle.expr.proofs.list.Reads as list
 use Rattle.expr.proofs.list.Kinds as list-kinds
-use Rattle.expr.proofs.+arguments+bounds+call+dict+expr+list+operands+streams+values.Lts-list as list-lts
+use Rattle.expr.proofs.+arguments+bounds+call+child+dict+expr+list+operands+pair+streams+values.Lts-list as list-lts
 use Rattle.expr.proofs.operands.Reads as operands
 use Rattle.expr.proofs.operands.Kinds as operands-kinds
-use Rattle.expr.proofs.+arguments+bounds+call+dict+expr+list+operands+streams+values.Lts-operands as operands-lts
+use Rattle.expr.proofs.+arguments+bounds+call+child+dict+expr+list+operands+pair+streams+values.Lts-operands as operands-lts
+use Rattle.expr.proofs.pair.Reads as pair
+use Rattle.expr.proofs.pair.Kinds as pair-kinds
+use Rattle.expr.proofs.+arguments+bounds+call+child+dict+expr+list+operands+pair+streams+values.Lts-pair as pair-lts
 use Rattle.expr.proofs.streams.Reads as streams
 use Rattle.expr.proofs.streams.Kinds as streams-kinds
-use Rattle.expr.proofs.+arguments+bounds+call+dict+expr+list+operands+streams+values.Lts-streams as streams-lts
+use Rattle.expr.proofs.+arguments+bounds+call+child+dict+expr+list+operands+pair+streams+values.Lts-streams as streams-lts
 use Rattle.expr.proofs.values.Reads as values
 use Rattle.expr.proofs.values.Kinds as values-kinds
-use Rattle.expr.proofs.+arguments+bounds+call+dict+expr+list+operands+streams+values.Lts-values as values-lts
+use Rattle.expr.proofs.+arguments+bounds+call+child+dict+expr+list+operands+pair+streams+values.Lts-values as values-lts
 use Rattle.expr.proofs.first_code.Reads as first-code-reads
 use Rattle.expr.proofs.number_at.Reads as number-at-reads
 use Rattle.expr.proofs.push.Reads as push-reads
@@ -59,6 +66,7 @@ use Rattle.nodes.proofs.given.Reads as given-reads
 use Rattle.nodes.proofs.list_of.Reads as list-of-reads
 use Rattle.nodes.proofs.literal.Reads as literal-reads
 use Rattle.nodes.proofs.looked.Reads as looked-reads
+use Rattle.nodes.proofs.operated.Reads as operated-reads
 use Rattle.nodes.proofs.plan.Reads as plan-reads
 use Rattle.nodes.proofs.stop_of.Reads as stop-of-reads
 use Rattle.nodes.proofs.variable.Reads as variable-reads
@@ -67,39 +75,45 @@ use Rattle.rules.proofs.callable.Reads as callable-reads
 use Rattle.rules.proofs.dict_step.Reads as dict-step-reads
 use Rattle.rules.proofs.list_step.Reads as list-step-reads
 use Rattle.rules.proofs.stream.Reads as stream-reads
-use Rattle.expr.proofs.+arguments+bounds+call+dict+expr+list+operands+streams+values.{
+use Rattle.expr.proofs.+arguments+bounds+call+child+dict+expr+list+operands+pair+streams+values.{
   statement,
 }
-use Rattle.expr.proofs.+arguments+bounds+call+dict+expr+list+operands+streams+values.Tie.{
+use Rattle.expr.proofs.+arguments+bounds+call+child+dict+expr+list+operands+pair+streams+values.Tie.{
   close,
 }
 
 abbrev μ-arguments : Measures 4 arguments-kinds.ps ℕ
-μ-arguments κs a = 5 * a .1 .1 .1 .1 .1 .1 .1 .1 .1 .1 .1 .1 .0 + 3
+μ-arguments κs a = 6 * a .1 .1 .1 .1 .1 .1 .1 .1 .1 .1 .1 .1 .0 + 4
 
 abbrev μ-bounds : Measures 4 bounds-kinds.ps ℕ
-μ-bounds κs a = 5 * a .1 .1 .1 .1 .1 .1 .1 .1 .1 .1 .1 .0 + 2
+μ-bounds κs a = 6 * a .1 .1 .1 .1 .1 .1 .1 .1 .1 .1 .1 .0 + 3
 
 abbrev μ-call : Measures 4 call-kinds.ps ℕ
-μ-call κs a = 5 * a .1 .1 .1 .1 .1 .1 .1 .1 .1 .0 + 4
+μ-call κs a = 6 * a .1 .1 .1 .1 .1 .1 .1 .1 .1 .0 + 5
+
+abbrev μ-child : Measures 4 child-kinds.ps ℕ
+μ-child κs a = 6 * a .1 .1 .1 .1 .1 .1 .1 .1 .1 .0 + 1
 
 abbrev μ-dict : Measures 4 dict-kinds.ps ℕ
-μ-dict κs a = 5 * a .1 .1 .1 .1 .1 .1 .1 .1 .1 .0 + 2
+μ-dict κs a = 6 * a .1 .1 .1 .1 .1 .1 .1 .1 .1 .0 + 3
 
 abbrev μ-expr : Measures 4 expr-kinds.ps ℕ
-μ-expr κs a = 5 * a .1 .1 .1 .1 .1 .1 .1 .1 .1 .0
+μ-expr κs a = 6 * a .1 .1 .1 .1 .1 .1 .1 .1 .1 .0
 
 abbrev μ-list : Measures 4 list-kinds.ps ℕ
-μ-list κs a = 5 * a .1 .1 .1 .1 .1 .1 .1 .1 .1 .0 + 2
+μ-list κs a = 6 * a .1 .1 .1 .1 .1 .1 .1 .1 .1 .0 + 3
 
 abbrev μ-operands : Measures 4 operands-kinds.ps ℕ
-μ-operands κs a = 5 * a .1 .1 .1 .1 .1 .1 .1 .1 .1 .0 + 2
+μ-operands κs a = 6 * a .1 .1 .1 .1 .1 .1 .1 .1 .1 .0 + 3
+
+abbrev μ-pair : Measures 4 pair-kinds.ps ℕ
+μ-pair κs a = 6 * a .1 .1 .1 .1 .1 .1 .1 .1 .1 .0 + 3
 
 abbrev μ-streams : Measures 4 streams-kinds.ps ℕ
-μ-streams κs a = 5 * a .1 .1 .1 .1 .1 .1 .1 .1 .1 .1 .1 .0 + 2
+μ-streams κs a = 6 * a .1 .1 .1 .1 .1 .1 .1 .1 .1 .1 .1 .0 + 3
 
 abbrev μ-values : Measures 4 values-kinds.ps ℕ
-μ-values κs a = 5 * a .1 .1 .1 .1 .1 .1 .1 .1 .1 .1 .0 + 1
+μ-values κs a = 6 * a .1 .1 .1 .1 .1 .1 .1 .1 .1 .1 .0 + 2
 
 abbrev arguments-at : ℕ → In 4 arguments-kinds.ps
 arguments-at t = and 4 arguments-kinds.ps (is 4 arguments-kinds.ps μ-arguments t) arguments.Pre
@@ -119,6 +133,12 @@ call-at t = and 4 call-kinds.ps (is 4 call-kinds.ps μ-call t) call.Pre
 
 abbrev call-below : ℕ → In 4 call-kinds.ps
 call-below t = and 4 call-kinds.ps (falls 4 call-kinds.ps _<_ μ-call t) call.Pre
+
+abbrev child-at : ℕ → In 4 child-kinds.ps
+child-at t = and 4 child-kinds.ps (is 4 child-kinds.ps μ-child t) child.Pre
+
+abbrev child-below : ℕ → In 4 child-kinds.ps
+child-below t = and 4 child-kinds.ps (falls 4 child-kinds.ps _<_ μ-child t) child.Pre
 
 abbrev dict-at : ℕ → In 4 dict-kinds.ps
 dict-at t = and 4 dict-kinds.ps (is 4 dict-kinds.ps μ-dict t) dict.Pre
@@ -145,6 +165,12 @@ abbrev operands-below : ℕ → In 4 operands-kinds.ps
 operands-below t =
     and 4 operands-kinds.ps (falls 4 operands-kinds.ps _<_ μ-operands t) operands.Pre
 
+abbrev pair-at : ℕ → In 4 pair-kinds.ps
+pair-at t = and 4 pair-kinds.ps (is 4 pair-kinds.ps μ-pair t) pair.Pre
+
+abbrev pair-below : ℕ → In 4 pair-kinds.ps
+pair-below t = and 4 pair-kinds.ps (falls 4 pair-kinds.ps _<_ μ-pair t) pair.Pre
+
 abbrev streams-at : ℕ → In 4 streams-kinds.ps
 streams-at t = and 4 streams-kinds.ps (is 4 streams-kinds.ps μ-streams t) streams.Pre
 
@@ -157,47 +183,47 @@ values-at t = and 4 values-kinds.ps (is 4 values-kinds.ps μ-values t) values.Pr
 abbrev values-below : ℕ → In 4 values-kinds.ps
 values-below t = and 4 values-kinds.ps (falls 4 values-kinds.ps _<_ μ-values t) values.Pre
 
--- src/lib.rt:316:14
+-- src/lib.rt:572:14
 arguments-bounds-requires : (t : ℕ) → arguments-lts.Need-bounds-requires (bounds-below t, bounds.Post, streams-below t, streams.Post, looked-reads.Asked, looked-reads.Learnt, values-below t, values.Post, argued-reads.Asked, argued-reads.Learnt) (arguments-at t) arguments.Post
 arguments-bounds-requires t c κs =
     (omega (arith, c .before .before .before .before .pre .0), (c .before .before .before .before .pre .1 .0, (c .before .before .before .before .pre .1 .1 .0, c .before .before .before .before .pre .1 .1 .1 .there)))
 
--- src/lib.rt:317:20
+-- src/lib.rt:586:20
 arguments-streams-requires : (t : ℕ) → arguments-lts.Need-streams-requires (bounds-below t, bounds.Post, streams-below t, streams.Post, looked-reads.Asked, looked-reads.Learnt, values-below t, values.Post, argued-reads.Asked, argued-reads.Learnt) (arguments-at t) arguments.Post
 arguments-streams-requires t c κs =
     (omega (arith, c .before .before .before .before .before .before .pre .0), ((c .before .before .before .before .before .before .pre .1 .0), ((c .before .before .before .before .before .before .pre .1 .1 .0), c .before .before .before .before .before .before .pre .1 .1 .1 .two (c .before .before .before .if1 .left))))
 
--- src/lib.rt:319:17
+-- src/lib.rt:601:17
 arguments-looked-requires : (t : ℕ) → arguments-lts.Need-looked-requires (bounds-below t, bounds.Post, streams-below t, streams.Post, looked-reads.Asked, looked-reads.Learnt, values-below t, values.Post, argued-reads.Asked, argued-reads.Learnt) (arguments-at t) arguments.Post
 arguments-looked-requires t c κs =
     tt
 
--- src/lib.rt:320:17
+-- src/lib.rt:602:17
 arguments-values-requires : (t : ℕ) → arguments-lts.Need-values-requires (bounds-below t, bounds.Post, streams-below t, streams.Post, looked-reads.Asked, looked-reads.Learnt, values-below t, values.Post, argued-reads.Asked, argued-reads.Learnt) (arguments-at t) arguments.Post
 arguments-values-requires t c κs =
     (omega (arith, c .before .before .before .before .before .before .pre .0), (look-ready (c .before .before .before .before .before .before .pre .1 .0) (c .before .before .before .before .before .before .pre .1 .1 .0) (c .before .before .before .before .before .before .pre .1 .1 .1) (c .before .before .looked .ensures) (c .before .before .before .before .match .rest .1) (⊎-elim (λ w. w .taken) (λ w. absurd (omega (arith, w .1 .left, c .before .before .before .before .before .before .pre .1 .1 .1 .most))) (c .before .before .before .if1 .came)), look-row (c .before .before .before .before .before .before .pre .1 .0) (c .before .before .before .before .before .before .pre .1 .1 .0) (c .before .before .before .before .before .before .pre .1 .1 .1) (c .before .before .looked .ensures) (c .before .before .before .before .match .rest .1) (⊎-elim (λ w. w .taken) (λ w. absurd (omega (arith, w .1 .left, c .before .before .before .before .before .before .pre .1 .1 .1 .most))) (c .before .before .before .if1 .came))))
 
--- src/lib.rt:322:17
+-- src/lib.rt:616:17
 arguments-returns : (t : ℕ) → arguments-lts.Need-returns (bounds-below t, bounds.Post, streams-below t, streams.Post, looked-reads.Asked, looked-reads.Learnt, values-below t, values.Post, argued-reads.Asked, argued-reads.Learnt) (arguments-at t) arguments.Post
 arguments-returns t c =
     look-refused (c .before .before .before .before .before .before .before .before .before .pre .1 .0) (c .before .before .before .before .before .before .before .before .before .pre .1 .1 .0) (c .before .before .before .before .before .before .before .before .before .pre .1 .1 .1) (c .before .before .before .before .before .looked .ensures) (c .before .before .before .before .before .before .before .match .rest .1) (⊎-elim (λ w. w .taken) (λ w. absurd (omega (arith, w .1 .left, c .before .before .before .before .before .before .before .before .before .pre .1 .1 .1 .most))) (c .before .before .before .before .before .before .if1 .came)) (c .before .before .values .ensures) (c .if3 .taken)
 
--- src/lib.rt:324:13
+-- src/lib.rt:618:13
 arguments-argued-requires : (t : ℕ) → arguments-lts.Need-argued-requires (bounds-below t, bounds.Post, streams-below t, streams.Post, looked-reads.Asked, looked-reads.Learnt, values-below t, values.Post, argued-reads.Asked, argued-reads.Learnt) (arguments-at t) arguments.Post
 arguments-argued-requires t c κs =
     (look-listed (c .before .before .before .before .before .before .before .before .before .before .before .pre .1 .0) (c .before .before .before .before .before .before .before .before .before .before .before .pre .1 .1 .0) (c .before .before .before .before .before .before .before .before .before .before .before .pre .1 .1 .1) (c .before .before .before .before .before .before .before .looked .ensures) (c .before .before .before .before .before .before .before .before .before .match .rest .1) (⊎-elim (λ w. w .taken) (λ w. absurd (omega (arith, w .1 .left, c .before .before .before .before .before .before .before .before .before .before .before .pre .1 .1 .1 .most))) (c .before .before .before .before .before .before .before .before .if1 .came)) (c .before .before .before .before .values .ensures) (c .before .before .if3 .left), look-len (c .before .before .before .before .before .before .before .before .before .before .before .pre .1 .0) (c .before .before .before .before .before .before .before .before .before .before .before .pre .1 .1 .0) (c .before .before .before .before .before .before .before .before .before .before .before .pre .1 .1 .1) (c .before .before .before .before .before .before .before .looked .ensures) (c .before .before .before .before .before .before .before .before .before .match .rest .1) (⊎-elim (λ w. w .taken) (λ w. absurd (omega (arith, w .1 .left, c .before .before .before .before .before .before .before .before .before .before .before .pre .1 .1 .1 .most))) (c .before .before .before .before .before .before .before .before .if1 .came)) (c .before .before .before .before .values .ensures))
 
--- src/lib.rt:291:1
+-- src/lib.rt:547:1
 arguments-returns-2 : (t : ℕ) → arguments-lts.Need-returns-2 (bounds-below t, bounds.Post, streams-below t, streams.Post, looked-reads.Asked, looked-reads.Learnt, values-below t, values.Post, argued-reads.Asked, argued-reads.Learnt) (arguments-at t) arguments.Post
 arguments-returns-2 t c =
     done-as (ranges _ _ _ _ _ _ _ (c .before .before .before .match .keys1)) (c .bounds .ensures)
 
--- src/lib.rt:291:1
+-- src/lib.rt:547:1
 arguments-returns-3 : (t : ℕ) → arguments-lts.Need-returns-3 (bounds-below t, bounds.Post, streams-below t, streams.Post, looked-reads.Asked, looked-reads.Learnt, values-below t, values.Post, argued-reads.Asked, argued-reads.Learnt) (arguments-at t) arguments.Post
 arguments-returns-3 t c =
     done-as (streams-either _ _ _ _ _ _ _ (c .before .before .before .before .if1 .left) (omega (arith, c .before .before .before .if2 .taken))) (c .streams .ensures)
 
--- src/lib.rt:291:1
+-- src/lib.rt:547:1
 arguments-returns-4 : (t : ℕ) → arguments-lts.Need-returns-4 (bounds-below t, bounds.Post, streams-below t, streams.Post, looked-reads.Asked, looked-reads.Learnt, values-below t, values.Post, argued-reads.Asked, argued-reads.Learnt) (arguments-at t) arguments.Post
 arguments-returns-4 t c =
     rw (c .argued .ensures .0) (look-done (c .before .before .before .before .before .before .before .before .before .before .before .before .pre .1 .0) (c .before .before .before .before .before .before .before .before .before .before .before .before .pre .1 .1 .0) (c .before .before .before .before .before .before .before .before .before .before .before .before .pre .1 .1 .1) (c .before .before .before .before .before .before .before .before .looked .ensures) (c .before .before .before .before .before .before .before .before .before .before .match .rest .1) (⊎-elim (λ w. w .taken) (λ w. absurd (omega (arith, w .1 .left, c .before .before .before .before .before .before .before .before .before .before .before .before .pre .1 .1 .1 .most))) (c .before .before .before .before .before .before .before .before .before .if1 .came)) (c .before .before .before .before .before .values .ensures) (c .before .before .before .if3 .left) (c .argued .ensures .1))
@@ -210,134 +236,183 @@ abbrev bounds-μ-loop : bounds-lts.MeasureT-loop
 bounds-μ-loop image nodes frames top table₀ stack₀ sp at from n depth c₀ next₀ left₀ table stack c next left =
     left
 
--- src/lib.rt:356:5
+-- src/lib.rt:650:5
 bounds-loop-holds : (t : ℕ) → bounds-lts.Need-loop-holds (values-below t, values.Post, number-at-reads.Asked, number-at-reads.Learnt, bound-reads.Asked, bound-reads.Learnt, decided-reads.Asked, decided-reads.Learnt, stop-of-reads.Asked, stop-of-reads.Learnt, given-reads.Asked, given-reads.Learnt) (bounds-at t) bounds.Post bounds-Inv-loop bounds-μ-loop
 bounds-loop-holds t c =
     bounding-first {j = c .before .args .from - 1} (omega (arith, c .before .pre .1 .1 .0 .behind)) (c .before .pre .1 .0) (c .before .pre .1 .1 .0)
 
--- src/lib.rt:357:13
+-- src/lib.rt:651:13
 bounds-values-requires : (t : ℕ) → bounds-lts.Need-values-requires (values-below t, values.Post, number-at-reads.Asked, number-at-reads.Learnt, bound-reads.Asked, bound-reads.Learnt, decided-reads.Asked, decided-reads.Learnt, stop-of-reads.Asked, stop-of-reads.Learnt, given-reads.Asked, given-reads.Learnt) (bounds-at t) bounds.Post bounds-Inv-loop bounds-μ-loop
 bounds-values-requires t c κs =
     (omega (arith, c .before .before .before .before .before .pre .0), (loop-ready (c .before .before .before .loop .inv .loop) 1 (c .before .before .loop-test .taken), loop-row (c .before .before .before .loop .inv .loop) 1 (c .before .before .loop-test .taken)))
 
--- src/lib.rt:359:13
+-- src/lib.rt:665:13
 bounds-returns : (t : ℕ) → bounds-lts.Need-returns (values-below t, values.Post, number-at-reads.Asked, number-at-reads.Learnt, bound-reads.Asked, bound-reads.Learnt, decided-reads.Asked, decided-reads.Learnt, stop-of-reads.Asked, stop-of-reads.Learnt, given-reads.Asked, given-reads.Learnt) (bounds-at t) bounds.Post bounds-Inv-loop bounds-μ-loop
 bounds-returns t c =
     bounding-refused (c .before .before .before .before .before .before .loop .inv) (c .before .before .before .before .before .loop-test .taken) (c .before .before .values .ensures) _ (c .if1 .taken)
 
--- src/lib.rt:362:23
+-- src/lib.rt:668:23
 bounds-number-at-requires : (t : ℕ) → bounds-lts.Need-number-at-requires (values-below t, values.Post, number-at-reads.Asked, number-at-reads.Learnt, bound-reads.Asked, bound-reads.Learnt, decided-reads.Asked, decided-reads.Learnt, stop-of-reads.Asked, stop-of-reads.Learnt, given-reads.Asked, given-reads.Learnt) (bounds-at t) bounds.Post bounds-Inv-loop bounds-μ-loop
 bounds-number-at-requires t c κs =
     omega (arith, loop-room (c .before .before .before .before .before .before .before .before .loop .inv .loop) 1 (c .before .before .before .before .before .before .before .loop-test .taken))
 
--- src/lib.rt:362:13
+-- src/lib.rt:668:13
 bounds-bound-requires : (t : ℕ) → bounds-lts.Need-bound-requires (values-below t, values.Post, number-at-reads.Asked, number-at-reads.Learnt, bound-reads.Asked, bound-reads.Learnt, decided-reads.Asked, decided-reads.Learnt, stop-of-reads.Asked, stop-of-reads.Learnt, given-reads.Asked, given-reads.Learnt) (bounds-at t) bounds.Post bounds-Inv-loop bounds-μ-loop
 bounds-bound-requires t c κs =
     tt
 
--- src/lib.rt:364:13
+-- src/lib.rt:670:13
 bounds-decided-requires : (t : ℕ) → bounds-lts.Need-decided-requires (values-below t, values.Post, number-at-reads.Asked, number-at-reads.Learnt, bound-reads.Asked, bound-reads.Learnt, decided-reads.Asked, decided-reads.Learnt, stop-of-reads.Asked, stop-of-reads.Learnt, given-reads.Asked, given-reads.Learnt) (bounds-at t) bounds.Post bounds-Inv-loop bounds-μ-loop
 bounds-decided-requires t c κs =
     tt
 
--- src/lib.rt:364:13
+-- src/lib.rt:670:13
 bounds-returns-2 : (t : ℕ) → bounds-lts.Need-returns-2 (values-below t, values.Post, number-at-reads.Asked, number-at-reads.Learnt, bound-reads.Asked, bound-reads.Learnt, decided-reads.Asked, decided-reads.Learnt, stop-of-reads.Asked, stop-of-reads.Learnt, given-reads.Asked, given-reads.Learnt) (bounds-at t) bounds.Post bounds-Inv-loop bounds-μ-loop
 bounds-returns-2 t c =
     let e = c .decided .ensures in
     rw (e .0, e .1, e .2, e .3, e .4, e .5)
     (bounding-wrong (c .before .before .before .before .before .before .before .before .before .before .before .before .before .loop .inv) (c .before .before .before .before .before .before .before .before .before .before .before .before .loop-test .taken) (c .before .before .before .before .before .before .before .before .before .values .ensures) (c .before .before .before .before .before .before .before .if1 .left) (rw (c .before .before .before .before .number-at .ensures) at (c .before .before .before .bound .ensures)) (c .before .if2 .taken) (c .before .before .before .before .before .before .before .before .before .before .before .before .before .before .before .pre .1 .1 .1))
 
--- src/lib.rt:366:9
+-- src/lib.rt:672:9
 bounds-stop-of-requires : (t : ℕ) → bounds-lts.Need-stop-of-requires (values-below t, values.Post, number-at-reads.Asked, number-at-reads.Learnt, bound-reads.Asked, bound-reads.Learnt, decided-reads.Asked, decided-reads.Learnt, stop-of-reads.Asked, stop-of-reads.Learnt, given-reads.Asked, given-reads.Learnt) (bounds-at t) bounds.Post bounds-Inv-loop bounds-μ-loop
 bounds-stop-of-requires t c κs =
     (c .before .before .before .before .before .before .before .before .before .before .before .before .loop .inv .loop .ready .sound .headed, (c .before .before .before .before .before .before .before .before .before .before .before .before .loop .inv .loop .ready .nodes-at, row-at (c .before .before .before .before .before .before .before .before .before .before .before .before .loop .inv .loop .ready .sound) _ (c .before .before .before .before .before .before .before .before .before .before .before .loop-test .taken) (c .before .before .before .before .before .before .before .before .before .before .before .before .loop .inv .loop .row) .there))
 
--- src/lib.rt:367:9
+-- src/lib.rt:673:9
 bounds-sub-left : (t : ℕ) → bounds-lts.Need-sub-left (values-below t, values.Post, number-at-reads.Asked, number-at-reads.Learnt, bound-reads.Asked, bound-reads.Learnt, decided-reads.Asked, decided-reads.Learnt, stop-of-reads.Asked, stop-of-reads.Learnt, given-reads.Asked, given-reads.Learnt) (bounds-at t) bounds.Post bounds-Inv-loop bounds-μ-loop
 bounds-sub-left t c =
     search needs
 
--- src/lib.rt:356:5
+-- src/lib.rt:650:5
 bounds-loop-less : (t : ℕ) → bounds-lts.Need-loop-less (values-below t, values.Post, number-at-reads.Asked, number-at-reads.Learnt, bound-reads.Asked, bound-reads.Learnt, decided-reads.Asked, decided-reads.Learnt, stop-of-reads.Asked, stop-of-reads.Learnt, given-reads.Asked, given-reads.Learnt) (bounds-at t) bounds.Post bounds-Inv-loop bounds-μ-loop
 bounds-loop-less t c =
     search needs
 
--- src/lib.rt:356:5
+-- src/lib.rt:650:5
 bounds-loop-again : (t : ℕ) → bounds-lts.Need-loop-again (values-below t, values.Post, number-at-reads.Asked, number-at-reads.Learnt, bound-reads.Asked, bound-reads.Learnt, decided-reads.Asked, decided-reads.Learnt, stop-of-reads.Asked, stop-of-reads.Learnt, given-reads.Asked, given-reads.Learnt) (bounds-at t) bounds.Post bounds-Inv-loop bounds-μ-loop
 bounds-loop-again t c =
     bounding-next (c .before .before .before .before .before .before .before .before .before .before .before .before .before .loop .inv) (c .before .before .before .before .before .before .before .before .before .before .before .before .loop-test .taken) (c .before .before .before .before .before .before .before .before .before .values .ensures) (c .before .before .before .before .before .before .before .if1 .left) (rw (c .before .before .before .before .number-at .ensures) at (c .before .before .before .bound .ensures)) (c .before .if2 .left) (c .stop-of .ensures)
 
--- src/lib.rt:369:5
+-- src/lib.rt:675:5
 bounds-given-requires : (t : ℕ) → bounds-lts.Need-given-requires (values-below t, values.Post, number-at-reads.Asked, number-at-reads.Learnt, bound-reads.Asked, bound-reads.Learnt, decided-reads.Asked, decided-reads.Learnt, stop-of-reads.Asked, stop-of-reads.Learnt, given-reads.Asked, given-reads.Learnt) (bounds-at t) bounds.Post bounds-Inv-loop bounds-μ-loop
 bounds-given-requires t c κs =
     tt
 
--- src/lib.rt:330:1
+-- src/lib.rt:624:1
 bounds-returns-3 : (t : ℕ) → bounds-lts.Need-returns-3 (values-below t, values.Post, number-at-reads.Asked, number-at-reads.Learnt, bound-reads.Asked, bound-reads.Learnt, decided-reads.Asked, decided-reads.Learnt, stop-of-reads.Asked, stop-of-reads.Learnt, given-reads.Asked, given-reads.Learnt) (bounds-at t) bounds.Post bounds-Inv-loop bounds-μ-loop
 bounds-returns-3 t c =
     rw (c .given .ensures .2) (bounding-end (c .before .before .loop .inv) (c .before .loop-test .left) (c .given .ensures .0) (c .given .ensures .1))
 
--- src/lib.rt:270:40
+-- src/lib.rt:500:40
 call-add-node-at : (t : ℕ) → call-lts.Need-add-node-at (node-at-reads.Asked, node-at-reads.Learnt, operands-below t, operands.Post, plan-reads.Asked, plan-reads.Learnt, arguments-below t, arguments.Post) (call-at t) call.Post
 call-add-node-at t c =
     omega (arith, c .before .pre .1 .1 .0 .there, sizes (c .before .pre .1 .0 .sound .headed) .nodes)
 
--- src/lib.rt:270:9
+-- src/lib.rt:500:9
 call-node-at-requires : (t : ℕ) → call-lts.Need-node-at-requires (node-at-reads.Asked, node-at-reads.Learnt, operands-below t, operands.Post, plan-reads.Asked, plan-reads.Learnt, arguments-below t, arguments.Post) (call-at t) call.Post
 call-node-at-requires t c κs =
     (c .before .pre .1 .0 .sound .headed, (c .before .pre .1 .0 .nodes-at, rw (add-one _) (callee-there (c .before .pre .1 .0 .sound) (c .before .pre .1 .1 .0) (c .before .pre .1 .1 .1))))
 
--- src/lib.rt:272:9
+-- src/lib.rt:502:9
 call-operands-requires : (t : ℕ) → call-lts.Need-operands-requires (node-at-reads.Asked, node-at-reads.Learnt, operands-below t, operands.Post, plan-reads.Asked, plan-reads.Learnt, arguments-below t, arguments.Post) (call-at t) call.Post
 call-operands-requires t c κs =
     (omega (arith, c .before .before .before .before .before .before .pre .0), (c .before .before .before .before .before .before .pre .1 .0, (c .before .before .before .before .before .before .pre .1 .1 .0, call-operand (c .before .before .before .before .before .before .pre .1 .0 .sound) (c .before .before .before .before .before .before .pre .1 .1 .0) (c .before .before .before .before .before .before .pre .1 .1 .1) (rw (add-one _) at (c .before .before .before .before .node-at .ensures)) (c .before .before .if1 .taken))))
 
--- src/lib.rt:272:9
+-- src/lib.rt:502:9
 call-returns : (t : ℕ) → call-lts.Need-returns (node-at-reads.Asked, node-at-reads.Learnt, operands-below t, operands.Post, plan-reads.Asked, plan-reads.Learnt, arguments-below t, arguments.Post) (call-at t) call.Post
 call-returns t c =
     c .operands .ensures
 
--- src/lib.rt:274:16
+-- src/lib.rt:516:16
 call-cast-name : (t : ℕ) → call-lts.Need-cast-name (node-at-reads.Asked, node-at-reads.Learnt, operands-below t, operands.Post, plan-reads.Asked, plan-reads.Learnt, arguments-below t, arguments.Post) (call-at t) call.Post
 call-cast-name t c =
     search needs
 
--- src/lib.rt:275:17
+-- src/lib.rt:517:17
 call-sub-count : (t : ℕ) → call-lts.Need-sub-count (node-at-reads.Asked, node-at-reads.Learnt, operands-below t, operands.Post, plan-reads.Asked, plan-reads.Learnt, arguments-below t, arguments.Post) (call-at t) call.Post
 call-sub-count t c =
     omega (arith, call-some (c .before .before .before .before .before .before .pre .1 .0 .sound) (c .before .before .before .before .before .before .pre .1 .1 .0) (c .before .before .before .before .before .before .pre .1 .1 .1))
 
--- src/lib.rt:276:9
+-- src/lib.rt:518:9
 call-plan-requires : (t : ℕ) → call-lts.Need-plan-requires (node-at-reads.Asked, node-at-reads.Learnt, operands-below t, operands.Post, plan-reads.Asked, plan-reads.Learnt, arguments-below t, arguments.Post) (call-at t) call.Post
 call-plan-requires t c κs =
     (c .before .before .before .before .before .before .pre .1 .0 .sound, name-there (c .before .before .before .before .before .before .pre .1 .0 .sound) (c .before .before .before .before .before .before .pre .1 .1 .0) (c .before .before .before .before .before .before .pre .1 .1 .1) (rw (add-one _) at (c .before .before .before .before .node-at .ensures)) (c .before .before .if1 .left))
 
--- src/lib.rt:283:16
+-- src/lib.rt:525:16
 call-cast-t20 : (t : ℕ) → call-lts.Need-cast-t20 (node-at-reads.Asked, node-at-reads.Learnt, operands-below t, operands.Post, plan-reads.Asked, plan-reads.Learnt, arguments-below t, arguments.Post) (call-at t) call.Post
 call-cast-t20 t c = search needs
 
--- src/lib.rt:278:9
+-- src/lib.rt:520:9
 call-returns-2 : (t : ℕ) → call-lts.Need-returns-2 (node-at-reads.Asked, node-at-reads.Learnt, operands-below t, operands.Post, plan-reads.Asked, plan-reads.Learnt, arguments-below t, arguments.Post) (call-at t) call.Post
 call-returns-2 t c =
     call-refused (c .before .before .before .before .before .before .before .before .before .pre .1 .0) (c .before .before .before .before .before .before .before .before .before .pre .1 .1 .0) (c .before .before .before .before .before .before .before .before .before .pre .1 .1 .1) (rw (add-one _) at (c .before .before .before .before .before .before .before .node-at .ensures)) (c .before .before .before .before .before .if1 .left) refl refl (name-there (c .before .before .before .before .before .before .before .before .before .pre .1 .0 .sound) (c .before .before .before .before .before .before .before .before .before .pre .1 .1 .0) (c .before .before .before .before .before .before .before .before .before .pre .1 .1 .1) (rw (add-one _) at (c .before .before .before .before .before .before .before .node-at .ensures)) (c .before .before .before .before .before .if1 .left)) (c .before .before .plan .ensures) (c .if2 .taken)
 
--- src/lib.rt:287:72
+-- src/lib.rt:539:9
 call-cast-arguments : (t : ℕ) → call-lts.Need-cast-arguments (node-at-reads.Asked, node-at-reads.Learnt, operands-below t, operands.Post, plan-reads.Asked, plan-reads.Learnt, arguments-below t, arguments.Post) (call-at t) call.Post
 call-cast-arguments t c = search needs
 
--- src/lib.rt:287:94
+-- src/lib.rt:540:9
 call-cast-arguments-2 : (t : ℕ) → call-lts.Need-cast-arguments-2 (node-at-reads.Asked, node-at-reads.Learnt, operands-below t, operands.Post, plan-reads.Asked, plan-reads.Learnt, arguments-below t, arguments.Post) (call-at t) call.Post
 call-cast-arguments-2 t c = search needs
 
--- src/lib.rt:287:5
+-- src/lib.rt:529:5
 call-arguments-requires : (t : ℕ) → call-lts.Need-arguments-requires (node-at-reads.Asked, node-at-reads.Learnt, operands-below t, operands.Post, plan-reads.Asked, plan-reads.Learnt, arguments-below t, arguments.Post) (call-at t) call.Post
 call-arguments-requires t c κs =
     (omega (arith, c .before .before .before .before .before .before .before .before .before .before .before .before .pre .0), (call-ready (c .before .before .before .before .before .before .before .before .before .before .before .before .pre .1 .0) (c .before .before .before .before .before .before .before .before .before .before .before .before .pre .1 .1 .0) (c .before .before .before .before .before .before .before .before .before .before .before .before .pre .1 .1 .1) (rw (add-one _) at (c .before .before .before .before .before .before .before .before .before .before .node-at .ensures)) (c .before .before .before .before .before .before .before .before .if1 .left) refl refl, (call-row (c .before .before .before .before .before .before .before .before .before .before .before .before .pre .1 .0) (c .before .before .before .before .before .before .before .before .before .before .before .before .pre .1 .1 .0) (c .before .before .before .before .before .before .before .before .before .before .before .before .pre .1 .1 .1) (rw (add-one _) at (c .before .before .before .before .before .before .before .before .before .before .node-at .ensures)) (c .before .before .before .before .before .before .before .before .if1 .left) refl refl, call-enough (c .before .before .before .before .before .before .before .before .before .before .before .before .pre .1 .0) (c .before .before .before .before .before .before .before .before .before .before .before .before .pre .1 .1 .0) (c .before .before .before .before .before .before .before .before .before .before .before .before .pre .1 .1 .1) (rw (add-one _) at (c .before .before .before .before .before .before .before .before .before .before .node-at .ensures)) (c .before .before .before .before .before .before .before .before .if1 .left) refl refl (c .before .before .before .before .before .plan .ensures) (c .before .before .before .if2 .left))))
 
--- src/lib.rt:248:1
+-- src/lib.rt:478:1
 call-returns-3 : (t : ℕ) → call-lts.Need-returns-3 (node-at-reads.Asked, node-at-reads.Learnt, operands-below t, operands.Post, plan-reads.Asked, plan-reads.Learnt, arguments-below t, arguments.Post) (call-at t) call.Post
 call-returns-3 t c =
     call-done (c .before .before .before .before .before .before .before .before .before .before .before .before .before .pre .1 .0) (c .before .before .before .before .before .before .before .before .before .before .before .before .before .pre .1 .1 .0) (c .before .before .before .before .before .before .before .before .before .before .before .before .before .pre .1 .1 .1) (rw (add-one _) at (c .before .before .before .before .before .before .before .before .before .before .before .node-at .ensures)) (c .before .before .before .before .before .before .before .before .before .if1 .left) refl refl refl refl (c .before .before .before .before .before .before .plan .ensures) (c .before .before .before .before .if2 .left) (c .arguments .ensures)
+
+-- src/lib.rt:199:9
+child-node-at-requires : (t : ℕ) → child-lts.Need-node-at-requires (node-at-reads.Asked, node-at-reads.Learnt, literal-reads.Asked, literal-reads.Learnt, given-reads.Asked, given-reads.Learnt, variable-reads.Asked, variable-reads.Learnt, expr-below t, expr.Post) (child-at t) child.Post
+child-node-at-requires t c κs =
+    (c .before .pre .1 .0 .sound .headed, (c .before .pre .1 .0 .nodes-at, c .before .pre .1 .1 .there))
+
+-- src/lib.rt:201:22
+child-literal-requires : (t : ℕ) → child-lts.Need-literal-requires (node-at-reads.Asked, node-at-reads.Learnt, literal-reads.Asked, literal-reads.Learnt, given-reads.Asked, given-reads.Learnt, variable-reads.Asked, variable-reads.Learnt, expr-below t, expr.Post) (child-at t) child.Post
+child-literal-requires t c κs =
+    tt
+
+-- src/lib.rt:201:9
+child-given-requires : (t : ℕ) → child-lts.Need-given-requires (node-at-reads.Asked, node-at-reads.Learnt, literal-reads.Asked, literal-reads.Learnt, given-reads.Asked, given-reads.Learnt, variable-reads.Asked, variable-reads.Learnt, expr-below t, expr.Post) (child-at t) child.Post
+child-given-requires t c κs =
+    tt
+
+-- src/lib.rt:201:9
+child-returns : (t : ℕ) → child-lts.Need-returns (node-at-reads.Asked, node-at-reads.Learnt, literal-reads.Asked, literal-reads.Learnt, given-reads.Asked, given-reads.Learnt, variable-reads.Asked, variable-reads.Learnt, expr-below t, expr.Post) (child-at t) child.Post
+child-returns t c =
+    rw (c .given .ensures .2) (literal-done (c .before .before .before .before .before .before .pre .1 .0) (c .before .before .before .before .before .before .pre .1 .1) (c .before .before .before .before .node-at .ensures) (c .before .before .if1 .taken) (c .given .ensures .0) (c .given .ensures .1 ∙ c .before .literal .ensures))
+
+-- src/lib.rt:204:44
+child-cast-variable : (t : ℕ) → child-lts.Need-cast-variable (node-at-reads.Asked, node-at-reads.Learnt, literal-reads.Asked, literal-reads.Learnt, given-reads.Asked, given-reads.Learnt, variable-reads.Asked, variable-reads.Learnt, expr-below t, expr.Post) (child-at t) child.Post
+child-cast-variable t c = search needs
+
+-- src/lib.rt:204:22
+child-variable-requires : (t : ℕ) → child-lts.Need-variable-requires (node-at-reads.Asked, node-at-reads.Learnt, literal-reads.Asked, literal-reads.Learnt, given-reads.Asked, given-reads.Learnt, variable-reads.Asked, variable-reads.Learnt, expr-below t, expr.Post) (child-at t) child.Post
+child-variable-requires t c κs =
+    variable-there (c .before .before .before .before .before .before .before .pre .1 .0) (c .before .before .before .before .before .before .before .pre .1 .1) (c .before .before .before .before .before .node-at .ensures) (c .before .if2 .taken) refl
+
+-- src/lib.rt:204:9
+child-given-requires-2 : (t : ℕ) → child-lts.Need-given-requires-2 (node-at-reads.Asked, node-at-reads.Learnt, literal-reads.Asked, literal-reads.Learnt, given-reads.Asked, given-reads.Learnt, variable-reads.Asked, variable-reads.Learnt, expr-below t, expr.Post) (child-at t) child.Post
+child-given-requires-2 t c κs =
+    tt
+
+-- src/lib.rt:204:9
+child-returns-2 : (t : ℕ) → child-lts.Need-returns-2 (node-at-reads.Asked, node-at-reads.Learnt, literal-reads.Asked, literal-reads.Learnt, given-reads.Asked, given-reads.Learnt, variable-reads.Asked, variable-reads.Learnt, expr-below t, expr.Post) (child-at t) child.Post
+child-returns-2 t c =
+    rw (c .given2 .ensures .2) (variable-done (c .before .before .before .before .before .before .before .before .before .pre .1 .0) (c .before .before .before .before .before .before .before .before .before .pre .1 .1) (c .before .before .before .before .before .before .before .node-at .ensures) (c .before .before .before .if2 .taken) refl (c .given2 .ensures .0) (c .given2 .ensures .1) (c .before .variable .ensures))
+
+-- src/lib.rt:206:5
+child-expr-requires : (t : ℕ) → child-lts.Need-expr-requires (node-at-reads.Asked, node-at-reads.Learnt, literal-reads.Asked, literal-reads.Learnt, given-reads.Asked, given-reads.Learnt, variable-reads.Asked, variable-reads.Learnt, expr-below t, expr.Post) (child-at t) child.Post
+child-expr-requires t c κs =
+    (omega (arith, c .before .before .before .before .before .before .before .before .pre .0), (c .before .before .before .before .before .before .before .before .pre .1 .0, c .before .before .before .before .before .before .before .before .pre .1 .1))
+
+-- src/lib.rt:179:1
+child-returns-3 : (t : ℕ) → child-lts.Need-returns-3 (node-at-reads.Asked, node-at-reads.Learnt, literal-reads.Asked, literal-reads.Learnt, given-reads.Asked, given-reads.Learnt, variable-reads.Asked, variable-reads.Learnt, expr-below t, expr.Post) (child-at t) child.Post
+child-returns-3 t c =
+    c .expr .ensures
 
 abbrev dict-Inv-loop : dict-lts.InvT-loop
 dict-Inv-loop image nodes frames top table₀ stack₀ sp at depth c₀ from₀ left₀ key₀ value₀ table stack c from left key value =
@@ -347,71 +422,71 @@ abbrev dict-μ-loop : dict-lts.MeasureT-loop
 dict-μ-loop image nodes frames top table₀ stack₀ sp at depth c₀ from₀ left₀ key₀ value₀ table stack c from left key value =
     left
 
--- src/lib.rt:225:20
+-- src/lib.rt:443:20
 dict-add-from : (t : ℕ) → dict-lts.Need-add-from (values-below t, values.Post, number-at-reads.Asked, number-at-reads.Learnt, dict-step-reads.Asked, dict-step-reads.Learnt, dict-of-reads.Asked, dict-of-reads.Learnt, stop-of-reads.Asked, stop-of-reads.Learnt) (dict-at t) dict.Post dict-Inv-loop dict-μ-loop
 dict-add-from t c =
     omega (arith, c .before .pre .1 .1 .0 .there, sizes (c .before .pre .1 .0 .sound .headed) .nodes)
 
--- src/lib.rt:226:20
+-- src/lib.rt:444:20
 dict-cast-left : (t : ℕ) → dict-lts.Need-cast-left (values-below t, values.Post, number-at-reads.Asked, number-at-reads.Learnt, dict-step-reads.Asked, dict-step-reads.Learnt, dict-of-reads.Asked, dict-of-reads.Learnt, stop-of-reads.Asked, stop-of-reads.Learnt) (dict-at t) dict.Post dict-Inv-loop dict-μ-loop
 dict-cast-left t c =
     search needs
 
--- src/lib.rt:229:5
+-- src/lib.rt:447:5
 dict-loop-holds : (t : ℕ) → dict-lts.Need-loop-holds (values-below t, values.Post, number-at-reads.Asked, number-at-reads.Learnt, dict-step-reads.Asked, dict-step-reads.Learnt, dict-of-reads.Asked, dict-of-reads.Learnt, stop-of-reads.Asked, stop-of-reads.Learnt) (dict-at t) dict.Post dict-Inv-loop dict-μ-loop
 dict-loop-holds t c =
     pairing-first {j = c .before .before .args .at} (omega arith) (children-before (c .before .before .pre .1 .0) (c .before .before .pre .1 .1 .0) (add-one _) refl)
     (children-row (c .before .before .pre .1 .0) (c .before .before .pre .1 .1 .0) (add-one _) refl)
 
--- src/lib.rt:230:13
+-- src/lib.rt:448:13
 dict-values-requires : (t : ℕ) → dict-lts.Need-values-requires (values-below t, values.Post, number-at-reads.Asked, number-at-reads.Learnt, dict-step-reads.Asked, dict-step-reads.Learnt, dict-of-reads.Asked, dict-of-reads.Learnt, stop-of-reads.Asked, stop-of-reads.Learnt) (dict-at t) dict.Post dict-Inv-loop dict-μ-loop
 dict-values-requires t c κs =
     (omega (arith, c .before .before .before .before .before .before .pre .0), (loop-ready (c .before .before .before .loop .inv .loop) 2 (c .before .before .loop-test .taken), loop-row (c .before .before .before .loop .inv .loop) 2 (c .before .before .loop-test .taken)))
 
--- src/lib.rt:232:13
+-- src/lib.rt:462:13
 dict-returns : (t : ℕ) → dict-lts.Need-returns (values-below t, values.Post, number-at-reads.Asked, number-at-reads.Learnt, dict-step-reads.Asked, dict-step-reads.Learnt, dict-of-reads.Asked, dict-of-reads.Learnt, stop-of-reads.Asked, stop-of-reads.Learnt) (dict-at t) dict.Post dict-Inv-loop dict-μ-loop
 dict-returns t c =
     node-done (c .before .before .before .before .before .before .before .before .before .pre .1 .0) (c .before .before .before .before .before .before .before .before .before .pre .1 .1 .0) (add-one _) refl (dict-whole (c .before .before .before .before .before .before .before .before .before .pre .1 .0 .sound) (c .before .before .before .before .before .before .before .before .before .pre .1 .1 .0) _ (add-one _) refl (c .before .before .before .before .before .before .before .before .before .pre .1 .1 .1))
     (pairing-refused (c .before .before .before .before .before .before .loop .inv) (c .before .before .before .before .before .loop-test .taken) (c .before .before .values .ensures) _ (c .if1 .taken))
 
--- src/lib.rt:235:42
+-- src/lib.rt:465:42
 dict-number-at-requires : (t : ℕ) → dict-lts.Need-number-at-requires (values-below t, values.Post, number-at-reads.Asked, number-at-reads.Learnt, dict-step-reads.Asked, dict-step-reads.Learnt, dict-of-reads.Asked, dict-of-reads.Learnt, stop-of-reads.Asked, stop-of-reads.Learnt) (dict-at t) dict.Post dict-Inv-loop dict-μ-loop
 dict-number-at-requires t c κs =
     omega (arith, loop-room (c .before .before .before .before .before .before .before .before .loop .inv .loop) 2 (c .before .before .before .before .before .before .before .loop-test .taken))
 
--- src/lib.rt:235:81
+-- src/lib.rt:465:81
 dict-add-number-at : (t : ℕ) → dict-lts.Need-add-number-at (values-below t, values.Post, number-at-reads.Asked, number-at-reads.Learnt, dict-step-reads.Asked, dict-step-reads.Learnt, dict-of-reads.Asked, dict-of-reads.Learnt, stop-of-reads.Asked, stop-of-reads.Learnt) (dict-at t) dict.Post dict-Inv-loop dict-μ-loop
 dict-add-number-at t c =
     omega (arith, loop-room (c .before .before .before .before .before .before .before .before .before .before .loop .inv .loop) 2 (c .before .before .before .before .before .before .before .before .before .loop-test .taken))
 
--- src/lib.rt:235:64
+-- src/lib.rt:465:64
 dict-number-at-requires-2 : (t : ℕ) → dict-lts.Need-number-at-requires-2 (values-below t, values.Post, number-at-reads.Asked, number-at-reads.Learnt, dict-step-reads.Asked, dict-step-reads.Learnt, dict-of-reads.Asked, dict-of-reads.Learnt, stop-of-reads.Asked, stop-of-reads.Learnt) (dict-at t) dict.Post dict-Inv-loop dict-μ-loop
 dict-number-at-requires-2 t c κs =
     omega (arith, loop-room (c .before .before .before .before .before .before .before .before .before .before .loop .inv .loop) 2 (c .before .before .before .before .before .before .before .before .before .loop-test .taken))
 
--- src/lib.rt:235:13
+-- src/lib.rt:465:13
 dict-dict-step-requires : (t : ℕ) → dict-lts.Need-dict-step-requires (values-below t, values.Post, number-at-reads.Asked, number-at-reads.Learnt, dict-step-reads.Asked, dict-step-reads.Learnt, dict-of-reads.Asked, dict-of-reads.Learnt, stop-of-reads.Asked, stop-of-reads.Learnt) (dict-at t) dict.Post dict-Inv-loop dict-μ-loop
 dict-dict-step-requires t c κs =
     tt
 
--- src/lib.rt:239:13
+-- src/lib.rt:469:13
 dict-dict-of-requires : (t : ℕ) → dict-lts.Need-dict-of-requires (values-below t, values.Post, number-at-reads.Asked, number-at-reads.Learnt, dict-step-reads.Asked, dict-step-reads.Learnt, dict-of-reads.Asked, dict-of-reads.Learnt, stop-of-reads.Asked, stop-of-reads.Learnt) (dict-at t) dict.Post dict-Inv-loop dict-μ-loop
 dict-dict-of-requires t c κs =
     let s = rw (c .before .before .before .before .before .number-at .ensures, c .before .before .before .number-at2 .ensures) at (c .before .before .dict-step .ensures) in
     (pairing-key (c .before .before .before .before .before .before .before .before .before .before .before .before .before .before .loop .inv) (c .before .before .before .before .before .before .before .before .before .before .before .before .before .loop-test .taken) (c .before .before .before .before .before .before .before .before .before .before .values .ensures) (c .before .before .before .before .before .before .before .before .if1 .left) s, pairing-value (c .before .before .before .before .before .before .before .before .before .before .before .before .before .before .loop .inv) (c .before .before .before .before .before .before .before .before .before .before .before .before .before .loop-test .taken) (c .before .before .before .before .before .before .before .before .before .before .values .ensures) (c .before .before .before .before .before .before .before .before .if1 .left) s)
 
--- src/lib.rt:239:13
+-- src/lib.rt:469:13
 dict-returns-2 : (t : ℕ) → dict-lts.Need-returns-2 (values-below t, values.Post, number-at-reads.Asked, number-at-reads.Learnt, dict-step-reads.Asked, dict-step-reads.Learnt, dict-of-reads.Asked, dict-of-reads.Learnt, stop-of-reads.Asked, stop-of-reads.Learnt) (dict-at t) dict.Post dict-Inv-loop dict-μ-loop
 dict-returns-2 t c =
     node-done (c .before .before .before .before .before .before .before .before .before .before .before .before .before .before .before .before .before .before .pre .1 .0) (c .before .before .before .before .before .before .before .before .before .before .before .before .before .before .before .before .before .before .pre .1 .1 .0) (add-one _) refl (dict-whole (c .before .before .before .before .before .before .before .before .before .before .before .before .before .before .before .before .before .before .pre .1 .0 .sound) (c .before .before .before .before .before .before .before .before .before .before .before .before .before .before .before .before .before .before .pre .1 .1 .0) _ (add-one _) refl (c .before .before .before .before .before .before .before .before .before .before .before .before .before .before .before .before .before .before .pre .1 .1 .1))
     (pairing-stop (c .before .before .before .before .before .before .before .before .before .before .before .before .before .before .before .loop .inv) (c .before .before .before .before .before .before .before .before .before .before .before .before .before .before .loop-test .taken) (c .before .before .before .before .before .before .before .before .before .before .before .values .ensures) (c .before .before .before .before .before .before .before .before .before .if1 .left) (rw (c .before .before .before .before .before .before .number-at .ensures, c .before .before .before .before .number-at2 .ensures) at (c .before .before .before .dict-step .ensures)) (c .before .before .if2 .taken) (c .dict-of .ensures .0) (c .dict-of .ensures .1))
 
--- src/lib.rt:241:38
+-- src/lib.rt:471:38
 dict-stop-of-requires : (t : ℕ) → dict-lts.Need-stop-of-requires (values-below t, values.Post, number-at-reads.Asked, number-at-reads.Learnt, dict-step-reads.Asked, dict-step-reads.Learnt, dict-of-reads.Asked, dict-of-reads.Learnt, stop-of-reads.Asked, stop-of-reads.Learnt) (dict-at t) dict.Post dict-Inv-loop dict-μ-loop
 dict-stop-of-requires t c κs =
     (c .before .before .before .before .before .before .before .before .before .before .before .before .before .loop .inv .loop .ready .sound .headed, (c .before .before .before .before .before .before .before .before .before .before .before .before .before .loop .inv .loop .ready .nodes-at, row-at (c .before .before .before .before .before .before .before .before .before .before .before .before .before .loop .inv .loop .ready .sound) _ (omega (arith, c .before .before .before .before .before .before .before .before .before .before .before .before .loop-test .taken)) (c .before .before .before .before .before .before .before .before .before .before .before .before .before .loop .inv .loop .row) .there))
 
--- src/lib.rt:241:9
+-- src/lib.rt:471:9
 dict-stop-of-requires-2 : (t : ℕ) → dict-lts.Need-stop-of-requires-2 (values-below t, values.Post, number-at-reads.Asked, number-at-reads.Learnt, dict-step-reads.Asked, dict-step-reads.Learnt, dict-of-reads.Asked, dict-of-reads.Learnt, stop-of-reads.Asked, stop-of-reads.Learnt) (dict-at t) dict.Post dict-Inv-loop dict-μ-loop
 dict-stop-of-requires-2 t c κs =
     let q = c .before .before .before .before .before .before .before .before .before .before .before .before .before .before .loop .inv .loop .ready .sound in
@@ -419,172 +494,187 @@ dict-stop-of-requires-2 t c κs =
     let k : 0 < c .before .before .before .before .before .before .before .before .before .before .before .before .before .before .loop .left - 1 = omega (arith, c .before .before .before .before .before .before .before .before .before .before .before .before .before .loop-test .taken) in
     (q .headed, (c .before .before .before .before .before .before .before .before .before .before .before .before .before .before .loop .inv .loop .ready .nodes-at, rw (c .stop-of .ensures) (row-at q _ k (row-next q _ h (c .before .before .before .before .before .before .before .before .before .before .before .before .before .before .loop .inv .loop .row)) .there)))
 
--- src/lib.rt:242:9
+-- src/lib.rt:472:9
 dict-sub-left : (t : ℕ) → dict-lts.Need-sub-left (values-below t, values.Post, number-at-reads.Asked, number-at-reads.Learnt, dict-step-reads.Asked, dict-step-reads.Learnt, dict-of-reads.Asked, dict-of-reads.Learnt, stop-of-reads.Asked, stop-of-reads.Learnt) (dict-at t) dict.Post dict-Inv-loop dict-μ-loop
 dict-sub-left t c = search needs
 
--- src/lib.rt:229:5
+-- src/lib.rt:447:5
 dict-loop-less : (t : ℕ) → dict-lts.Need-loop-less (values-below t, values.Post, number-at-reads.Asked, number-at-reads.Learnt, dict-step-reads.Asked, dict-step-reads.Learnt, dict-of-reads.Asked, dict-of-reads.Learnt, stop-of-reads.Asked, stop-of-reads.Learnt) (dict-at t) dict.Post dict-Inv-loop dict-μ-loop
 dict-loop-less t c =
     search needs
 
--- src/lib.rt:229:5
+-- src/lib.rt:447:5
 dict-loop-again : (t : ℕ) → dict-lts.Need-loop-again (values-below t, values.Post, number-at-reads.Asked, number-at-reads.Learnt, dict-step-reads.Asked, dict-step-reads.Learnt, dict-of-reads.Asked, dict-of-reads.Learnt, stop-of-reads.Asked, stop-of-reads.Learnt) (dict-at t) dict.Post dict-Inv-loop dict-μ-loop
 dict-loop-again t c =
     pairing-next (c .before .before .before .before .before .before .before .before .before .before .before .before .before .before .before .loop .inv) (c .before .before .before .before .before .before .before .before .before .before .before .before .before .before .loop-test .taken) (c .before .before .before .before .before .before .before .before .before .before .before .values .ensures) (c .before .before .before .before .before .before .before .before .before .if1 .left) (rw (c .before .before .before .before .before .before .number-at .ensures, c .before .before .before .before .number-at2 .ensures) at (c .before .before .before .dict-step .ensures)) (c .before .before .if2 .left)
     (rw (c .before .stop-of .ensures) at (c .stop-of2 .ensures))
 
--- src/lib.rt:244:5
+-- src/lib.rt:474:5
 dict-dict-of-requires-2 : (t : ℕ) → dict-lts.Need-dict-of-requires-2 (values-below t, values.Post, number-at-reads.Asked, number-at-reads.Learnt, dict-step-reads.Asked, dict-step-reads.Learnt, dict-of-reads.Asked, dict-of-reads.Learnt, stop-of-reads.Asked, stop-of-reads.Learnt) (dict-at t) dict.Post dict-Inv-loop dict-μ-loop
 dict-dict-of-requires-2 t c κs =
     pairing-last (c .before .before .loop .inv)
 
--- src/lib.rt:202:1
+-- src/lib.rt:420:1
 dict-returns-3 : (t : ℕ) → dict-lts.Need-returns-3 (values-below t, values.Post, number-at-reads.Asked, number-at-reads.Learnt, dict-step-reads.Asked, dict-step-reads.Learnt, dict-of-reads.Asked, dict-of-reads.Learnt, stop-of-reads.Asked, stop-of-reads.Learnt) (dict-at t) dict.Post dict-Inv-loop dict-μ-loop
 dict-returns-3 t c =
     node-done (c .before .before .before .before .before .before .pre .1 .0) (c .before .before .before .before .before .before .pre .1 .1 .0) (add-one _) refl (dict-whole (c .before .before .before .before .before .before .pre .1 .0 .sound) (c .before .before .before .before .before .before .pre .1 .1 .0) _ (add-one _) refl (c .before .before .before .before .before .before .pre .1 .1 .1))
     (pairing-end (c .before .before .before .loop .inv) (c .before .before .loop-test .left) (c .dict-of2 .ensures .0) (c .dict-of2 .ensures .1))
 
--- src/lib.rt:71:9
-expr-node-at-requires : (t : ℕ) → expr-lts.Need-node-at-requires (node-at-reads.Asked, node-at-reads.Learnt, literal-reads.Asked, literal-reads.Learnt, given-reads.Asked, given-reads.Learnt, variable-reads.Asked, variable-reads.Learnt, call-below t, call.Post, operands-below t, operands.Post, list-below t, list.Post, dict-below t, dict.Post) (expr-at t) expr.Post
+-- src/lib.rt:78:9
+expr-node-at-requires : (t : ℕ) → expr-lts.Need-node-at-requires (node-at-reads.Asked, node-at-reads.Learnt, literal-reads.Asked, literal-reads.Learnt, given-reads.Asked, given-reads.Learnt, variable-reads.Asked, variable-reads.Learnt, operands-below t, operands.Post, pair-below t, pair.Post, call-below t, call.Post, list-below t, list.Post, dict-below t, dict.Post) (expr-at t) expr.Post
 expr-node-at-requires t c κs =
     (c .before .pre .1 .0 .sound .headed, (c .before .pre .1 .0 .nodes-at, c .before .pre .1 .1 .there))
 
--- src/lib.rt:74:21
-expr-literal-requires : (t : ℕ) → expr-lts.Need-literal-requires (node-at-reads.Asked, node-at-reads.Learnt, literal-reads.Asked, literal-reads.Learnt, given-reads.Asked, given-reads.Learnt, variable-reads.Asked, variable-reads.Learnt, call-below t, call.Post, operands-below t, operands.Post, list-below t, list.Post, dict-below t, dict.Post) (expr-at t) expr.Post
+-- src/lib.rt:81:21
+expr-literal-requires : (t : ℕ) → expr-lts.Need-literal-requires (node-at-reads.Asked, node-at-reads.Learnt, literal-reads.Asked, literal-reads.Learnt, given-reads.Asked, given-reads.Learnt, variable-reads.Asked, variable-reads.Learnt, operands-below t, operands.Post, pair-below t, pair.Post, call-below t, call.Post, list-below t, list.Post, dict-below t, dict.Post) (expr-at t) expr.Post
 expr-literal-requires t c κs =
     tt
 
--- src/lib.rt:74:15
-expr-given-requires : (t : ℕ) → expr-lts.Need-given-requires (node-at-reads.Asked, node-at-reads.Learnt, literal-reads.Asked, literal-reads.Learnt, given-reads.Asked, given-reads.Learnt, variable-reads.Asked, variable-reads.Learnt, call-below t, call.Post, operands-below t, operands.Post, list-below t, list.Post, dict-below t, dict.Post) (expr-at t) expr.Post
+-- src/lib.rt:81:15
+expr-given-requires : (t : ℕ) → expr-lts.Need-given-requires (node-at-reads.Asked, node-at-reads.Learnt, literal-reads.Asked, literal-reads.Learnt, given-reads.Asked, given-reads.Learnt, variable-reads.Asked, variable-reads.Learnt, operands-below t, operands.Post, pair-below t, pair.Post, call-below t, call.Post, list-below t, list.Post, dict-below t, dict.Post) (expr-at t) expr.Post
 expr-given-requires t c κs =
     tt
 
--- src/lib.rt:75:43
-expr-cast-variable : (t : ℕ) → expr-lts.Need-cast-variable (node-at-reads.Asked, node-at-reads.Learnt, literal-reads.Asked, literal-reads.Learnt, given-reads.Asked, given-reads.Learnt, variable-reads.Asked, variable-reads.Learnt, call-below t, call.Post, operands-below t, operands.Post, list-below t, list.Post, dict-below t, dict.Post) (expr-at t) expr.Post
+-- src/lib.rt:82:43
+expr-cast-variable : (t : ℕ) → expr-lts.Need-cast-variable (node-at-reads.Asked, node-at-reads.Learnt, literal-reads.Asked, literal-reads.Learnt, given-reads.Asked, given-reads.Learnt, variable-reads.Asked, variable-reads.Learnt, operands-below t, operands.Post, pair-below t, pair.Post, call-below t, call.Post, list-below t, list.Post, dict-below t, dict.Post) (expr-at t) expr.Post
 expr-cast-variable t c =
     search needs
 
--- src/lib.rt:75:21
-expr-variable-requires : (t : ℕ) → expr-lts.Need-variable-requires (node-at-reads.Asked, node-at-reads.Learnt, literal-reads.Asked, literal-reads.Learnt, given-reads.Asked, given-reads.Learnt, variable-reads.Asked, variable-reads.Learnt, call-below t, call.Post, operands-below t, operands.Post, list-below t, list.Post, dict-below t, dict.Post) (expr-at t) expr.Post
+-- src/lib.rt:82:21
+expr-variable-requires : (t : ℕ) → expr-lts.Need-variable-requires (node-at-reads.Asked, node-at-reads.Learnt, literal-reads.Asked, literal-reads.Learnt, given-reads.Asked, given-reads.Learnt, variable-reads.Asked, variable-reads.Learnt, operands-below t, operands.Post, pair-below t, pair.Post, call-below t, call.Post, list-below t, list.Post, dict-below t, dict.Post) (expr-at t) expr.Post
 expr-variable-requires t c κs =
     variable-there (c .before .before .before .before .pre .1 .0) (c .before .before .before .before .pre .1 .1) (c .before .before .node-at .ensures) (c .before .match .keys2) refl
 
--- src/lib.rt:75:15
-expr-given-requires-2 : (t : ℕ) → expr-lts.Need-given-requires-2 (node-at-reads.Asked, node-at-reads.Learnt, literal-reads.Asked, literal-reads.Learnt, given-reads.Asked, given-reads.Learnt, variable-reads.Asked, variable-reads.Learnt, call-below t, call.Post, operands-below t, operands.Post, list-below t, list.Post, dict-below t, dict.Post) (expr-at t) expr.Post
+-- src/lib.rt:82:15
+expr-given-requires-2 : (t : ℕ) → expr-lts.Need-given-requires-2 (node-at-reads.Asked, node-at-reads.Learnt, literal-reads.Asked, literal-reads.Learnt, given-reads.Asked, given-reads.Learnt, variable-reads.Asked, variable-reads.Learnt, operands-below t, operands.Post, pair-below t, pair.Post, call-below t, call.Post, list-below t, list.Post, dict-below t, dict.Post) (expr-at t) expr.Post
 expr-given-requires-2 t c κs =
     tt
 
--- src/lib.rt:77:77
-expr-sub-call : (t : ℕ) → expr-lts.Need-sub-call (node-at-reads.Asked, node-at-reads.Learnt, literal-reads.Asked, literal-reads.Learnt, given-reads.Asked, given-reads.Learnt, variable-reads.Asked, variable-reads.Learnt, call-below t, call.Post, operands-below t, operands.Post, list-below t, list.Post, dict-below t, dict.Post) (expr-at t) expr.Post
-expr-sub-call t c =
-    omega (arith, shallow (c .before .before .before .before .before .pre .1 .0 .sound) (c .before .before .before .before .before .pre .1 .1))
-
--- src/lib.rt:77:15
-expr-call-requires : (t : ℕ) → expr-lts.Need-call-requires (node-at-reads.Asked, node-at-reads.Learnt, literal-reads.Asked, literal-reads.Learnt, given-reads.Asked, given-reads.Learnt, variable-reads.Asked, variable-reads.Learnt, call-below t, call.Post, operands-below t, operands.Post, list-below t, list.Post, dict-below t, dict.Post) (expr-at t) expr.Post
-expr-call-requires t c κs =
-    (omega (arith, c .before .before .before .before .before .pre .0, shallow (c .before .before .before .before .before .pre .1 .0 .sound) (c .before .before .before .before .before .pre .1 .1)), ((c .before .before .before .before .before .pre .1 .0), (inner (c .before .before .before .before .before .pre .1 .0 .sound) (c .before .before .before .before .before .pre .1 .1) (c .before .before .before .node-at .ensures), c .before .before .match .keys3)))
-
--- src/lib.rt:78:81
-expr-sub-operands : (t : ℕ) → expr-lts.Need-sub-operands (node-at-reads.Asked, node-at-reads.Learnt, literal-reads.Asked, literal-reads.Learnt, given-reads.Asked, given-reads.Learnt, variable-reads.Asked, variable-reads.Learnt, call-below t, call.Post, operands-below t, operands.Post, list-below t, list.Post, dict-below t, dict.Post) (expr-at t) expr.Post
+-- src/lib.rt:93:13
+expr-sub-operands : (t : ℕ) → expr-lts.Need-sub-operands (node-at-reads.Asked, node-at-reads.Learnt, literal-reads.Asked, literal-reads.Learnt, given-reads.Asked, given-reads.Learnt, variable-reads.Asked, variable-reads.Learnt, operands-below t, operands.Post, pair-below t, pair.Post, call-below t, call.Post, list-below t, list.Post, dict-below t, dict.Post) (expr-at t) expr.Post
 expr-sub-operands t c =
     omega (arith, shallow (c .before .before .before .before .before .pre .1 .0 .sound) (c .before .before .before .before .before .pre .1 .1))
 
--- src/lib.rt:78:15
-expr-operands-requires : (t : ℕ) → expr-lts.Need-operands-requires (node-at-reads.Asked, node-at-reads.Learnt, literal-reads.Asked, literal-reads.Learnt, given-reads.Asked, given-reads.Learnt, variable-reads.Asked, variable-reads.Learnt, call-below t, call.Post, operands-below t, operands.Post, list-below t, list.Post, dict-below t, dict.Post) (expr-at t) expr.Post
+-- src/lib.rt:83:15
+expr-operands-requires : (t : ℕ) → expr-lts.Need-operands-requires (node-at-reads.Asked, node-at-reads.Learnt, literal-reads.Asked, literal-reads.Learnt, given-reads.Asked, given-reads.Learnt, variable-reads.Asked, variable-reads.Learnt, operands-below t, operands.Post, pair-below t, pair.Post, call-below t, call.Post, list-below t, list.Post, dict-below t, dict.Post) (expr-at t) expr.Post
 expr-operands-requires t c κs =
-    (omega (arith, c .before .before .before .before .before .pre .0, shallow (c .before .before .before .before .before .pre .1 .0 .sound) (c .before .before .before .before .before .pre .1 .1)), ((c .before .before .before .before .before .pre .1 .0), (inner (c .before .before .before .before .before .pre .1 .0 .sound) (c .before .before .before .before .before .pre .1 .1) (c .before .before .before .node-at .ensures), operand-attribute (c .before .before .before .before .before .pre .1 .0 .sound) (inner (c .before .before .before .before .before .pre .1 .0 .sound) (c .before .before .before .before .before .pre .1 .1) (c .before .before .before .node-at .ensures)) (c .before .before .match .keys4))))
+    (omega (arith, c .before .before .before .before .before .pre .0, shallow (c .before .before .before .before .before .pre .1 .0 .sound) (c .before .before .before .before .before .pre .1 .1)), ((c .before .before .before .before .before .pre .1 .0), (inner (c .before .before .before .before .before .pre .1 .0 .sound) (c .before .before .before .before .before .pre .1 .1) (c .before .before .before .node-at .ensures), operand-low (c .before .before .before .before .before .pre .1 .0 .sound) (inner (c .before .before .before .before .before .pre .1 .0 .sound) (c .before .before .before .before .before .pre .1 .1) (c .before .before .before .node-at .ensures)) (omega (arith, c .before .before .match .keys3)) (omega (arith, c .before .before .match .keys3)))))
 
--- src/lib.rt:79:77
-expr-sub-list : (t : ℕ) → expr-lts.Need-sub-list (node-at-reads.Asked, node-at-reads.Learnt, literal-reads.Asked, literal-reads.Learnt, given-reads.Asked, given-reads.Learnt, variable-reads.Asked, variable-reads.Learnt, call-below t, call.Post, operands-below t, operands.Post, list-below t, list.Post, dict-below t, dict.Post) (expr-at t) expr.Post
+-- src/lib.rt:106:13
+expr-sub-pair : (t : ℕ) → expr-lts.Need-sub-pair (node-at-reads.Asked, node-at-reads.Learnt, literal-reads.Asked, literal-reads.Learnt, given-reads.Asked, given-reads.Learnt, variable-reads.Asked, variable-reads.Learnt, operands-below t, operands.Post, pair-below t, pair.Post, call-below t, call.Post, list-below t, list.Post, dict-below t, dict.Post) (expr-at t) expr.Post
+expr-sub-pair t c =
+    omega (arith, shallow (c .before .before .before .before .before .pre .1 .0 .sound) (c .before .before .before .before .before .pre .1 .1))
+
+-- src/lib.rt:96:15
+expr-pair-requires : (t : ℕ) → expr-lts.Need-pair-requires (node-at-reads.Asked, node-at-reads.Learnt, literal-reads.Asked, literal-reads.Learnt, given-reads.Asked, given-reads.Learnt, variable-reads.Asked, variable-reads.Learnt, operands-below t, operands.Post, pair-below t, pair.Post, call-below t, call.Post, list-below t, list.Post, dict-below t, dict.Post) (expr-at t) expr.Post
+expr-pair-requires t c κs =
+    (omega (arith, c .before .before .before .before .before .pre .0, shallow (c .before .before .before .before .before .pre .1 .0 .sound) (c .before .before .before .before .before .pre .1 .1)), ((c .before .before .before .before .before .pre .1 .0), (inner (c .before .before .before .before .before .pre .1 .0 .sound) (c .before .before .before .before .before .pre .1 .1) (c .before .before .before .node-at .ensures), c .before .before .match .keys4)))
+
+-- src/lib.rt:119:13
+expr-sub-call : (t : ℕ) → expr-lts.Need-sub-call (node-at-reads.Asked, node-at-reads.Learnt, literal-reads.Asked, literal-reads.Learnt, given-reads.Asked, given-reads.Learnt, variable-reads.Asked, variable-reads.Learnt, operands-below t, operands.Post, pair-below t, pair.Post, call-below t, call.Post, list-below t, list.Post, dict-below t, dict.Post) (expr-at t) expr.Post
+expr-sub-call t c =
+    omega (arith, shallow (c .before .before .before .before .before .pre .1 .0 .sound) (c .before .before .before .before .before .pre .1 .1))
+
+-- src/lib.rt:109:15
+expr-call-requires : (t : ℕ) → expr-lts.Need-call-requires (node-at-reads.Asked, node-at-reads.Learnt, literal-reads.Asked, literal-reads.Learnt, given-reads.Asked, given-reads.Learnt, variable-reads.Asked, variable-reads.Learnt, operands-below t, operands.Post, pair-below t, pair.Post, call-below t, call.Post, list-below t, list.Post, dict-below t, dict.Post) (expr-at t) expr.Post
+expr-call-requires t c κs =
+    (omega (arith, c .before .before .before .before .before .pre .0, shallow (c .before .before .before .before .before .pre .1 .0 .sound) (c .before .before .before .before .before .pre .1 .1)), ((c .before .before .before .before .before .pre .1 .0), (inner (c .before .before .before .before .before .pre .1 .0 .sound) (c .before .before .before .before .before .pre .1 .1) (c .before .before .before .node-at .ensures), c .before .before .match .keys5)))
+
+-- src/lib.rt:132:13
+expr-sub-operands-2 : (t : ℕ) → expr-lts.Need-sub-operands-2 (node-at-reads.Asked, node-at-reads.Learnt, literal-reads.Asked, literal-reads.Learnt, given-reads.Asked, given-reads.Learnt, variable-reads.Asked, variable-reads.Learnt, operands-below t, operands.Post, pair-below t, pair.Post, call-below t, call.Post, list-below t, list.Post, dict-below t, dict.Post) (expr-at t) expr.Post
+expr-sub-operands-2 t c =
+    omega (arith, shallow (c .before .before .before .before .before .pre .1 .0 .sound) (c .before .before .before .before .before .pre .1 .1))
+
+-- src/lib.rt:122:15
+expr-operands-requires-2 : (t : ℕ) → expr-lts.Need-operands-requires-2 (node-at-reads.Asked, node-at-reads.Learnt, literal-reads.Asked, literal-reads.Learnt, given-reads.Asked, given-reads.Learnt, variable-reads.Asked, variable-reads.Learnt, operands-below t, operands.Post, pair-below t, pair.Post, call-below t, call.Post, list-below t, list.Post, dict-below t, dict.Post) (expr-at t) expr.Post
+expr-operands-requires-2 t c κs =
+    (omega (arith, c .before .before .before .before .before .pre .0, shallow (c .before .before .before .before .before .pre .1 .0 .sound) (c .before .before .before .before .before .pre .1 .1)), ((c .before .before .before .before .before .pre .1 .0), (inner (c .before .before .before .before .before .pre .1 .0 .sound) (c .before .before .before .before .before .pre .1 .1) (c .before .before .before .node-at .ensures), operand-attribute (c .before .before .before .before .before .pre .1 .0 .sound) (inner (c .before .before .before .before .before .pre .1 .0 .sound) (c .before .before .before .before .before .pre .1 .1) (c .before .before .before .node-at .ensures)) (c .before .before .match .keys6))))
+
+-- src/lib.rt:145:13
+expr-sub-list : (t : ℕ) → expr-lts.Need-sub-list (node-at-reads.Asked, node-at-reads.Learnt, literal-reads.Asked, literal-reads.Learnt, given-reads.Asked, given-reads.Learnt, variable-reads.Asked, variable-reads.Learnt, operands-below t, operands.Post, pair-below t, pair.Post, call-below t, call.Post, list-below t, list.Post, dict-below t, dict.Post) (expr-at t) expr.Post
 expr-sub-list t c =
     omega (arith, shallow (c .before .before .before .before .before .pre .1 .0 .sound) (c .before .before .before .before .before .pre .1 .1))
 
--- src/lib.rt:79:15
-expr-list-requires : (t : ℕ) → expr-lts.Need-list-requires (node-at-reads.Asked, node-at-reads.Learnt, literal-reads.Asked, literal-reads.Learnt, given-reads.Asked, given-reads.Learnt, variable-reads.Asked, variable-reads.Learnt, call-below t, call.Post, operands-below t, operands.Post, list-below t, list.Post, dict-below t, dict.Post) (expr-at t) expr.Post
+-- src/lib.rt:135:15
+expr-list-requires : (t : ℕ) → expr-lts.Need-list-requires (node-at-reads.Asked, node-at-reads.Learnt, literal-reads.Asked, literal-reads.Learnt, given-reads.Asked, given-reads.Learnt, variable-reads.Asked, variable-reads.Learnt, operands-below t, operands.Post, pair-below t, pair.Post, call-below t, call.Post, list-below t, list.Post, dict-below t, dict.Post) (expr-at t) expr.Post
 expr-list-requires t c κs =
-    (omega (arith, c .before .before .before .before .before .pre .0, shallow (c .before .before .before .before .before .pre .1 .0 .sound) (c .before .before .before .before .before .pre .1 .1)), ((c .before .before .before .before .before .pre .1 .0), (inner (c .before .before .before .before .before .pre .1 .0 .sound) (c .before .before .before .before .before .pre .1 .1) (c .before .before .before .node-at .ensures), c .before .before .match .keys5)))
+    (omega (arith, c .before .before .before .before .before .pre .0, shallow (c .before .before .before .before .before .pre .1 .0 .sound) (c .before .before .before .before .before .pre .1 .1)), ((c .before .before .before .before .before .pre .1 .0), (inner (c .before .before .before .before .before .pre .1 .0 .sound) (c .before .before .before .before .before .pre .1 .1) (c .before .before .before .node-at .ensures), c .before .before .match .keys7)))
 
--- src/lib.rt:80:77
-expr-sub-dict : (t : ℕ) → expr-lts.Need-sub-dict (node-at-reads.Asked, node-at-reads.Learnt, literal-reads.Asked, literal-reads.Learnt, given-reads.Asked, given-reads.Learnt, variable-reads.Asked, variable-reads.Learnt, call-below t, call.Post, operands-below t, operands.Post, list-below t, list.Post, dict-below t, dict.Post) (expr-at t) expr.Post
+-- src/lib.rt:158:13
+expr-sub-dict : (t : ℕ) → expr-lts.Need-sub-dict (node-at-reads.Asked, node-at-reads.Learnt, literal-reads.Asked, literal-reads.Learnt, given-reads.Asked, given-reads.Learnt, variable-reads.Asked, variable-reads.Learnt, operands-below t, operands.Post, pair-below t, pair.Post, call-below t, call.Post, list-below t, list.Post, dict-below t, dict.Post) (expr-at t) expr.Post
 expr-sub-dict t c =
     omega (arith, shallow (c .before .before .before .before .before .pre .1 .0 .sound) (c .before .before .before .before .before .pre .1 .1))
 
--- src/lib.rt:80:15
-expr-dict-requires : (t : ℕ) → expr-lts.Need-dict-requires (node-at-reads.Asked, node-at-reads.Learnt, literal-reads.Asked, literal-reads.Learnt, given-reads.Asked, given-reads.Learnt, variable-reads.Asked, variable-reads.Learnt, call-below t, call.Post, operands-below t, operands.Post, list-below t, list.Post, dict-below t, dict.Post) (expr-at t) expr.Post
+-- src/lib.rt:148:15
+expr-dict-requires : (t : ℕ) → expr-lts.Need-dict-requires (node-at-reads.Asked, node-at-reads.Learnt, literal-reads.Asked, literal-reads.Learnt, given-reads.Asked, given-reads.Learnt, variable-reads.Asked, variable-reads.Learnt, operands-below t, operands.Post, pair-below t, pair.Post, call-below t, call.Post, list-below t, list.Post, dict-below t, dict.Post) (expr-at t) expr.Post
 expr-dict-requires t c κs =
-    (omega (arith, c .before .before .before .before .before .pre .0, shallow (c .before .before .before .before .before .pre .1 .0 .sound) (c .before .before .before .before .before .pre .1 .1)), ((c .before .before .before .before .before .pre .1 .0), (inner (c .before .before .before .before .before .pre .1 .0 .sound) (c .before .before .before .before .before .pre .1 .1) (c .before .before .before .node-at .ensures), c .before .before .match .keys6)))
+    (omega (arith, c .before .before .before .before .before .pre .0, shallow (c .before .before .before .before .before .pre .1 .0 .sound) (c .before .before .before .before .before .pre .1 .1)), ((c .before .before .before .before .before .pre .1 .0), (inner (c .before .before .before .before .before .pre .1 .0 .sound) (c .before .before .before .before .before .pre .1 .1) (c .before .before .before .node-at .ensures), c .before .before .match .keys8)))
 
--- src/lib.rt:76:86
-expr-sub-operands-2 : (t : ℕ) → expr-lts.Need-sub-operands-2 (node-at-reads.Asked, node-at-reads.Learnt, literal-reads.Asked, literal-reads.Learnt, given-reads.Asked, given-reads.Learnt, variable-reads.Asked, variable-reads.Learnt, call-below t, call.Post, operands-below t, operands.Post, list-below t, list.Post, dict-below t, dict.Post) (expr-at t) expr.Post
-expr-sub-operands-2 t c =
+-- src/lib.rt:171:13
+expr-sub-operands-3 : (t : ℕ) → expr-lts.Need-sub-operands-3 (node-at-reads.Asked, node-at-reads.Learnt, literal-reads.Asked, literal-reads.Learnt, given-reads.Asked, given-reads.Learnt, variable-reads.Asked, variable-reads.Learnt, operands-below t, operands.Post, pair-below t, pair.Post, call-below t, call.Post, list-below t, list.Post, dict-below t, dict.Post) (expr-at t) expr.Post
+expr-sub-operands-3 t c =
     omega (arith, shallow (c .before .before .before .before .before .before .before .pre .1 .0 .sound) (c .before .before .before .before .before .before .before .pre .1 .1))
 
--- src/lib.rt:76:20
-expr-operands-requires-2 : (t : ℕ) → expr-lts.Need-operands-requires-2 (node-at-reads.Asked, node-at-reads.Learnt, literal-reads.Asked, literal-reads.Learnt, given-reads.Asked, given-reads.Learnt, variable-reads.Asked, variable-reads.Learnt, call-below t, call.Post, operands-below t, operands.Post, list-below t, list.Post, dict-below t, dict.Post) (expr-at t) expr.Post
-expr-operands-requires-2 t c κs =
-    (omega (arith, c .before .before .before .before .before .before .before .pre .0, shallow (c .before .before .before .before .before .before .before .pre .1 .0 .sound) (c .before .before .before .before .before .before .before .pre .1 .1)), ((c .before .before .before .before .before .before .before .pre .1 .0), (inner (c .before .before .before .before .before .before .before .pre .1 .0 .sound) (c .before .before .before .before .before .before .before .pre .1 .1) (c .before .before .before .before .before .node-at .ensures), operand-low (c .before .before .before .before .before .before .before .pre .1 .0 .sound) (inner (c .before .before .before .before .before .before .before .pre .1 .0 .sound) (c .before .before .before .before .before .before .before .pre .1 .1) (c .before .before .before .before .before .node-at .ensures)) (above-21 (c .before .before .before .if1 .left) (c .before .before .before .before .match .rest .0 .0 .0 .0 .0 .1) (c .before .before .before .before .match .rest .0 .0 .0 .0 .1)) (omega (arith, c .before .before .if2 .taken)))))
-
--- src/lib.rt:81:86
-expr-sub-operands-3 : (t : ℕ) → expr-lts.Need-sub-operands-3 (node-at-reads.Asked, node-at-reads.Learnt, literal-reads.Asked, literal-reads.Learnt, given-reads.Asked, given-reads.Learnt, variable-reads.Asked, variable-reads.Learnt, call-below t, call.Post, operands-below t, operands.Post, list-below t, list.Post, dict-below t, dict.Post) (expr-at t) expr.Post
-expr-sub-operands-3 t c =
-    omega (arith, shallow (c .before .before .before .before .before .before .before .before .pre .1 .0 .sound) (c .before .before .before .before .before .before .before .before .pre .1 .1))
-
--- src/lib.rt:81:20
-expr-operands-requires-3 : (t : ℕ) → expr-lts.Need-operands-requires-3 (node-at-reads.Asked, node-at-reads.Learnt, literal-reads.Asked, literal-reads.Learnt, given-reads.Asked, given-reads.Learnt, variable-reads.Asked, variable-reads.Learnt, call-below t, call.Post, operands-below t, operands.Post, list-below t, list.Post, dict-below t, dict.Post) (expr-at t) expr.Post
+-- src/lib.rt:161:20
+expr-operands-requires-3 : (t : ℕ) → expr-lts.Need-operands-requires-3 (node-at-reads.Asked, node-at-reads.Learnt, literal-reads.Asked, literal-reads.Learnt, given-reads.Asked, given-reads.Learnt, variable-reads.Asked, variable-reads.Learnt, operands-below t, operands.Post, pair-below t, pair.Post, call-below t, call.Post, list-below t, list.Post, dict-below t, dict.Post) (expr-at t) expr.Post
 expr-operands-requires-3 t c κs =
-    let m = c .before .before .before .before .before .match .rest in
-    (omega (arith, c .before .before .before .before .before .before .before .before .pre .0, shallow (c .before .before .before .before .before .before .before .before .pre .1 .0 .sound) (c .before .before .before .before .before .before .before .before .pre .1 .1)), ((c .before .before .before .before .before .before .before .before .pre .1 .0), (inner (c .before .before .before .before .before .before .before .before .pre .1 .0 .sound) (c .before .before .before .before .before .before .before .before .pre .1 .1) (c .before .before .before .before .before .before .node-at .ensures), operand-high (c .before .before .before .before .before .before .before .before .pre .1 .0 .sound) (inner (c .before .before .before .before .before .before .before .before .pre .1 .0 .sound) (c .before .before .before .before .before .before .before .before .pre .1 .1) (c .before .before .before .before .before .before .node-at .ensures)) (above-27 (c .before .before .before .if2 .left) (m .0 .0 .0 .1) (m .0 .0 .1) (m .0 .1) (m .1)) (omega (arith, c .before .before .if3 .taken)))))
+    let m = c .before .before .before .before .match .rest in
+    (omega (arith, c .before .before .before .before .before .before .before .pre .0, shallow (c .before .before .before .before .before .before .before .pre .1 .0 .sound) (c .before .before .before .before .before .before .before .pre .1 .1)), ((c .before .before .before .before .before .before .before .pre .1 .0), (inner (c .before .before .before .before .before .before .before .pre .1 .0 .sound) (c .before .before .before .before .before .before .before .pre .1 .1) (c .before .before .before .before .before .node-at .ensures), operand-high (c .before .before .before .before .before .before .before .pre .1 .0 .sound) (inner (c .before .before .before .before .before .before .before .pre .1 .0 .sound) (c .before .before .before .before .before .before .before .pre .1 .1) (c .before .before .before .before .before .node-at .ensures)) (above-27 (c .before .before .before .if1 .left) (m .0 .0 .0 .0 .0 .0 .0 .1) (m .0 .0 .0 .0 .0 .0 .1) (m .0 .0 .0 .0 .0 .1) (m .0 .0 .0 .0 .1) (m .0 .0 .0 .1) (m .0 .0 .1) (m .0 .1) (m .1)) (omega (arith, c .before .before .if2 .taken)))))
 
--- src/lib.rt:82:14
-expr-given-requires-3 : (t : ℕ) → expr-lts.Need-given-requires-3 (node-at-reads.Asked, node-at-reads.Learnt, literal-reads.Asked, literal-reads.Learnt, given-reads.Asked, given-reads.Learnt, variable-reads.Asked, variable-reads.Learnt, call-below t, call.Post, operands-below t, operands.Post, list-below t, list.Post, dict-below t, dict.Post) (expr-at t) expr.Post
+-- src/lib.rt:174:14
+expr-given-requires-3 : (t : ℕ) → expr-lts.Need-given-requires-3 (node-at-reads.Asked, node-at-reads.Learnt, literal-reads.Asked, literal-reads.Learnt, given-reads.Asked, given-reads.Learnt, variable-reads.Asked, variable-reads.Learnt, operands-below t, operands.Post, pair-below t, pair.Post, call-below t, call.Post, list-below t, list.Post, dict-below t, dict.Post) (expr-at t) expr.Post
 expr-given-requires-3 t c κs =
     tt
 
--- src/lib.rt:51:1
-expr-returns : (t : ℕ) → expr-lts.Need-returns (node-at-reads.Asked, node-at-reads.Learnt, literal-reads.Asked, literal-reads.Learnt, given-reads.Asked, given-reads.Learnt, variable-reads.Asked, variable-reads.Learnt, call-below t, call.Post, operands-below t, operands.Post, list-below t, list.Post, dict-below t, dict.Post) (expr-at t) expr.Post
+-- src/lib.rt:58:1
+expr-returns : (t : ℕ) → expr-lts.Need-returns (node-at-reads.Asked, node-at-reads.Learnt, literal-reads.Asked, literal-reads.Learnt, given-reads.Asked, given-reads.Learnt, variable-reads.Asked, variable-reads.Learnt, operands-below t, operands.Post, pair-below t, pair.Post, call-below t, call.Post, list-below t, list.Post, dict-below t, dict.Post) (expr-at t) expr.Post
 expr-returns t c =
     rw (c .given .ensures .2) (literal-done (c .before .before .before .before .before .pre .1 .0) (c .before .before .before .before .before .pre .1 .1) (c .before .before .before .node-at .ensures) (c .before .before .match .keys1) (c .given .ensures .0) (c .given .ensures .1 ∙ c .before .literal .ensures))
 
--- src/lib.rt:51:1
-expr-returns-2 : (t : ℕ) → expr-lts.Need-returns-2 (node-at-reads.Asked, node-at-reads.Learnt, literal-reads.Asked, literal-reads.Learnt, given-reads.Asked, given-reads.Learnt, variable-reads.Asked, variable-reads.Learnt, call-below t, call.Post, operands-below t, operands.Post, list-below t, list.Post, dict-below t, dict.Post) (expr-at t) expr.Post
+-- src/lib.rt:58:1
+expr-returns-2 : (t : ℕ) → expr-lts.Need-returns-2 (node-at-reads.Asked, node-at-reads.Learnt, literal-reads.Asked, literal-reads.Learnt, given-reads.Asked, given-reads.Learnt, variable-reads.Asked, variable-reads.Learnt, operands-below t, operands.Post, pair-below t, pair.Post, call-below t, call.Post, list-below t, list.Post, dict-below t, dict.Post) (expr-at t) expr.Post
 expr-returns-2 t c =
     rw (c .given2 .ensures .2) (variable-done (c .before .before .before .before .before .before .pre .1 .0) (c .before .before .before .before .before .before .pre .1 .1) (c .before .before .before .before .node-at .ensures) (c .before .before .before .match .keys2) refl (c .given2 .ensures .0) (c .given2 .ensures .1) (c .before .variable .ensures))
 
--- src/lib.rt:51:1
-expr-returns-3 : (t : ℕ) → expr-lts.Need-returns-3 (node-at-reads.Asked, node-at-reads.Learnt, literal-reads.Asked, literal-reads.Learnt, given-reads.Asked, given-reads.Learnt, variable-reads.Asked, variable-reads.Learnt, call-below t, call.Post, operands-below t, operands.Post, list-below t, list.Post, dict-below t, dict.Post) (expr-at t) expr.Post
+-- src/lib.rt:58:1
+expr-returns-3 : (t : ℕ) → expr-lts.Need-returns-3 (node-at-reads.Asked, node-at-reads.Learnt, literal-reads.Asked, literal-reads.Learnt, given-reads.Asked, given-reads.Learnt, variable-reads.Asked, variable-reads.Learnt, operands-below t, operands.Post, pair-below t, pair.Post, call-below t, call.Post, list-below t, list.Post, dict-below t, dict.Post) (expr-at t) expr.Post
 expr-returns-3 t c =
-    expr-done (c .before .before .before .before .before .before .pre .1 .0) (c .before .before .before .before .before .before .pre .1 .1) (c .before .before .before .before .node-at .ensures) (c .call .ensures)
-
--- src/lib.rt:51:1
-expr-returns-4 : (t : ℕ) → expr-lts.Need-returns-4 (node-at-reads.Asked, node-at-reads.Learnt, literal-reads.Asked, literal-reads.Learnt, given-reads.Asked, given-reads.Learnt, variable-reads.Asked, variable-reads.Learnt, call-below t, call.Post, operands-below t, operands.Post, list-below t, list.Post, dict-below t, dict.Post) (expr-at t) expr.Post
-expr-returns-4 t c =
     expr-done (c .before .before .before .before .before .before .pre .1 .0) (c .before .before .before .before .before .before .pre .1 .1) (c .before .before .before .before .node-at .ensures) (c .operands .ensures)
 
--- src/lib.rt:51:1
-expr-returns-5 : (t : ℕ) → expr-lts.Need-returns-5 (node-at-reads.Asked, node-at-reads.Learnt, literal-reads.Asked, literal-reads.Learnt, given-reads.Asked, given-reads.Learnt, variable-reads.Asked, variable-reads.Learnt, call-below t, call.Post, operands-below t, operands.Post, list-below t, list.Post, dict-below t, dict.Post) (expr-at t) expr.Post
+-- src/lib.rt:58:1
+expr-returns-4 : (t : ℕ) → expr-lts.Need-returns-4 (node-at-reads.Asked, node-at-reads.Learnt, literal-reads.Asked, literal-reads.Learnt, given-reads.Asked, given-reads.Learnt, variable-reads.Asked, variable-reads.Learnt, operands-below t, operands.Post, pair-below t, pair.Post, call-below t, call.Post, list-below t, list.Post, dict-below t, dict.Post) (expr-at t) expr.Post
+expr-returns-4 t c =
+    expr-done (c .before .before .before .before .before .before .pre .1 .0) (c .before .before .before .before .before .before .pre .1 .1) (c .before .before .before .before .node-at .ensures) (c .pair .ensures)
+
+-- src/lib.rt:58:1
+expr-returns-5 : (t : ℕ) → expr-lts.Need-returns-5 (node-at-reads.Asked, node-at-reads.Learnt, literal-reads.Asked, literal-reads.Learnt, given-reads.Asked, given-reads.Learnt, variable-reads.Asked, variable-reads.Learnt, operands-below t, operands.Post, pair-below t, pair.Post, call-below t, call.Post, list-below t, list.Post, dict-below t, dict.Post) (expr-at t) expr.Post
 expr-returns-5 t c =
+    expr-done (c .before .before .before .before .before .before .pre .1 .0) (c .before .before .before .before .before .before .pre .1 .1) (c .before .before .before .before .node-at .ensures) (c .call .ensures)
+
+-- src/lib.rt:58:1
+expr-returns-6 : (t : ℕ) → expr-lts.Need-returns-6 (node-at-reads.Asked, node-at-reads.Learnt, literal-reads.Asked, literal-reads.Learnt, given-reads.Asked, given-reads.Learnt, variable-reads.Asked, variable-reads.Learnt, operands-below t, operands.Post, pair-below t, pair.Post, call-below t, call.Post, list-below t, list.Post, dict-below t, dict.Post) (expr-at t) expr.Post
+expr-returns-6 t c =
+    expr-done (c .before .before .before .before .before .before .pre .1 .0) (c .before .before .before .before .before .before .pre .1 .1) (c .before .before .before .before .node-at .ensures) (c .operands2 .ensures)
+
+-- src/lib.rt:58:1
+expr-returns-7 : (t : ℕ) → expr-lts.Need-returns-7 (node-at-reads.Asked, node-at-reads.Learnt, literal-reads.Asked, literal-reads.Learnt, given-reads.Asked, given-reads.Learnt, variable-reads.Asked, variable-reads.Learnt, operands-below t, operands.Post, pair-below t, pair.Post, call-below t, call.Post, list-below t, list.Post, dict-below t, dict.Post) (expr-at t) expr.Post
+expr-returns-7 t c =
     expr-done (c .before .before .before .before .before .before .pre .1 .0) (c .before .before .before .before .before .before .pre .1 .1) (c .before .before .before .before .node-at .ensures) (c .list .ensures)
 
--- src/lib.rt:51:1
-expr-returns-6 : (t : ℕ) → expr-lts.Need-returns-6 (node-at-reads.Asked, node-at-reads.Learnt, literal-reads.Asked, literal-reads.Learnt, given-reads.Asked, given-reads.Learnt, variable-reads.Asked, variable-reads.Learnt, call-below t, call.Post, operands-below t, operands.Post, list-below t, list.Post, dict-below t, dict.Post) (expr-at t) expr.Post
-expr-returns-6 t c =
+-- src/lib.rt:58:1
+expr-returns-8 : (t : ℕ) → expr-lts.Need-returns-8 (node-at-reads.Asked, node-at-reads.Learnt, literal-reads.Asked, literal-reads.Learnt, given-reads.Asked, given-reads.Learnt, variable-reads.Asked, variable-reads.Learnt, operands-below t, operands.Post, pair-below t, pair.Post, call-below t, call.Post, list-below t, list.Post, dict-below t, dict.Post) (expr-at t) expr.Post
+expr-returns-8 t c =
     expr-done (c .before .before .before .before .before .before .pre .1 .0) (c .before .before .before .before .before .before .pre .1 .1) (c .before .before .before .before .node-at .ensures) (c .dict .ensures)
 
--- src/lib.rt:51:1
-expr-returns-7 : (t : ℕ) → expr-lts.Need-returns-7 (node-at-reads.Asked, node-at-reads.Learnt, literal-reads.Asked, literal-reads.Learnt, given-reads.Asked, given-reads.Learnt, variable-reads.Asked, variable-reads.Learnt, call-below t, call.Post, operands-below t, operands.Post, list-below t, list.Post, dict-below t, dict.Post) (expr-at t) expr.Post
-expr-returns-7 t c =
-    expr-done (c .before .before .before .before .before .before .before .before .pre .1 .0) (c .before .before .before .before .before .before .before .before .pre .1 .1) (c .before .before .before .before .before .before .node-at .ensures) (c .operands2 .ensures)
-
--- src/lib.rt:51:1
-expr-returns-8 : (t : ℕ) → expr-lts.Need-returns-8 (node-at-reads.Asked, node-at-reads.Learnt, literal-reads.Asked, literal-reads.Learnt, given-reads.Asked, given-reads.Learnt, variable-reads.Asked, variable-reads.Learnt, call-below t, call.Post, operands-below t, operands.Post, list-below t, list.Post, dict-below t, dict.Post) (expr-at t) expr.Post
-expr-returns-8 t c =
-    expr-done (c .before .before .before .before .before .before .before .before .before .pre .1 .0) (c .before .before .before .before .before .before .before .before .before .pre .1 .1) (c .before .before .before .before .before .before .before .node-at .ensures) (c .operands3 .ensures)
-
--- src/lib.rt:51:1
-expr-returns-9 : (t : ℕ) → expr-lts.Need-returns-9 (node-at-reads.Asked, node-at-reads.Learnt, literal-reads.Asked, literal-reads.Learnt, given-reads.Asked, given-reads.Learnt, variable-reads.Asked, variable-reads.Learnt, call-below t, call.Post, operands-below t, operands.Post, list-below t, list.Post, dict-below t, dict.Post) (expr-at t) expr.Post
+-- src/lib.rt:58:1
+expr-returns-9 : (t : ℕ) → expr-lts.Need-returns-9 (node-at-reads.Asked, node-at-reads.Learnt, literal-reads.Asked, literal-reads.Learnt, given-reads.Asked, given-reads.Learnt, variable-reads.Asked, variable-reads.Learnt, operands-below t, operands.Post, pair-below t, pair.Post, call-below t, call.Post, list-below t, list.Post, dict-below t, dict.Post) (expr-at t) expr.Post
 expr-returns-9 t c =
-    rw (c .given3 .ensures .2) (lambda-done (c .before .before .before .before .before .pre .1 .0) (c .before .before .before .before .before .pre .1 .1) (c .before .before .before .node-at .ensures) (⊎-elim (λ w. inl (w .taken)) (λ w. inr (w .2 .left)) (c .before .if1 .came)) (c .given3 .ensures .0) (c .given3 .ensures .1))
+    expr-done (c .before .before .before .before .before .before .before .before .pre .1 .0) (c .before .before .before .before .before .before .before .before .pre .1 .1) (c .before .before .before .before .before .before .node-at .ensures) (c .operands3 .ensures)
+
+-- src/lib.rt:58:1
+expr-returns-10 : (t : ℕ) → expr-lts.Need-returns-10 (node-at-reads.Asked, node-at-reads.Learnt, literal-reads.Asked, literal-reads.Learnt, given-reads.Asked, given-reads.Learnt, variable-reads.Asked, variable-reads.Learnt, operands-below t, operands.Post, pair-below t, pair.Post, call-below t, call.Post, list-below t, list.Post, dict-below t, dict.Post) (expr-at t) expr.Post
+expr-returns-10 t c =
+    rw (c .given3 .ensures .2) (lambda-done (c .before .before .before .before .before .pre .1 .0) (c .before .before .before .before .before .pre .1 .1) (c .before .before .before .node-at .ensures) (⊎-elim (λ w. inl (w .taken)) (λ w. inr (omega (arith, w .1 .left))) (c .before .if1 .came)) (c .given3 .ensures .0) (c .given3 .ensures .1))
 
 abbrev list-Inv-loop : list-lts.InvT-loop
 list-Inv-loop image nodes frames top table₀ stack₀ sp at depth c₀ from₀ left₀ element₀ table stack c from left element =
@@ -594,190 +684,247 @@ abbrev list-μ-loop : list-lts.MeasureT-loop
 list-μ-loop image nodes frames top table₀ stack₀ sp at depth c₀ from₀ left₀ element₀ table stack c from left element =
     left
 
--- src/lib.rt:181:20
+-- src/lib.rt:387:20
 list-add-from : (t : ℕ) → list-lts.Need-add-from (values-below t, values.Post, number-at-reads.Asked, number-at-reads.Learnt, list-step-reads.Asked, list-step-reads.Learnt, list-of-reads.Asked, list-of-reads.Learnt, stop-of-reads.Asked, stop-of-reads.Learnt) (list-at t) list.Post list-Inv-loop list-μ-loop
 list-add-from t c =
     omega (arith, c .before .pre .1 .1 .0 .there, sizes (c .before .pre .1 .0 .sound .headed) .nodes)
 
--- src/lib.rt:182:20
+-- src/lib.rt:388:20
 list-cast-left : (t : ℕ) → list-lts.Need-cast-left (values-below t, values.Post, number-at-reads.Asked, number-at-reads.Learnt, list-step-reads.Asked, list-step-reads.Learnt, list-of-reads.Asked, list-of-reads.Learnt, stop-of-reads.Asked, stop-of-reads.Learnt) (list-at t) list.Post list-Inv-loop list-μ-loop
 list-cast-left t c =
     search needs
 
--- src/lib.rt:184:5
+-- src/lib.rt:390:5
 list-loop-holds : (t : ℕ) → list-lts.Need-loop-holds (values-below t, values.Post, number-at-reads.Asked, number-at-reads.Learnt, list-step-reads.Asked, list-step-reads.Learnt, list-of-reads.Asked, list-of-reads.Learnt, stop-of-reads.Asked, stop-of-reads.Learnt) (list-at t) list.Post list-Inv-loop list-μ-loop
 list-loop-holds t c =
     listing-first {j = c .before .before .args .at} (omega arith) (children-before (c .before .before .pre .1 .0) (c .before .before .pre .1 .1 .0) (add-one _) refl)
     (children-row (c .before .before .pre .1 .0) (c .before .before .pre .1 .1 .0) (add-one _) refl)
 
--- src/lib.rt:185:13
+-- src/lib.rt:391:13
 list-values-requires : (t : ℕ) → list-lts.Need-values-requires (values-below t, values.Post, number-at-reads.Asked, number-at-reads.Learnt, list-step-reads.Asked, list-step-reads.Learnt, list-of-reads.Asked, list-of-reads.Learnt, stop-of-reads.Asked, stop-of-reads.Learnt) (list-at t) list.Post list-Inv-loop list-μ-loop
 list-values-requires t c κs =
     (omega (arith, c .before .before .before .before .before .before .pre .0), (loop-ready (c .before .before .before .loop .inv .loop) 1 (c .before .before .loop-test .taken), loop-row (c .before .before .before .loop .inv .loop) 1 (c .before .before .loop-test .taken)))
 
--- src/lib.rt:187:13
+-- src/lib.rt:405:13
 list-returns : (t : ℕ) → list-lts.Need-returns (values-below t, values.Post, number-at-reads.Asked, number-at-reads.Learnt, list-step-reads.Asked, list-step-reads.Learnt, list-of-reads.Asked, list-of-reads.Learnt, stop-of-reads.Asked, stop-of-reads.Learnt) (list-at t) list.Post list-Inv-loop list-μ-loop
 list-returns t c =
     node-done (c .before .before .before .before .before .before .before .before .before .pre .1 .0) (c .before .before .before .before .before .before .before .before .before .pre .1 .1 .0) (add-one _) refl (list-whole (c .before .before .before .before .before .before .before .before .before .pre .1 .0 .sound) (c .before .before .before .before .before .before .before .before .before .pre .1 .1 .0) _ (add-one _) refl (c .before .before .before .before .before .before .before .before .before .pre .1 .1 .1))
     (listing-refused (c .before .before .before .before .before .before .loop .inv) (c .before .before .before .before .before .loop-test .taken) (c .before .before .values .ensures) _ (c .if1 .taken))
 
--- src/lib.rt:190:39
+-- src/lib.rt:408:39
 list-number-at-requires : (t : ℕ) → list-lts.Need-number-at-requires (values-below t, values.Post, number-at-reads.Asked, number-at-reads.Learnt, list-step-reads.Asked, list-step-reads.Learnt, list-of-reads.Asked, list-of-reads.Learnt, stop-of-reads.Asked, stop-of-reads.Learnt) (list-at t) list.Post list-Inv-loop list-μ-loop
 list-number-at-requires t c κs =
     omega (arith, loop-room (c .before .before .before .before .before .before .before .before .loop .inv .loop) 1 (c .before .before .before .before .before .before .before .loop-test .taken))
 
--- src/lib.rt:190:13
+-- src/lib.rt:408:13
 list-list-step-requires : (t : ℕ) → list-lts.Need-list-step-requires (values-below t, values.Post, number-at-reads.Asked, number-at-reads.Learnt, list-step-reads.Asked, list-step-reads.Learnt, list-of-reads.Asked, list-of-reads.Learnt, stop-of-reads.Asked, stop-of-reads.Learnt) (list-at t) list.Post list-Inv-loop list-μ-loop
 list-list-step-requires t c κs =
     tt
 
--- src/lib.rt:193:13
+-- src/lib.rt:411:13
 list-list-of-requires : (t : ℕ) → list-lts.Need-list-of-requires (values-below t, values.Post, number-at-reads.Asked, number-at-reads.Learnt, list-step-reads.Asked, list-step-reads.Learnt, list-of-reads.Asked, list-of-reads.Learnt, stop-of-reads.Asked, stop-of-reads.Learnt) (list-at t) list.Post list-Inv-loop list-μ-loop
 list-list-of-requires t c κs =
     listing-asks (c .before .before .before .before .before .before .before .before .before .before .before .before .loop .inv) (c .before .before .before .before .before .before .before .before .before .before .before .loop-test .taken) (c .before .before .before .before .before .before .before .before .values .ensures) (c .before .before .before .before .before .before .if1 .left) (rw (c .before .before .before .number-at .ensures) at (c .before .before .list-step .ensures))
 
--- src/lib.rt:193:13
+-- src/lib.rt:411:13
 list-returns-2 : (t : ℕ) → list-lts.Need-returns-2 (values-below t, values.Post, number-at-reads.Asked, number-at-reads.Learnt, list-step-reads.Asked, list-step-reads.Learnt, list-of-reads.Asked, list-of-reads.Learnt, stop-of-reads.Asked, stop-of-reads.Learnt) (list-at t) list.Post list-Inv-loop list-μ-loop
 list-returns-2 t c =
     node-done (c .before .before .before .before .before .before .before .before .before .before .before .before .before .before .before .before .pre .1 .0) (c .before .before .before .before .before .before .before .before .before .before .before .before .before .before .before .before .pre .1 .1 .0) (add-one _) refl (list-whole (c .before .before .before .before .before .before .before .before .before .before .before .before .before .before .before .before .pre .1 .0 .sound) (c .before .before .before .before .before .before .before .before .before .before .before .before .before .before .before .before .pre .1 .1 .0) _ (add-one _) refl (c .before .before .before .before .before .before .before .before .before .before .before .before .before .before .before .before .pre .1 .1 .1))
     (listing-stop (c .before .before .before .before .before .before .before .before .before .before .before .before .before .loop .inv) (c .before .before .before .before .before .before .before .before .before .before .before .before .loop-test .taken) (c .before .before .before .before .before .before .before .before .before .values .ensures) (c .before .before .before .before .before .before .before .if1 .left) (rw (c .before .before .before .before .number-at .ensures) at (c .before .before .before .list-step .ensures)) (c .before .before .if2 .taken) (c .list-of .ensures .0) (c .list-of .ensures .1))
 
--- src/lib.rt:195:9
+-- src/lib.rt:413:9
 list-stop-of-requires : (t : ℕ) → list-lts.Need-stop-of-requires (values-below t, values.Post, number-at-reads.Asked, number-at-reads.Learnt, list-step-reads.Asked, list-step-reads.Learnt, list-of-reads.Asked, list-of-reads.Learnt, stop-of-reads.Asked, stop-of-reads.Learnt) (list-at t) list.Post list-Inv-loop list-μ-loop
 list-stop-of-requires t c κs =
     (c .before .before .before .before .before .before .before .before .before .before .before .loop .inv .loop .ready .sound .headed, (c .before .before .before .before .before .before .before .before .before .before .before .loop .inv .loop .ready .nodes-at, row-at (c .before .before .before .before .before .before .before .before .before .before .before .loop .inv .loop .ready .sound) _ (c .before .before .before .before .before .before .before .before .before .before .loop-test .taken) (c .before .before .before .before .before .before .before .before .before .before .before .loop .inv .loop .row) .there))
 
--- src/lib.rt:196:9
+-- src/lib.rt:414:9
 list-sub-left : (t : ℕ) → list-lts.Need-sub-left (values-below t, values.Post, number-at-reads.Asked, number-at-reads.Learnt, list-step-reads.Asked, list-step-reads.Learnt, list-of-reads.Asked, list-of-reads.Learnt, stop-of-reads.Asked, stop-of-reads.Learnt) (list-at t) list.Post list-Inv-loop list-μ-loop
 list-sub-left t c = search needs
 
--- src/lib.rt:184:5
+-- src/lib.rt:390:5
 list-loop-less : (t : ℕ) → list-lts.Need-loop-less (values-below t, values.Post, number-at-reads.Asked, number-at-reads.Learnt, list-step-reads.Asked, list-step-reads.Learnt, list-of-reads.Asked, list-of-reads.Learnt, stop-of-reads.Asked, stop-of-reads.Learnt) (list-at t) list.Post list-Inv-loop list-μ-loop
 list-loop-less t c =
     search needs
 
--- src/lib.rt:184:5
+-- src/lib.rt:390:5
 list-loop-again : (t : ℕ) → list-lts.Need-loop-again (values-below t, values.Post, number-at-reads.Asked, number-at-reads.Learnt, list-step-reads.Asked, list-step-reads.Learnt, list-of-reads.Asked, list-of-reads.Learnt, stop-of-reads.Asked, stop-of-reads.Learnt) (list-at t) list.Post list-Inv-loop list-μ-loop
 list-loop-again t c =
     listing-next (c .before .before .before .before .before .before .before .before .before .before .before .before .loop .inv) (c .before .before .before .before .before .before .before .before .before .before .before .loop-test .taken) (c .before .before .before .before .before .before .before .before .values .ensures) (c .before .before .before .before .before .before .if1 .left) (rw (c .before .before .before .number-at .ensures) at (c .before .before .list-step .ensures)) (c .before .if2 .left) (c .stop-of .ensures)
 
--- src/lib.rt:198:5
+-- src/lib.rt:416:5
 list-list-of-requires-2 : (t : ℕ) → list-lts.Need-list-of-requires-2 (values-below t, values.Post, number-at-reads.Asked, number-at-reads.Learnt, list-step-reads.Asked, list-step-reads.Learnt, list-of-reads.Asked, list-of-reads.Learnt, stop-of-reads.Asked, stop-of-reads.Learnt) (list-at t) list.Post list-Inv-loop list-μ-loop
 list-list-of-requires-2 t c κs =
     listing-last (c .before .before .loop .inv)
 
--- src/lib.rt:158:1
+-- src/lib.rt:364:1
 list-returns-3 : (t : ℕ) → list-lts.Need-returns-3 (values-below t, values.Post, number-at-reads.Asked, number-at-reads.Learnt, list-step-reads.Asked, list-step-reads.Learnt, list-of-reads.Asked, list-of-reads.Learnt, stop-of-reads.Asked, stop-of-reads.Learnt) (list-at t) list.Post list-Inv-loop list-μ-loop
 list-returns-3 t c =
     node-done (c .before .before .before .before .before .before .pre .1 .0) (c .before .before .before .before .before .before .pre .1 .1 .0) (add-one _) refl (list-whole (c .before .before .before .before .before .before .pre .1 .0 .sound) (c .before .before .before .before .before .before .pre .1 .1 .0) _ (add-one _) refl (c .before .before .before .before .before .before .pre .1 .1 .1))
     (listing-end (c .before .before .before .loop .inv) (c .before .before .loop-test .left) (c .list-of2 .ensures .0) (c .list-of2 .ensures .1))
 
--- src/lib.rt:149:13
+-- src/lib.rt:283:13
 operands-cast-n : (t : ℕ) → operands-lts.Need-cast-n (values-below t, values.Post, decide-reads.Asked, decide-reads.Learnt) (operands-at t) operands.Post
 operands-cast-n t c =
     search needs
 
--- src/lib.rt:150:73
+-- src/lib.rt:293:9
 operands-add-values : (t : ℕ) → operands-lts.Need-add-values (values-below t, values.Post, decide-reads.Asked, decide-reads.Learnt) (operands-at t) operands.Post
 operands-add-values t c =
     omega (arith, c .before .before .before .before .pre .1 .1 .0 .there, sizes (c .before .before .before .before .pre .1 .0 .sound .headed) .nodes)
 
--- src/lib.rt:150:9
+-- src/lib.rt:284:9
 operands-values-requires : (t : ℕ) → operands-lts.Need-values-requires (values-below t, values.Post, decide-reads.Asked, decide-reads.Learnt) (operands-at t) operands.Post
 operands-values-requires t c κs =
     (omega (arith, c .before .before .before .before .pre .0), (children-ready (c .before .before .before .before .pre .1 .0) (c .before .before .before .before .pre .1 .1 .0) (add-one _) refl, children-row (c .before .before .before .before .pre .1 .0) (c .before .before .before .before .pre .1 .1 .0) (add-one _) refl))
 
--- src/lib.rt:152:9
+-- src/lib.rt:298:9
 operands-returns : (t : ℕ) → operands-lts.Need-returns (values-below t, values.Post, decide-reads.Asked, decide-reads.Learnt) (operands-at t) operands.Post
 operands-returns t c =
     operands-refused (c .before .before .before .before .before .before .before .pre .1 .0) (c .before .before .before .before .before .before .before .pre .1 .1 .0) (c .before .before .before .before .before .before .before .pre .1 .1 .1) (add-one _) refl (c .before .before .values .ensures) (c .if1 .taken)
 
--- src/lib.rt:154:5
+-- src/lib.rt:300:5
 operands-decide-requires : (t : ℕ) → operands-lts.Need-decide-requires (values-below t, values.Post, decide-reads.Asked, decide-reads.Learnt) (operands-at t) operands.Post
 operands-decide-requires t c κs =
     operands-decidable (c .before .before .before .before .before .before .before .before .before .pre .1 .0) (c .before .before .before .before .before .before .before .before .before .pre .1 .1 .0) (c .before .before .before .before .before .before .before .before .before .pre .1 .1 .1) (add-one _) refl (c .before .before .before .before .values .ensures) (c .before .before .if1 .left)
 
--- src/lib.rt:127:1
+-- src/lib.rt:261:1
 operands-returns-2 : (t : ℕ) → operands-lts.Need-returns-2 (values-below t, values.Post, decide-reads.Asked, decide-reads.Learnt) (operands-at t) operands.Post
 operands-returns-2 t c =
     operands-done (c .before .before .before .before .before .before .before .before .before .before .pre .1 .0) (c .before .before .before .before .before .before .before .before .before .before .pre .1 .1 .0) (c .before .before .before .before .before .before .before .before .before .before .pre .1 .1 .1) (add-one _) refl (c .before .before .before .before .before .values .ensures) (c .before .before .before .if1 .left) (c .decide .ensures)
 
--- src/lib.rt:406:9
+-- src/lib.rt:326:16
+pair-add-left : (t : ℕ) → pair-lts.Need-add-left (child-below t, child.Post, push-reads.Asked, push-reads.Learnt, stop-of-reads.Asked, stop-of-reads.Learnt, operated-reads.Asked, operated-reads.Learnt) (pair-at t) pair.Post
+pair-add-left t c =
+    omega (arith, c .before .pre .1 .1 .0 .there, sizes (c .before .pre .1 .0 .sound .headed) .nodes)
+
+-- src/lib.rt:327:9
+pair-child-requires : (t : ℕ) → pair-lts.Need-child-requires (child-below t, child.Post, push-reads.Asked, push-reads.Learnt, stop-of-reads.Asked, stop-of-reads.Learnt, operated-reads.Asked, operated-reads.Learnt) (pair-at t) pair.Post
+pair-child-requires t c κs =
+    (omega (arith, c .before .before .before .pre .0), (binary-ready (c .before .before .before .pre .1 .0) (c .before .before .before .pre .1 .1 .0) (c .before .before .before .pre .1 .1 .1) (add-one _), binary-at (c .before .before .before .pre .1 .0) (c .before .before .before .pre .1 .1 .0) (c .before .before .before .pre .1 .1 .1) (add-one _)))
+
+-- src/lib.rt:340:9
+pair-returns : (t : ℕ) → pair-lts.Need-returns (child-below t, child.Post, push-reads.Asked, push-reads.Learnt, stop-of-reads.Asked, stop-of-reads.Learnt, operated-reads.Asked, operated-reads.Learnt) (pair-at t) pair.Post
+pair-returns t c =
+    binary-refused (c .before .before .before .before .before .before .pre .1 .0) (c .before .before .before .before .before .before .pre .1 .1 .0) (c .before .before .before .before .before .before .pre .1 .1 .1) (add-one _) (c .before .before .child .ensures) (c .if1 .taken)
+
+-- src/lib.rt:342:5
+pair-push-requires : (t : ℕ) → pair-lts.Need-push-requires (child-below t, child.Post, push-reads.Asked, push-reads.Learnt, stop-of-reads.Asked, stop-of-reads.Learnt, operated-reads.Asked, operated-reads.Learnt) (pair-at t) pair.Post
+pair-push-requires t c κs =
+    (binary-room (c .before .before .before .before .before .before .before .pre .1 .0) (c .before .before .before .before .before .before .before .pre .1 .1 .0) (c .before .before .before .before .before .before .before .pre .1 .1 .1) (add-one _), binary-number (c .before .before .before .before .before .before .before .pre .1 .0) (c .before .before .before .before .before .before .before .pre .1 .1 .0) (c .before .before .before .before .before .before .before .pre .1 .1 .1) (add-one _) (c .before .before .before .child .ensures) (c .before .if1 .left))
+
+-- src/lib.rt:343:9
+pair-stop-of-requires : (t : ℕ) → pair-lts.Need-stop-of-requires (child-below t, child.Post, push-reads.Asked, push-reads.Learnt, stop-of-reads.Asked, stop-of-reads.Learnt, operated-reads.Asked, operated-reads.Learnt) (pair-at t) pair.Post
+pair-stop-of-requires t c κs =
+    (c .before .before .before .before .before .before .before .before .pre .1 .0 .sound .headed, (c .before .before .before .before .before .before .before .before .pre .1 .0 .nodes-at, binary-at (c .before .before .before .before .before .before .before .before .pre .1 .0) (c .before .before .before .before .before .before .before .before .pre .1 .1 .0) (c .before .before .before .before .before .before .before .before .pre .1 .1 .1) (add-one _) .there))
+
+-- src/lib.rt:352:9
+pair-add-child : (t : ℕ) → pair-lts.Need-add-child (child-below t, child.Post, push-reads.Asked, push-reads.Learnt, stop-of-reads.Asked, stop-of-reads.Learnt, operated-reads.Asked, operated-reads.Learnt) (pair-at t) pair.Post
+pair-add-child t c =
+    omega (arith, binary-room (c .before .before .before .before .before .before .before .before .before .before .before .pre .1 .0) (c .before .before .before .before .before .before .before .before .before .before .before .pre .1 .1 .0) (c .before .before .before .before .before .before .before .before .before .before .before .pre .1 .1 .1) (add-one _))
+
+-- src/lib.rt:344:9
+pair-child-requires-2 : (t : ℕ) → pair-lts.Need-child-requires-2 (child-below t, child.Post, push-reads.Asked, push-reads.Learnt, stop-of-reads.Asked, stop-of-reads.Learnt, operated-reads.Asked, operated-reads.Learnt) (pair-at t) pair.Post
+pair-child-requires-2 t c κs =
+    (omega (arith, c .before .before .before .before .before .before .before .before .before .before .before .pre .0), (rw (c .before .before .before .push .ensures) (binary-ready-2 (c .before .before .before .before .before .before .before .before .before .before .before .pre .1 .0) (c .before .before .before .before .before .before .before .before .before .before .before .pre .1 .1 .0) (c .before .before .before .before .before .before .before .before .before .before .before .pre .1 .1 .1) (add-one _) (c .before .before .before .before .before .before .before .child .ensures) (c .before .before .before .before .before .if1 .left) (c .before .before .stop-of .ensures)), binary-at-2 (c .before .before .before .before .before .before .before .before .before .before .before .pre .1 .0) (c .before .before .before .before .before .before .before .before .before .before .before .pre .1 .1 .0) (c .before .before .before .before .before .before .before .before .before .before .before .pre .1 .1 .1) (add-one _) (c .before .before .before .before .before .before .before .child .ensures) (c .before .before .before .before .before .if1 .left) (c .before .before .stop-of .ensures)))
+
+-- src/lib.rt:357:9
+pair-returns-2 : (t : ℕ) → pair-lts.Need-returns-2 (child-below t, child.Post, push-reads.Asked, push-reads.Learnt, stop-of-reads.Asked, stop-of-reads.Learnt, operated-reads.Asked, operated-reads.Learnt) (pair-at t) pair.Post
+pair-returns-2 t c =
+    binary-refused-2 (c .before .before .before .before .before .before .before .before .before .before .before .before .before .before .pre .1 .0) (c .before .before .before .before .before .before .before .before .before .before .before .before .before .before .pre .1 .1 .0) (c .before .before .before .before .before .before .before .before .before .before .before .before .before .before .pre .1 .1 .1) (add-one _) (c .before .before .before .before .before .before .before .before .before .before .child .ensures) (c .before .before .before .before .before .before .before .before .if1 .left) (c .before .before .before .before .before .stop-of .ensures) (rw (c .before .before .before .before .before .before .push .ensures) at (c .before .before .child2 .ensures)) (c .if2 .taken)
+
+-- src/lib.rt:359:17
+pair-add-push : (t : ℕ) → pair-lts.Need-add-push (child-below t, child.Post, push-reads.Asked, push-reads.Learnt, stop-of-reads.Asked, stop-of-reads.Learnt, operated-reads.Asked, operated-reads.Learnt) (pair-at t) pair.Post
+pair-add-push t c =
+    omega (arith, binary-room (c .before .before .before .before .before .before .before .before .before .before .before .before .before .before .before .pre .1 .0) (c .before .before .before .before .before .before .before .before .before .before .before .before .before .before .before .pre .1 .1 .0) (c .before .before .before .before .before .before .before .before .before .before .before .before .before .before .before .pre .1 .1 .1) (add-one _))
+
+-- src/lib.rt:359:5
+pair-push-requires-2 : (t : ℕ) → pair-lts.Need-push-requires-2 (child-below t, child.Post, push-reads.Asked, push-reads.Learnt, stop-of-reads.Asked, stop-of-reads.Learnt, operated-reads.Asked, operated-reads.Learnt) (pair-at t) pair.Post
+pair-push-requires-2 t c κs =
+    (binary-room-2 (c .before .before .before .before .before .before .before .before .before .before .before .before .before .before .before .pre .1 .0) (c .before .before .before .before .before .before .before .before .before .before .before .before .before .before .before .pre .1 .1 .0) (c .before .before .before .before .before .before .before .before .before .before .before .before .before .before .before .pre .1 .1 .1) (add-one _) (c .before .before .before .before .before .before .before .before .before .before .before .child .ensures) (c .before .before .before .before .before .before .before .before .before .if1 .left) (c .before .before .before .before .before .before .stop-of .ensures), binary-number-2 (c .before .before .before .before .before .before .before .before .before .before .before .before .before .before .before .pre .1 .0) (c .before .before .before .before .before .before .before .before .before .before .before .before .before .before .before .pre .1 .1 .0) (c .before .before .before .before .before .before .before .before .before .before .before .before .before .before .before .pre .1 .1 .1) (add-one _) (c .before .before .before .before .before .before .before .before .before .before .before .child .ensures) (c .before .before .before .before .before .before .before .before .before .if1 .left) (c .before .before .before .before .before .before .stop-of .ensures) (rw (c .before .before .before .before .before .before .before .push .ensures) at (c .before .before .before .child2 .ensures)) (c .before .if2 .left))
+
+-- src/lib.rt:360:5
+pair-operated-requires : (t : ℕ) → pair-lts.Need-operated-requires (child-below t, child.Post, push-reads.Asked, push-reads.Learnt, stop-of-reads.Asked, stop-of-reads.Learnt, operated-reads.Asked, operated-reads.Learnt) (pair-at t) pair.Post
+pair-operated-requires t c κs =
+    (rw (c .before .before .push2 .ensures) (binary-decidable (c .before .before .before .before .before .before .before .before .before .before .before .before .before .before .before .before .before .before .pre .1 .0) (c .before .before .before .before .before .before .before .before .before .before .before .before .before .before .before .before .before .before .pre .1 .1 .0) (c .before .before .before .before .before .before .before .before .before .before .before .before .before .before .before .before .before .before .pre .1 .1 .1) (add-one _) (c .before .before .before .before .before .before .before .before .before .before .before .before .before .before .child .ensures) (c .before .before .before .before .before .before .before .before .before .before .before .before .if1 .left) (c .before .before .before .before .before .before .before .before .before .stop-of .ensures) (rw (c .before .before .before .before .before .before .before .before .before .before .push .ensures) at (c .before .before .before .before .before .before .child2 .ensures)) (c .before .before .before .before .if2 .left)), c .before .before .before .before .before .before .before .before .before .before .before .before .before .before .before .before .before .before .pre .1 .1 .1)
+
+-- src/lib.rt:304:1
+pair-returns-3 : (t : ℕ) → pair-lts.Need-returns-3 (child-below t, child.Post, push-reads.Asked, push-reads.Learnt, stop-of-reads.Asked, stop-of-reads.Learnt, operated-reads.Asked, operated-reads.Learnt) (pair-at t) pair.Post
+pair-returns-3 t c =
+    rw (c .before .before .before .push2 .ensures, c .operated .ensures .0) (binary-done (c .before .before .before .before .before .before .before .before .before .before .before .before .before .before .before .before .before .before .before .pre .1 .0) (c .before .before .before .before .before .before .before .before .before .before .before .before .before .before .before .before .before .before .before .pre .1 .1 .0) (c .before .before .before .before .before .before .before .before .before .before .before .before .before .before .before .before .before .before .before .pre .1 .1 .1) (add-one _) (c .before .before .before .before .before .before .before .before .before .before .before .before .before .before .before .child .ensures) (c .before .before .before .before .before .before .before .before .before .before .before .before .before .if1 .left) (c .before .before .before .before .before .before .before .before .before .before .stop-of .ensures) (rw (c .before .before .before .before .before .before .before .before .before .before .before .push .ensures) at (c .before .before .before .before .before .before .before .child2 .ensures)) (c .before .before .before .before .before .if2 .left) (rw (c .before .before .before .push2 .ensures) at (c .operated .ensures .1)))
+
+-- src/lib.rt:712:9
 streams-values-requires : (t : ℕ) → streams-lts.Need-values-requires (values-below t, values.Post, number-at-reads.Asked, number-at-reads.Learnt, first-code-reads.Asked, first-code-reads.Learnt, callable-reads.Asked, callable-reads.Learnt, decided-reads.Asked, decided-reads.Learnt, stop-of-reads.Asked, stop-of-reads.Learnt, stream-reads.Asked, stream-reads.Learnt) (streams-at t) streams.Post
 streams-values-requires t c κs =
     (omega (arith, c .before .before .before .pre .0), (stream-ready (c .before .before .before .args .filters) (c .before .before .before .pre .1 .0) (c .before .before .before .pre .1 .1 .0) (c .before .before .before .pre .1 .1 .1), stream-row (c .before .before .before .args .filters) (c .before .before .before .pre .1 .0) (c .before .before .before .pre .1 .1 .0) (c .before .before .before .pre .1 .1 .1)))
 
--- src/lib.rt:408:9
+-- src/lib.rt:726:9
 streams-returns : (t : ℕ) → streams-lts.Need-returns (values-below t, values.Post, number-at-reads.Asked, number-at-reads.Learnt, first-code-reads.Asked, first-code-reads.Learnt, callable-reads.Asked, callable-reads.Learnt, decided-reads.Asked, decided-reads.Learnt, stop-of-reads.Asked, stop-of-reads.Learnt, stream-reads.Asked, stream-reads.Learnt) (streams-at t) streams.Post
 streams-returns t c =
     stream-refused _ (c .before .before .before .before .before .before .pre .1 .0) (c .before .before .before .before .before .before .pre .1 .1 .0) (c .before .before .before .before .before .before .pre .1 .1 .1) (c .before .before .values .ensures) (c .if1 .taken)
 
--- src/lib.rt:410:22
+-- src/lib.rt:728:22
 streams-number-at-requires : (t : ℕ) → streams-lts.Need-number-at-requires (values-below t, values.Post, number-at-reads.Asked, number-at-reads.Learnt, first-code-reads.Asked, first-code-reads.Learnt, callable-reads.Asked, callable-reads.Learnt, decided-reads.Asked, decided-reads.Learnt, stop-of-reads.Asked, stop-of-reads.Learnt, stream-reads.Asked, stream-reads.Learnt) (streams-at t) streams.Post
 streams-number-at-requires t c κs =
     stream-room (c .before .before .before .before .before .before .before .args .filters) (c .before .before .before .before .before .before .before .pre .1 .0) (c .before .before .before .before .before .before .before .pre .1 .1 .0) (c .before .before .before .before .before .before .before .pre .1 .1 .1)
 
--- src/lib.rt:410:44
+-- src/lib.rt:728:44
 streams-first-code-requires : (t : ℕ) → streams-lts.Need-first-code-requires (values-below t, values.Post, number-at-reads.Asked, number-at-reads.Learnt, first-code-reads.Asked, first-code-reads.Learnt, callable-reads.Asked, callable-reads.Learnt, decided-reads.Asked, decided-reads.Learnt, stop-of-reads.Asked, stop-of-reads.Learnt, stream-reads.Asked, stream-reads.Learnt) (streams-at t) streams.Post
 streams-first-code-requires t c κs =
     tt
 
--- src/lib.rt:410:9
+-- src/lib.rt:728:9
 streams-callable-requires : (t : ℕ) → streams-lts.Need-callable-requires (values-below t, values.Post, number-at-reads.Asked, number-at-reads.Learnt, first-code-reads.Asked, first-code-reads.Learnt, callable-reads.Asked, callable-reads.Learnt, decided-reads.Asked, decided-reads.Learnt, stop-of-reads.Asked, stop-of-reads.Learnt, stream-reads.Asked, stream-reads.Learnt) (streams-at t) streams.Post
 streams-callable-requires t c κs =
     rw (c .first-code .ensures) (first-names _)
 
--- src/lib.rt:412:9
+-- src/lib.rt:730:9
 streams-decided-requires : (t : ℕ) → streams-lts.Need-decided-requires (values-below t, values.Post, number-at-reads.Asked, number-at-reads.Learnt, first-code-reads.Asked, first-code-reads.Learnt, callable-reads.Asked, callable-reads.Learnt, decided-reads.Asked, decided-reads.Learnt, stop-of-reads.Asked, stop-of-reads.Learnt, stream-reads.Asked, stream-reads.Learnt) (streams-at t) streams.Post
 streams-decided-requires t c κs =
     tt
 
--- src/lib.rt:412:9
+-- src/lib.rt:730:9
 streams-returns-2 : (t : ℕ) → streams-lts.Need-returns-2 (values-below t, values.Post, number-at-reads.Asked, number-at-reads.Learnt, first-code-reads.Asked, first-code-reads.Learnt, callable-reads.Asked, callable-reads.Learnt, decided-reads.Asked, decided-reads.Learnt, stop-of-reads.Asked, stop-of-reads.Learnt, stream-reads.Asked, stream-reads.Learnt) (streams-at t) streams.Post
 streams-returns-2 t c =
     let e = c .decided .ensures in
     rw (e .0, e .1, e .2, e .3, e .4, e .5)
     (stream-wrong _ (c .before .before .before .before .before .before .before .before .before .before .before .before .before .pre .1 .0) (c .before .before .before .before .before .before .before .before .before .before .before .before .before .pre .1 .1 .0) (c .before .before .before .before .before .before .before .before .before .before .before .before .before .pre .1 .1 .1) (c .before .before .before .before .before .before .before .before .before .values .ensures) (c .before .before .before .before .before .before .before .if1 .left) (c .before .before .before .before .first-code .ensures) (rw (c .before .before .before .before .before .number-at .ensures) at (c .before .before .before .callable .ensures)) (c .before .if2 .taken))
 
--- src/lib.rt:414:9
+-- src/lib.rt:732:9
 streams-stop-of-requires : (t : ℕ) → streams-lts.Need-stop-of-requires (values-below t, values.Post, number-at-reads.Asked, number-at-reads.Learnt, first-code-reads.Asked, first-code-reads.Learnt, callable-reads.Asked, callable-reads.Learnt, decided-reads.Asked, decided-reads.Learnt, stop-of-reads.Asked, stop-of-reads.Learnt, stream-reads.Asked, stream-reads.Learnt) (streams-at t) streams.Post
 streams-stop-of-requires t c κs =
     (c .before .before .before .before .before .before .before .before .before .before .before .before .pre .1 .0 .sound .headed, (c .before .before .before .before .before .before .before .before .before .before .before .before .pre .1 .0 .nodes-at, row-at (c .before .before .before .before .before .before .before .before .before .before .before .before .pre .1 .0 .sound) _ (omega (arith, c .before .before .before .before .before .before .before .before .before .before .before .before .pre .1 .1 .1)) (c .before .before .before .before .before .before .before .before .before .before .before .before .pre .1 .1 .0) .there))
 
--- src/lib.rt:415:9
+-- src/lib.rt:733:9
 streams-values-requires-2 : (t : ℕ) → streams-lts.Need-values-requires-2 (values-below t, values.Post, number-at-reads.Asked, number-at-reads.Learnt, first-code-reads.Asked, first-code-reads.Learnt, callable-reads.Asked, callable-reads.Learnt, decided-reads.Asked, decided-reads.Learnt, stop-of-reads.Asked, stop-of-reads.Learnt, stream-reads.Asked, stream-reads.Learnt) (streams-at t) streams.Post
 streams-values-requires-2 t c κs =
-    let o = rw (c .before .before .before .before .before .before .before .number-at .ensures) at (c .before .before .before .before .before .callable .ensures) in (
-      omega (arith, c .before .before .before .before .before .before .before .before .before .before .before .before .before .before .before .pre .0),
-      (
-        stream-ready-2 (c .before .before .before .before .before .before .before .before .before .before .before .before .before .before .before .args .filters) (c .before .before .before .before .before .before .before .before .before .before .before .before .before .before .before .pre .1 .0) (c .before .before .before .before .before .before .before .before .before .before .before .before .before .before .before .pre .1 .1 .0) (c .before .before .before .before .before .before .before .before .before .before .before .before .before .before .before .pre .1 .1 .1) (c .before .before .before .before .before .before .before .before .before .before .before .values .ensures) (c .before .before .before .before .before .before .before .before .before .if1 .left) (c .before .before .before .before .before .before .first-code .ensures) o (c .before .before .stop-of .ensures),
-        stream-row-2 (c .before .before .before .before .before .before .before .before .before .before .before .before .before .before .before .args .filters) (c .before .before .before .before .before .before .before .before .before .before .before .before .before .before .before .pre .1 .0) (c .before .before .before .before .before .before .before .before .before .before .before .before .before .before .before .pre .1 .1 .0) (c .before .before .before .before .before .before .before .before .before .before .before .before .before .before .before .pre .1 .1 .1) (c .before .before .before .before .before .before .before .before .before .before .before .values .ensures) (c .before .before .before .before .before .before .before .before .before .if1 .left) (c .before .before .before .before .before .before .first-code .ensures) o (c .before .before .stop-of .ensures),
-      ),
-    )
+    let o = rw (c .before .before .before .before .before .before .before .number-at .ensures) at (c .before .before .before .before .before .callable .ensures) in
+    (omega (arith, c .before .before .before .before .before .before .before .before .before .before .before .before .before .before .before .pre .0),
+    (stream-ready-2 (c .before .before .before .before .before .before .before .before .before .before .before .before .before .before .before .args .filters) (c .before .before .before .before .before .before .before .before .before .before .before .before .before .before .before .pre .1 .0) (c .before .before .before .before .before .before .before .before .before .before .before .before .before .before .before .pre .1 .1 .0) (c .before .before .before .before .before .before .before .before .before .before .before .before .before .before .before .pre .1 .1 .1) (c .before .before .before .before .before .before .before .before .before .before .before .values .ensures) (c .before .before .before .before .before .before .before .before .before .if1 .left) (c .before .before .before .before .before .before .first-code .ensures) o (c .before .before .stop-of .ensures),
+    stream-row-2 (c .before .before .before .before .before .before .before .before .before .before .before .before .before .before .before .args .filters) (c .before .before .before .before .before .before .before .before .before .before .before .before .before .before .before .pre .1 .0) (c .before .before .before .before .before .before .before .before .before .before .before .before .before .before .before .pre .1 .1 .0) (c .before .before .before .before .before .before .before .before .before .before .before .before .before .before .before .pre .1 .1 .1) (c .before .before .before .before .before .before .before .before .before .before .before .values .ensures) (c .before .before .before .before .before .before .before .before .before .if1 .left) (c .before .before .before .before .before .before .first-code .ensures) o (c .before .before .stop-of .ensures)))
 
--- src/lib.rt:417:9
+-- src/lib.rt:747:9
 streams-returns-3 : (t : ℕ) → streams-lts.Need-returns-3 (values-below t, values.Post, number-at-reads.Asked, number-at-reads.Learnt, first-code-reads.Asked, first-code-reads.Learnt, callable-reads.Asked, callable-reads.Learnt, decided-reads.Asked, decided-reads.Learnt, stop-of-reads.Asked, stop-of-reads.Learnt, stream-reads.Asked, stream-reads.Learnt) (streams-at t) streams.Post
 streams-returns-3 t c =
     stream-refused-2 _ (c .before .before .before .before .before .before .before .before .before .before .before .before .before .before .before .before .before .before .pre .1 .0) (c .before .before .before .before .before .before .before .before .before .before .before .before .before .before .before .before .before .before .pre .1 .1 .0) (c .before .before .before .before .before .before .before .before .before .before .before .before .before .before .before .before .before .before .pre .1 .1 .1) (c .before .before .before .before .before .before .before .before .before .before .before .before .before .before .values .ensures) (c .before .before .before .before .before .before .before .before .before .before .before .before .if1 .left) (c .before .before .before .before .before .before .before .before .before .first-code .ensures) (rw (c .before .before .before .before .before .before .before .before .before .before .number-at .ensures) at (c .before .before .before .before .before .before .before .before .callable .ensures)) (c .before .before .before .before .before .stop-of .ensures) (c .before .before .before .before .before .before .if2 .left)
     (c .before .before .values2 .ensures) (c .if3 .taken)
 
--- src/lib.rt:419:46
+-- src/lib.rt:749:46
 streams-number-at-requires-2 : (t : ℕ) → streams-lts.Need-number-at-requires-2 (values-below t, values.Post, number-at-reads.Asked, number-at-reads.Learnt, first-code-reads.Asked, first-code-reads.Learnt, callable-reads.Asked, callable-reads.Learnt, decided-reads.Asked, decided-reads.Learnt, stop-of-reads.Asked, stop-of-reads.Learnt, stream-reads.Asked, stream-reads.Learnt) (streams-at t) streams.Post
 streams-number-at-requires-2 t c κs =
     stream-room (c .before .before .before .before .before .before .before .before .before .before .before .before .before .before .before .before .before .before .before .before .args .filters) (c .before .before .before .before .before .before .before .before .before .before .before .before .before .before .before .before .before .before .before .before .pre .1 .0) (c .before .before .before .before .before .before .before .before .before .before .before .before .before .before .before .before .before .before .before .before .pre .1 .1 .0) (c .before .before .before .before .before .before .before .before .before .before .before .before .before .before .before .before .before .before .before .before .pre .1 .1 .1)
 
--- src/lib.rt:419:9
+-- src/lib.rt:749:9
 streams-stream-requires : (t : ℕ) → streams-lts.Need-stream-requires (values-below t, values.Post, number-at-reads.Asked, number-at-reads.Learnt, first-code-reads.Asked, first-code-reads.Learnt, callable-reads.Asked, callable-reads.Learnt, decided-reads.Asked, decided-reads.Learnt, stop-of-reads.Asked, stop-of-reads.Learnt, stream-reads.Asked, stream-reads.Learnt) (streams-at t) streams.Post
 streams-stream-requires t c κs =
     rw (c .number-at2 .ensures) (stream-asks (c .before .before .before .before .before .before .before .before .before .before .before .before .before .before .before .before .before .before .before .before .before .args .filters) (c .before .before .before .before .before .before .before .before .before .before .before .before .before .before .before .before .before .before .before .before .before .pre .1 .0) (c .before .before .before .before .before .before .before .before .before .before .before .before .before .before .before .before .before .before .before .before .before .pre .1 .1 .0) (c .before .before .before .before .before .before .before .before .before .before .before .before .before .before .before .before .before .before .before .before .before .pre .1 .1 .1) (c .before .before .before .before .before .before .before .before .before .before .before .before .before .before .before .before .before .values .ensures) (c .before .before .before .before .before .before .before .before .before .before .before .before .before .before .before .if1 .left) (c .before .before .before .before .before .before .before .before .before .before .before .before .first-code .ensures) (rw (c .before .before .before .before .before .before .before .before .before .before .before .before .before .number-at .ensures) at (c .before .before .before .before .before .before .before .before .before .before .before .callable .ensures)) (c .before .before .before .before .before .before .before .before .stop-of .ensures) (c .before .before .before .before .before .before .before .before .before .if2 .left)
     (c .before .before .before .before .before .values2 .ensures) (c .before .before .before .if3 .left))
 
--- src/lib.rt:420:5
+-- src/lib.rt:750:5
 streams-decided-requires-2 : (t : ℕ) → streams-lts.Need-decided-requires-2 (values-below t, values.Post, number-at-reads.Asked, number-at-reads.Learnt, first-code-reads.Asked, first-code-reads.Learnt, callable-reads.Asked, callable-reads.Learnt, decided-reads.Asked, decided-reads.Learnt, stop-of-reads.Asked, stop-of-reads.Learnt, stream-reads.Asked, stream-reads.Learnt) (streams-at t) streams.Post
 streams-decided-requires-2 t c κs =
     tt
 
--- src/lib.rt:383:1
+-- src/lib.rt:689:1
 streams-returns-4 : (t : ℕ) → streams-lts.Need-returns-4 (values-below t, values.Post, number-at-reads.Asked, number-at-reads.Learnt, first-code-reads.Asked, first-code-reads.Learnt, callable-reads.Asked, callable-reads.Learnt, decided-reads.Asked, decided-reads.Learnt, stop-of-reads.Asked, stop-of-reads.Learnt, stream-reads.Asked, stream-reads.Learnt) (streams-at t) streams.Post
 streams-returns-4 t c =
     let e = c .decided2 .ensures in
@@ -793,70 +940,73 @@ abbrev values-μ-loop : values-lts.MeasureT-loop
 values-μ-loop image nodes frames top table₀ stack₀ sp from n depth c₀ at₀ left₀ up₀ table stack c at left up =
     left
 
--- src/lib.rt:112:5
-values-loop-holds : (t : ℕ) → values-lts.Need-loop-holds (expr-below t, expr.Post, push-reads.Asked, push-reads.Learnt, stop-of-reads.Asked, stop-of-reads.Learnt, given-reads.Asked, given-reads.Learnt) (values-at t) values.Post values-Inv-loop values-μ-loop
+-- src/lib.rt:246:5
+values-loop-holds : (t : ℕ) → values-lts.Need-loop-holds (child-below t, child.Post, push-reads.Asked, push-reads.Learnt, stop-of-reads.Asked, stop-of-reads.Learnt, given-reads.Asked, given-reads.Learnt) (values-at t) values.Post values-Inv-loop values-μ-loop
 values-loop-holds t c =
     valuing-first (c .before .pre .1 .0) (c .before .pre .1 .1)
 
--- src/lib.rt:113:13
-values-expr-requires : (t : ℕ) → values-lts.Need-expr-requires (expr-below t, expr.Post, push-reads.Asked, push-reads.Learnt, stop-of-reads.Asked, stop-of-reads.Learnt, given-reads.Asked, given-reads.Learnt) (values-at t) values.Post values-Inv-loop values-μ-loop
-values-expr-requires t c κs =
+-- src/lib.rt:247:13
+values-child-requires : (t : ℕ) → values-lts.Need-child-requires (child-below t, child.Post, push-reads.Asked, push-reads.Learnt, stop-of-reads.Asked, stop-of-reads.Learnt, given-reads.Asked, given-reads.Learnt) (values-at t) values.Post values-Inv-loop values-μ-loop
+values-child-requires t c κs =
     (omega (arith, c .before .before .before .before .before .pre .0), (valuing-ready (c .before .before .before .loop .inv) (c .before .before .loop-test .taken), valuing-at (c .before .before .before .loop .inv) (c .before .before .loop-test .taken)))
 
--- src/lib.rt:115:13
-values-returns : (t : ℕ) → values-lts.Need-returns (expr-below t, expr.Post, push-reads.Asked, push-reads.Learnt, stop-of-reads.Asked, stop-of-reads.Learnt, given-reads.Asked, given-reads.Learnt) (values-at t) values.Post values-Inv-loop values-μ-loop
+-- src/lib.rt:249:13
+values-returns : (t : ℕ) → values-lts.Need-returns (child-below t, child.Post, push-reads.Asked, push-reads.Learnt, stop-of-reads.Asked, stop-of-reads.Learnt, given-reads.Asked, given-reads.Learnt) (values-at t) values.Post values-Inv-loop values-μ-loop
 values-returns t c =
-    valuing-refused (c .before .before .before .before .before .before .loop .inv) (c .before .before .before .before .before .loop-test .taken) (c .before .before .expr .ensures) (c .if1 .taken)
+    valuing-refused (c .before .before .before .before .before .before .loop .inv) (c .before .before .before .before .before .loop-test .taken) (c .before .before .child .ensures) (c .if1 .taken)
 
--- src/lib.rt:117:9
-values-push-requires : (t : ℕ) → values-lts.Need-push-requires (expr-below t, expr.Post, push-reads.Asked, push-reads.Learnt, stop-of-reads.Asked, stop-of-reads.Learnt, given-reads.Asked, given-reads.Learnt) (values-at t) values.Post values-Inv-loop values-μ-loop
+-- src/lib.rt:251:9
+values-push-requires : (t : ℕ) → values-lts.Need-push-requires (child-below t, child.Post, push-reads.Asked, push-reads.Learnt, stop-of-reads.Asked, stop-of-reads.Learnt, given-reads.Asked, given-reads.Learnt) (values-at t) values.Post values-Inv-loop values-μ-loop
 values-push-requires t c κs =
-    (valuing-room (c .before .before .before .before .before .before .before .loop .inv) (c .before .before .before .before .before .before .loop-test .taken), valuing-number (c .before .before .before .before .before .before .before .loop .inv) (c .before .before .before .before .before .before .loop-test .taken) (c .before .before .before .expr .ensures) (c .before .if1 .left))
+    (valuing-room (c .before .before .before .before .before .before .before .loop .inv) (c .before .before .before .before .before .before .loop-test .taken), valuing-number (c .before .before .before .before .before .before .before .loop .inv) (c .before .before .before .before .before .before .loop-test .taken) (c .before .before .before .child .ensures) (c .before .if1 .left))
 
--- src/lib.rt:119:9
-values-add-up : (t : ℕ) → values-lts.Need-add-up (expr-below t, expr.Post, push-reads.Asked, push-reads.Learnt, stop-of-reads.Asked, stop-of-reads.Learnt, given-reads.Asked, given-reads.Learnt) (values-at t) values.Post values-Inv-loop values-μ-loop
+-- src/lib.rt:253:9
+values-add-up : (t : ℕ) → values-lts.Need-add-up (child-below t, child.Post, push-reads.Asked, push-reads.Learnt, stop-of-reads.Asked, stop-of-reads.Learnt, given-reads.Asked, given-reads.Learnt) (values-at t) values.Post values-Inv-loop values-μ-loop
 values-add-up t c =
     omega (arith, valuing-room (c .before .before .before .before .before .before .before .before .before .loop .inv) (c .before .before .before .before .before .before .before .before .loop-test .taken))
 
--- src/lib.rt:120:9
-values-stop-of-requires : (t : ℕ) → values-lts.Need-stop-of-requires (expr-below t, expr.Post, push-reads.Asked, push-reads.Learnt, stop-of-reads.Asked, stop-of-reads.Learnt, given-reads.Asked, given-reads.Learnt) (values-at t) values.Post values-Inv-loop values-μ-loop
+-- src/lib.rt:254:9
+values-stop-of-requires : (t : ℕ) → values-lts.Need-stop-of-requires (child-below t, child.Post, push-reads.Asked, push-reads.Learnt, stop-of-reads.Asked, stop-of-reads.Learnt, given-reads.Asked, given-reads.Learnt) (values-at t) values.Post values-Inv-loop values-μ-loop
 values-stop-of-requires t c κs =
     (c .before .before .before .before .before .before .before .before .before .loop .inv .ready .sound .headed, (c .before .before .before .before .before .before .before .before .before .loop .inv .ready .nodes-at, valuing-at (c .before .before .before .before .before .before .before .before .before .loop .inv) (c .before .before .before .before .before .before .before .before .loop-test .taken) .there))
 
--- src/lib.rt:121:9
-values-sub-left : (t : ℕ) → values-lts.Need-sub-left (expr-below t, expr.Post, push-reads.Asked, push-reads.Learnt, stop-of-reads.Asked, stop-of-reads.Learnt, given-reads.Asked, given-reads.Learnt) (values-at t) values.Post values-Inv-loop values-μ-loop
+-- src/lib.rt:255:9
+values-sub-left : (t : ℕ) → values-lts.Need-sub-left (child-below t, child.Post, push-reads.Asked, push-reads.Learnt, stop-of-reads.Asked, stop-of-reads.Learnt, given-reads.Asked, given-reads.Learnt) (values-at t) values.Post values-Inv-loop values-μ-loop
 values-sub-left t c = search needs
 
--- src/lib.rt:112:5
-values-loop-less : (t : ℕ) → values-lts.Need-loop-less (expr-below t, expr.Post, push-reads.Asked, push-reads.Learnt, stop-of-reads.Asked, stop-of-reads.Learnt, given-reads.Asked, given-reads.Learnt) (values-at t) values.Post values-Inv-loop values-μ-loop
+-- src/lib.rt:246:5
+values-loop-less : (t : ℕ) → values-lts.Need-loop-less (child-below t, child.Post, push-reads.Asked, push-reads.Learnt, stop-of-reads.Asked, stop-of-reads.Learnt, given-reads.Asked, given-reads.Learnt) (values-at t) values.Post values-Inv-loop values-μ-loop
 values-loop-less t c =
     search needs
 
--- src/lib.rt:112:5
-values-loop-again : (t : ℕ) → values-lts.Need-loop-again (expr-below t, expr.Post, push-reads.Asked, push-reads.Learnt, stop-of-reads.Asked, stop-of-reads.Learnt, given-reads.Asked, given-reads.Learnt) (values-at t) values.Post values-Inv-loop values-μ-loop
+-- src/lib.rt:246:5
+values-loop-again : (t : ℕ) → values-lts.Need-loop-again (child-below t, child.Post, push-reads.Asked, push-reads.Learnt, stop-of-reads.Asked, stop-of-reads.Learnt, given-reads.Asked, given-reads.Learnt) (values-at t) values.Post values-Inv-loop values-μ-loop
 values-loop-again t c =
-    rw (c .before .before .push .ensures) (valuing-next (c .before .before .before .before .before .before .before .before .before .before .loop .inv) (c .before .before .before .before .before .before .before .before .before .loop-test .taken) (c .before .before .before .before .before .before .expr .ensures) (c .before .before .before .before .if1 .left) (c .stop-of .ensures))
+    rw (c .before .before .push .ensures) (valuing-next (c .before .before .before .before .before .before .before .before .before .before .loop .inv) (c .before .before .before .before .before .before .before .before .before .loop-test .taken) (c .before .before .before .before .before .before .child .ensures) (c .before .before .before .before .if1 .left) (c .stop-of .ensures))
 
--- src/lib.rt:123:5
-values-given-requires : (t : ℕ) → values-lts.Need-given-requires (expr-below t, expr.Post, push-reads.Asked, push-reads.Learnt, stop-of-reads.Asked, stop-of-reads.Learnt, given-reads.Asked, given-reads.Learnt) (values-at t) values.Post values-Inv-loop values-μ-loop
+-- src/lib.rt:257:5
+values-given-requires : (t : ℕ) → values-lts.Need-given-requires (child-below t, child.Post, push-reads.Asked, push-reads.Learnt, stop-of-reads.Asked, stop-of-reads.Learnt, given-reads.Asked, given-reads.Learnt) (values-at t) values.Post values-Inv-loop values-μ-loop
 values-given-requires t c κs =
     tt
 
--- src/lib.rt:87:1
-values-returns-2 : (t : ℕ) → values-lts.Need-returns-2 (expr-below t, expr.Post, push-reads.Asked, push-reads.Learnt, stop-of-reads.Asked, stop-of-reads.Learnt, given-reads.Asked, given-reads.Learnt) (values-at t) values.Post values-Inv-loop values-μ-loop
+-- src/lib.rt:221:1
+values-returns-2 : (t : ℕ) → values-lts.Need-returns-2 (child-below t, child.Post, push-reads.Asked, push-reads.Learnt, stop-of-reads.Asked, stop-of-reads.Learnt, given-reads.Asked, given-reads.Learnt) (values-at t) values.Post values-Inv-loop values-μ-loop
 values-returns-2 t c =
     rw (c .given .ensures .2) (valuing-end (c .before .before .loop .inv) (c .before .loop-test .left) (c .given .ensures .0))
 
-pub +arguments+bounds+call+dict+expr+list+operands+streams+values-spec : {M : Type 1} → statement M
-+arguments+bounds+call+dict+expr+list+operands+streams+values-spec =
+pub +arguments+bounds+call+child+dict+expr+list+operands+pair+streams+values-spec :
+    {M : Type 1} → statement M
++arguments+bounds+call+child+dict+expr+list+operands+pair+streams+values-spec =
     close
     μ-arguments
     μ-bounds
     μ-call
+    μ-child
     μ-dict
     μ-expr
     μ-list
     μ-operands
+    μ-pair
     μ-streams
     μ-values
     (λ t. arguments-lts.spec (
@@ -938,6 +1088,30 @@ pub +arguments+bounds+call+dict+expr+list+operands+streams+values-spec : {M : Ty
     (call-cast-arguments-2 t)
     (call-arguments-requires t)
     (call-returns-3 t))
+    (λ t. child-lts.spec (
+      node-at-reads.Asked,
+      node-at-reads.Learnt,
+      literal-reads.Asked,
+      literal-reads.Learnt,
+      given-reads.Asked,
+      given-reads.Learnt,
+      variable-reads.Asked,
+      variable-reads.Learnt,
+      expr-below t,
+      expr.Post,
+    )
+    (child-at t)
+    child.Post
+    (child-node-at-requires t)
+    (child-literal-requires t)
+    (child-given-requires t)
+    (child-returns t)
+    (child-cast-variable t)
+    (child-variable-requires t)
+    (child-given-requires-2 t)
+    (child-returns-2 t)
+    (child-expr-requires t)
+    (child-returns-3 t))
     (λ t. dict-lts.spec (
       values-below t,
       values.Post,
@@ -981,10 +1155,12 @@ pub +arguments+bounds+call+dict+expr+list+operands+streams+values-spec : {M : Ty
       given-reads.Learnt,
       variable-reads.Asked,
       variable-reads.Learnt,
-      call-below t,
-      call.Post,
       operands-below t,
       operands.Post,
+      pair-below t,
+      pair.Post,
+      call-below t,
+      call.Post,
       list-below t,
       list.Post,
       dict-below t,
@@ -998,16 +1174,18 @@ pub +arguments+bounds+call+dict+expr+list+operands+streams+values-spec : {M : Ty
     (expr-cast-variable t)
     (expr-variable-requires t)
     (expr-given-requires-2 t)
-    (expr-sub-call t)
-    (expr-call-requires t)
     (expr-sub-operands t)
     (expr-operands-requires t)
+    (expr-sub-pair t)
+    (expr-pair-requires t)
+    (expr-sub-call t)
+    (expr-call-requires t)
+    (expr-sub-operands-2 t)
+    (expr-operands-requires-2 t)
     (expr-sub-list t)
     (expr-list-requires t)
     (expr-sub-dict t)
     (expr-dict-requires t)
-    (expr-sub-operands-2 t)
-    (expr-operands-requires-2 t)
     (expr-sub-operands-3 t)
     (expr-operands-requires-3 t)
     (expr-given-requires-3 t)
@@ -1019,7 +1197,8 @@ pub +arguments+bounds+call+dict+expr+list+operands+streams+values-spec : {M : Ty
     (expr-returns-6 t)
     (expr-returns-7 t)
     (expr-returns-8 t)
-    (expr-returns-9 t))
+    (expr-returns-9 t)
+    (expr-returns-10 t))
     (λ t. list-lts.spec (
       values-below t,
       values.Post,
@@ -1061,6 +1240,30 @@ pub +arguments+bounds+call+dict+expr+list+operands+streams+values-spec : {M : Ty
     (operands-returns t)
     (operands-decide-requires t)
     (operands-returns-2 t))
+    (λ t. pair-lts.spec (
+      child-below t,
+      child.Post,
+      push-reads.Asked,
+      push-reads.Learnt,
+      stop-of-reads.Asked,
+      stop-of-reads.Learnt,
+      operated-reads.Asked,
+      operated-reads.Learnt,
+    )
+    (pair-at t)
+    pair.Post
+    (pair-add-left t)
+    (pair-child-requires t)
+    (pair-returns t)
+    (pair-push-requires t)
+    (pair-stop-of-requires t)
+    (pair-add-child t)
+    (pair-child-requires-2 t)
+    (pair-returns-2 t)
+    (pair-add-push t)
+    (pair-push-requires-2 t)
+    (pair-operated-requires t)
+    (pair-returns-3 t))
     (λ t. streams-lts.spec (
       values-below t,
       values.Post,
@@ -1094,8 +1297,8 @@ pub +arguments+bounds+call+dict+expr+list+operands+streams+values-spec : {M : Ty
     (streams-decided-requires-2 t)
     (streams-returns-4 t))
     λ t. values-lts.spec (
-      expr-below t,
-      expr.Post,
+      child-below t,
+      child.Post,
       push-reads.Asked,
       push-reads.Learnt,
       stop-of-reads.Asked,
@@ -1108,7 +1311,7 @@ pub +arguments+bounds+call+dict+expr+list+operands+streams+values-spec : {M : Ty
     values-Inv-loop
     values-μ-loop
     (values-loop-holds t)
-    (values-expr-requires t)
+    (values-child-requires t)
     (values-returns t)
     (values-push-requires t)
     (values-add-up t)
