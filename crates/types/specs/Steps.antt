@@ -63,6 +63,21 @@ pub record First (P : ℕ → Type 0) (n r : ℕ) : Type 0 where
   pub found : r < n → P r
   pub passed : Passed P r
 
+-- ---- where a search starts: a type's parts have lower numbers than itself
+
+-- r is not above what is neither below n nor below p + 1
+pub record Above (n p r : ℕ) : Type 0 where
+  pub least : (i : ℕ) → n ≤ i → p < i → r ≤ i
+
+-- the q numbers of st from s on are numbers of types
+pub record Small (st : List ℕ) (s q : ℕ) : Type 0 where
+  pub inside : s + q ≤ 2048
+  pub small : (j : ℕ) → j < q → getD st (s + j) 0 < 2056
+
+-- r is not above what is neither below 8 nor below the q numbers of st from s on
+pub record Least (st : List ℕ) (s q r : ℕ) : Type 0 where
+  pub least : (i : ℕ) → 8 ≤ i → ((j : ℕ) → j < q → getD st (s + j) 0 < i) → r ≤ i
+
 -- ---- writing
 
 -- ds is cs with the record (k, p, q) at i

@@ -7,7 +7,7 @@ ghost use lib.ListN.{length, getD, take, drop};
 ghost use Prim.Native.Nat.{ℕ, _+_, _*_, _≤_, _<_};
 ghost use Rattle.meaning.specs.Types.{tuple, tys};
 ghost use Rattle.types.specs.Table.{Wf, Made, tab, denote, built};
-ghost use Rattle.types.specs.Steps.{Asked, Listed, RecordAt, Equal, TupleAt, Told, First, Written, Copied};
+ghost use Rattle.types.specs.Steps.{Asked, Listed, RecordAt, Equal, TupleAt, Told, Passed, First, Above, Small, Least, Written, Copied};
 ghost use Rattle.types.specs.Reading.{KindOf, PartOf, IsNumber, IsTuple, IsElement, CountOf, ElementAt, CommonOf, ElementOf, shared, Agreement};
 
 // The first number that is no plain type's, and the cell of the first tuple element.
@@ -85,12 +85,24 @@ fn holds(table: &[u16; 10272], i: usize, k: u16, p: u16, q: u16) -> bool
     true
 }
 
-// The first number from 8 on whose record is (k, p, q), or `types` where there is none.
-fn find(table: &[u16; 10272], types: usize, k: u16, p: u16, q: u16) -> usize
-    requires { ⌜ (8 ≤ types) × (types ≤ 2056) ⌝ }
+// The larger of n and p + 1.
+fn above(n: usize, p: usize) -> usize
+    requires { ⌜ p < 2056 ⌝ }
+    ensures { λ r. ⌜ Above n p r ⌝ }
+{
+    if n <= p {
+        return p + 1;
+    }
+    n
+}
+
+// The first number whose record is (k, p, q), or `types` where there is none; it is not below `from`.
+fn find(table: &[u16; 10272], from: usize, types: usize, k: u16, p: u16, q: u16) -> usize
+    requires { ⌜ (from ≤ types) × (types ≤ 2056) ⌝ }
+    requires { ⌜ Passed (RecordAt (now table) k p q) from ⌝ }
     ensures { λ r. ⌜ First (RecordAt (now (table .entry)) k p q) types r ⌝ }
 {
-    let mut i = STRUCTURED;
+    let mut i = from;
     while i < types {
         if holds(table, i, k, p, q) {
             return i;
@@ -100,7 +112,8 @@ fn find(table: &[u16; 10272], types: usize, k: u16, p: u16, q: u16) -> usize
     i
 }
 
-// The number of the List, Dict, MapIter or FilterIter of p (and q): the one it has, or the next one.
+// The number of the List, Dict, MapIter or FilterIter of p (and q): the one it has, or the next one. A type's parts have lower numbers than
+// itself, so the search starts above them.
 pub fn form(table: &mut [u16; 10272], counts: Counts, kind: usize, p: usize, q: usize) -> Formed
     requires { ⌜ Asked (tab (now table) (counts .types) (counts .elements)) kind p q ⌝ }
     ensures { λ r. ⌜ Made (tab (now (table .entry)) (counts .types) (counts .elements))
@@ -111,7 +124,8 @@ pub fn form(table: &mut [u16; 10272], counts: Counts, kind: usize, p: usize, q: 
         0 ⌝ }
 {
     let types = counts.types;
-    let i = find(table, types, kind as u16, p as u16, q as u16);
+    let from = above(above(STRUCTURED, p), q);
+    let i = find(table, from, types, kind as u16, p as u16, q as u16);
     if i < types {
         Formed { number: i, counts }
     } else {
@@ -156,7 +170,28 @@ fn matches(table: &[u16; 10272], i: usize, stack: &[u16; 2048], from: usize, n: 
     alike(table, cell(table, 4 * i + 1), stack, from, n)
 }
 
-// The first number from 8 on that is the Tuple of these, or `counts.types` where there is none.
+fn number_at(stack: &[u16; 2048], at: usize) -> usize
+    requires { ⌜ at < 2048 ⌝ }
+    ensures { λ r. ⌜ r ≡ getD (now (stack .entry)) at 0 ⌝ }
+{
+    wide(stack[at])
+}
+
+// The least number from 8 on that is above all n numbers of the stack from `from` on.
+fn least_above(stack: &[u16; 2048], from: usize, n: usize) -> usize
+    requires { ⌜ Small (now stack) from n ⌝ }
+    ensures { λ r. ⌜ Least (now (stack .entry)) from n r ⌝ }
+{
+    let mut low = STRUCTURED;
+    let mut j: usize = 0;
+    while j < n {
+        low = above(low, number_at(stack, from + j));
+        j += 1;
+    }
+    low
+}
+
+// The first number that is the Tuple of these, or `counts.types` where there is none: it is above its elements.
 fn find_tuple(
     table: &[u16; 10272],
     counts: Counts,
@@ -168,7 +203,7 @@ fn find_tuple(
     ensures { λ r. ⌜ First (TupleAt (now (table .entry)) (now (stack .entry)) from n) (counts .types) r ⌝ }
 {
     let types = counts.types;
-    let mut i = STRUCTURED;
+    let mut i = least_above(stack, from, n);
     while i < types {
         if matches(table, i, stack, from, n) {
             return i;

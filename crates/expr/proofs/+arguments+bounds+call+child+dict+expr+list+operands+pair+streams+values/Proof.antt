@@ -897,10 +897,13 @@ streams-stop-of-requires t c κs =
 -- src/lib.rt:733:9
 streams-values-requires-2 : (t : ℕ) → streams-lts.Need-values-requires-2 (values-below t, values.Post, number-at-reads.Asked, number-at-reads.Learnt, first-code-reads.Asked, first-code-reads.Learnt, callable-reads.Asked, callable-reads.Learnt, decided-reads.Asked, decided-reads.Learnt, stop-of-reads.Asked, stop-of-reads.Learnt, stream-reads.Asked, stream-reads.Learnt) (streams-at t) streams.Post
 streams-values-requires-2 t c κs =
-    let o = rw (c .before .before .before .before .before .before .before .number-at .ensures) at (c .before .before .before .before .before .callable .ensures) in
-    (omega (arith, c .before .before .before .before .before .before .before .before .before .before .before .before .before .before .before .pre .0),
-    (stream-ready-2 (c .before .before .before .before .before .before .before .before .before .before .before .before .before .before .before .args .filters) (c .before .before .before .before .before .before .before .before .before .before .before .before .before .before .before .pre .1 .0) (c .before .before .before .before .before .before .before .before .before .before .before .before .before .before .before .pre .1 .1 .0) (c .before .before .before .before .before .before .before .before .before .before .before .before .before .before .before .pre .1 .1 .1) (c .before .before .before .before .before .before .before .before .before .before .before .values .ensures) (c .before .before .before .before .before .before .before .before .before .if1 .left) (c .before .before .before .before .before .before .first-code .ensures) o (c .before .before .stop-of .ensures),
-    stream-row-2 (c .before .before .before .before .before .before .before .before .before .before .before .before .before .before .before .args .filters) (c .before .before .before .before .before .before .before .before .before .before .before .before .before .before .before .pre .1 .0) (c .before .before .before .before .before .before .before .before .before .before .before .before .before .before .before .pre .1 .1 .0) (c .before .before .before .before .before .before .before .before .before .before .before .before .before .before .before .pre .1 .1 .1) (c .before .before .before .before .before .before .before .before .before .before .before .values .ensures) (c .before .before .before .before .before .before .before .before .before .if1 .left) (c .before .before .before .before .before .before .first-code .ensures) o (c .before .before .stop-of .ensures)))
+    let o = rw (c .before .before .before .before .before .before .before .number-at .ensures) at (c .before .before .before .before .before .callable .ensures) in (
+      omega (arith, c .before .before .before .before .before .before .before .before .before .before .before .before .before .before .before .pre .0),
+      (
+        stream-ready-2 (c .before .before .before .before .before .before .before .before .before .before .before .before .before .before .before .args .filters) (c .before .before .before .before .before .before .before .before .before .before .before .before .before .before .before .pre .1 .0) (c .before .before .before .before .before .before .before .before .before .before .before .before .before .before .before .pre .1 .1 .0) (c .before .before .before .before .before .before .before .before .before .before .before .before .before .before .before .pre .1 .1 .1) (c .before .before .before .before .before .before .before .before .before .before .before .values .ensures) (c .before .before .before .before .before .before .before .before .before .if1 .left) (c .before .before .before .before .before .before .first-code .ensures) o (c .before .before .stop-of .ensures),
+        stream-row-2 (c .before .before .before .before .before .before .before .before .before .before .before .before .before .before .before .args .filters) (c .before .before .before .before .before .before .before .before .before .before .before .before .before .before .before .pre .1 .0) (c .before .before .before .before .before .before .before .before .before .before .before .before .before .before .before .pre .1 .1 .0) (c .before .before .before .before .before .before .before .before .before .before .before .before .before .before .before .pre .1 .1 .1) (c .before .before .before .before .before .before .before .before .before .before .before .values .ensures) (c .before .before .before .before .before .before .before .before .before .if1 .left) (c .before .before .before .before .before .before .first-code .ensures) o (c .before .before .stop-of .ensures),
+      ),
+    )
 
 -- src/lib.rt:747:9
 streams-returns-3 : (t : ℕ) → streams-lts.Need-returns-3 (values-below t, values.Post, number-at-reads.Asked, number-at-reads.Learnt, first-code-reads.Asked, first-code-reads.Learnt, callable-reads.Asked, callable-reads.Learnt, decided-reads.Asked, decided-reads.Learnt, stop-of-reads.Asked, stop-of-reads.Learnt, stream-reads.Asked, stream-reads.Learnt) (streams-at t) streams.Post
