@@ -5,7 +5,7 @@ use mathlib.Core.List.{List}
 use Prim.Native.Nat.{ℕ, _+_, _≤_, _<_}
 use lib.ListN.{getD}
 use native.Mathlib.Omega.{arith}
-use Prim.Native.Nat.Discrete.{ℕ-discrete}
+use native.Mathlib.Decide.{ℕ-discrete}
 use borrow.Author.Count.{below-more}
 use Rattle.types.specs.Table.{Tab, Wf}
 use Rattle.types.specs.Steps.{Asked, Listed, RecordAt, TupleAt, Told, Passed, First, Above, Small, Least}
