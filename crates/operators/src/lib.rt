@@ -21,8 +21,66 @@ pub fn answer_of(op: u32, left: u32, right: u32) -> u32
     requires { ⌜ (op < 14) × (left < 13) × (right < 13) ⌝ }
     ensures { λ r. ⌜ r ≡ operatorAnswer (binaryOf op) left right ⌝ }
 {
-    let at = (op * 169 + left * 13 + right) as usize;
-    wide(ANSWERS[at])
+    let table = ANSWERS;
+    let at = (left * 13 + right) as usize;
+    match op {
+        0 => {
+            let row = table[0];
+            wide(row[at])
+        }
+        1 => {
+            let row = table[1];
+            wide(row[at])
+        }
+        2 => {
+            let row = table[2];
+            wide(row[at])
+        }
+        3 => {
+            let row = table[3];
+            wide(row[at])
+        }
+        4 => {
+            let row = table[4];
+            wide(row[at])
+        }
+        5 => {
+            let row = table[5];
+            wide(row[at])
+        }
+        6 => {
+            let row = table[6];
+            wide(row[at])
+        }
+        7 => {
+            let row = table[7];
+            wide(row[at])
+        }
+        8 => {
+            let row = table[8];
+            wide(row[at])
+        }
+        9 => {
+            let row = table[9];
+            wide(row[at])
+        }
+        10 => {
+            let row = table[10];
+            wide(row[at])
+        }
+        11 => {
+            let row = table[11];
+            wide(row[at])
+        }
+        12 => {
+            let row = table[12];
+            wide(row[at])
+        }
+        _ => {
+            let row = table[13];
+            wide(row[at])
+        }
+    }
 }
 
 // The answer of a unary operator.
@@ -30,6 +88,20 @@ pub fn unary_answer_of(op: u32, kind: u32) -> u32
     requires { ⌜ (op < 3) × (kind < 13) ⌝ }
     ensures { λ r. ⌜ r ≡ unaryAnswer (unaryOf op) kind ⌝ }
 {
-    let at = (op * 13 + kind) as usize;
-    wide(UNARY_ANSWERS[at])
+    let table = UNARY_ANSWERS;
+    let at = kind as usize;
+    match op {
+        0 => {
+            let row = table[0];
+            wide(row[at])
+        }
+        1 => {
+            let row = table[1];
+            wide(row[at])
+        }
+        _ => {
+            let row = table[2];
+            wide(row[at])
+        }
+    }
 }
