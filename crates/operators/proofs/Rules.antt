@@ -1,64 +1,78 @@
--- The constants hold what the definitions say: for each of them one test, computed over the whole of it.
+-- The constants hold what the definitions say: for each of them one computation, over the whole of it.
 use mathlib.Core.Path.{_≡_, refl}
-use mathlib.Core.Bool.{Bool}
-use mathlib.Core.Option.{none}
-use Prim.Native.Nat.{ℕ, _+_, _*_, _/_, _%_, _<_}
+use mathlib.Core.List.{List, [], map}
+use Prim.Native.Nat.{ℕ, zero, suc, _+_, _*_, _/_, _%_, _≤_, _<_}
 use native.Mathlib.Omega.{arith}
-use borrow.Author.Tests.{eqb-true}
-use lib.Dec.{eqb}
-use lib.ListN.{length, getD}
-use Rattle.meaning.specs.Base.{base-open}
+use native.Mathlib.Nat.{zero-add, add-zero, add-suc, suc-add, not-suc-le-zero, le-of-suc-le-suc}
+use lib.ListN.{getD}
+use Rattle.meaning.specs.Base.{count, base-open}
 use Rattle.meaning.specs.Types.{types-open}
-use Rattle.meaning.specs.Image.{firstNot, image-open}
 use Rattle.meaning.specs.Decode.{binaryOf, unaryOf, decode-open}
 use Rattle.meaning.specs.Operators.{operatorAnswer, unaryAnswer, operators-open}
-use Rattle.meaning.proofs.Choices.{all-pass}
 use Rattle.operators.proofs.Lists.{answers, unary-answers}
+
+-- ---- the last arm of a match
+
+-- op is none of the numbers below n: what the arms before the last leave
+abbrev Other : ℕ → ℕ → Type 0
+Other op zero = Unit {0}
+Other op (suc n) = Other op n × (op ≡ n → ⊥)
+
+other-above : (op n : ℕ) → Other op n → n ≤ op
+other-above op zero u = omega arith
+other-above op (suc n) u = let h : n ≤ op = other-above op n (u .0) in omega (arith, h, u .1)
+
+pub last : {op : ℕ} (n : ℕ) → op < suc n → Other op n → op ≡ n
+last {op} n h u = omega (arith, h, other-above op n u)
+
+-- ---- tables
+
+-- the rows that f fills
+abbrev table : (ℕ → ℕ → ℕ) → ℕ → ℕ → List (List ℕ)
+table f ops many = map (λ op. map (f op) (count 0 many)) (count 0 ops)
+
+counted-from : {A : Type 0} (f : ℕ → A) (i n : ℕ) (d : A) (k : ℕ) → k < n → getD (map f (count i n)) k d ≡ f (i + k)
+unfolding count
+counted-from f i zero d k h = absurd (not-suc-le-zero h)
+counted-from f i (suc n) d zero h = rw add-zero
+counted-from f i (suc n) d (suc k) h = rw (add-suc, ← suc-add) (counted-from f (suc i) n d k (le-of-suc-le-suc h))
+
+counted : {A : Type 0} (f : ℕ → A) (n : ℕ) (d : A) (k : ℕ) → k < n → getD (map f (count 0 n)) k d ≡ f k
+counted f n d k h = rw zero-add at (counted-from f 0 n d k h)
+
+looked-up : {t : List (List ℕ)} (f : ℕ → ℕ → ℕ) (ops many op k : ℕ) → t ≡ table f ops many → op < ops → k < many
+    → getD (getD t op []) k 0 ≡ f op k
+looked-up f ops many op k e ho hk =
+    rw (e, counted (λ o. map (f o) (count 0 many)) ops [] op ho) (counted (f op) many 0 k hk)
 
 -- ---- two operands
 
--- x is the answer at place k
-right : ℕ → ℕ → Bool
-right k x = eqb x (operatorAnswer (binaryOf (k / 169)) (k / 13 % 13) (k % 13))
+-- the answer at place k of the operator's row
+answer : ℕ → ℕ → ℕ
+answer op k = operatorAnswer (binaryOf op) (k / 13) (k % 13)
 
-all-right : firstNot right 0 answers ≡ none
-unfolding answers right base-open types-open image-open decode-open operators-open
+all-right : answers ≡ table answer 14 169
+unfolding answers answer base-open types-open decode-open operators-open
 all-right = refl
 
-many : length answers ≡ 2366
-unfolding answers
-many = refl
-
-at-place : (k : ℕ) → k < 2366 → getD answers k 0 ≡ operatorAnswer (binaryOf (k / 169)) (k / 13 % 13) (k % 13)
-unfolding right
-at-place k h = eqb-true _ _ (all-pass right answers 0 all-right k (omega (arith, many)))
-
-pub rule : (op l r : ℕ) → op < 14 → l < 13 → r < 13 → getD answers (op * 169 + l * 13 + r) 0 ≡ operatorAnswer (binaryOf op) l r
-rule op l r ho hl hr =
-    let e0 : (op * 169 + l * 13 + r) / 169 ≡ op = omega arith in
-    let e1 : (op * 169 + l * 13 + r) / 13 % 13 ≡ l = omega arith in
-    let e2 : (op * 169 + l * 13 + r) % 13 ≡ r = omega arith in
-    rw (e0, e1, e2) at (at-place (op * 169 + l * 13 + r) (omega arith))
+pub rule : {op l r : ℕ} (n : ℕ) → op ≡ n → (op < 14) × (l < 13) × (r < 13)
+    → getD (getD answers n []) (l * 13 + r) 0 ≡ operatorAnswer (binaryOf op) l r
+unfolding answer
+rule {op} {l} {r} n e h =
+    let e0 : (l * 13 + r) / 13 ≡ l = omega arith in
+    let e1 : (l * 13 + r) % 13 ≡ r = omega arith in
+    rw e (rw (e0, e1) at (looked-up answer 14 169 n (l * 13 + r) all-right (omega arith) (omega arith)))
 
 -- ---- one operand
 
-unary-right : ℕ → ℕ → Bool
-unary-right k x = eqb x (unaryAnswer (unaryOf (k / 13)) (k % 13))
+unary-answer : ℕ → ℕ → ℕ
+unary-answer op k = unaryAnswer (unaryOf op) k
 
-all-unary-right : firstNot unary-right 0 unary-answers ≡ none
-unfolding unary-answers unary-right base-open types-open image-open decode-open operators-open
+all-unary-right : unary-answers ≡ table unary-answer 3 13
+unfolding unary-answers unary-answer base-open types-open decode-open operators-open
 all-unary-right = refl
 
-unary-many : length unary-answers ≡ 39
-unfolding unary-answers
-unary-many = refl
-
-unary-at-place : (k : ℕ) → k < 39 → getD unary-answers k 0 ≡ unaryAnswer (unaryOf (k / 13)) (k % 13)
-unfolding unary-right
-unary-at-place k h = eqb-true _ _ (all-pass unary-right unary-answers 0 all-unary-right k (omega (arith, unary-many)))
-
-pub unary-rule : (op k : ℕ) → op < 3 → k < 13 → getD unary-answers (op * 13 + k) 0 ≡ unaryAnswer (unaryOf op) k
-unary-rule op k ho hk =
-    let e0 : (op * 13 + k) / 13 ≡ op = omega arith in
-    let e1 : (op * 13 + k) % 13 ≡ k = omega arith in
-    rw (e0, e1) at (unary-at-place (op * 13 + k) (omega arith))
+pub unary-rule : {op k : ℕ} (n : ℕ) → op ≡ n → (op < 3) × (k < 13) → getD (getD unary-answers n []) k 0 ≡ unaryAnswer (unaryOf op) k
+unfolding unary-answer
+unary-rule {op} {k} n e h =
+    rw e (looked-up unary-answer 3 13 n k all-unary-right (omega arith) (omega arith))

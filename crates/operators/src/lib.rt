@@ -1,6 +1,7 @@
 // What an operator answers, by the kinds of its operands.
 ghost use mathlib.Core.Path.{_≡_};
 ghost use Prim.Native.Nat.{_<_};
+ghost use lib.ListN.{getD};
 ghost use Rattle.meaning.specs.Operators.{operatorAnswer, unaryAnswer};
 ghost use Rattle.meaning.specs.Decode.{binaryOf, unaryOf};
 
@@ -16,13 +17,46 @@ fn wide(answer: u8) -> u32
     answer as u32
 }
 
+// An entry of one operator's row. The row is copied at a number that the code names, so that a use builds that row on the stack and
+// not the whole table.
+fn entry(row: [u8; 169], at: usize) -> u32
+    requires { ⌜ at < 169 ⌝ }
+    ensures { λ r. ⌜ r ≡ getD row at 0 ⌝ }
+{
+    wide(row[at])
+}
+
+// As entry, for the operators of one operand.
+fn unary_entry(row: [u8; 13], at: usize) -> u32
+    requires { ⌜ at < 13 ⌝ }
+    ensures { λ r. ⌜ r ≡ getD row at 0 ⌝ }
+{
+    wide(row[at])
+}
+
 // The answer of a binary operator. All numbers are u32, as they stand in the image and in the type table.
 pub fn answer_of(op: u32, left: u32, right: u32) -> u32
     requires { ⌜ (op < 14) × (left < 13) × (right < 13) ⌝ }
     ensures { λ r. ⌜ r ≡ operatorAnswer (binaryOf op) left right ⌝ }
 {
-    let at = (op * 169 + left * 13 + right) as usize;
-    wide(ANSWERS[at])
+    let table = ANSWERS;
+    let at = (left * 13 + right) as usize;
+    match op {
+        0 => entry(table[0], at),
+        1 => entry(table[1], at),
+        2 => entry(table[2], at),
+        3 => entry(table[3], at),
+        4 => entry(table[4], at),
+        5 => entry(table[5], at),
+        6 => entry(table[6], at),
+        7 => entry(table[7], at),
+        8 => entry(table[8], at),
+        9 => entry(table[9], at),
+        10 => entry(table[10], at),
+        11 => entry(table[11], at),
+        12 => entry(table[12], at),
+        _ => entry(table[13], at),
+    }
 }
 
 // The answer of a unary operator.
@@ -30,6 +64,11 @@ pub fn unary_answer_of(op: u32, kind: u32) -> u32
     requires { ⌜ (op < 3) × (kind < 13) ⌝ }
     ensures { λ r. ⌜ r ≡ unaryAnswer (unaryOf op) kind ⌝ }
 {
-    let at = (op * 13 + kind) as usize;
-    wide(UNARY_ANSWERS[at])
+    let table = UNARY_ANSWERS;
+    let at = kind as usize;
+    match op {
+        0 => unary_entry(table[0], at),
+        1 => unary_entry(table[1], at),
+        _ => unary_entry(table[2], at),
+    }
 }
