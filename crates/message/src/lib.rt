@@ -573,7 +573,7 @@ fn measured(image: &[u8], table: &[u16; 10272], format: &[u8], pieces: Pieces, c
     requires { ⌜ Ready (now image) (now table) pieces ⌝ }
     ensures { λ r. ⌜ r ≡ clipped cap (length (put-in (now (image .entry)) (now (table .entry)) pieces (now (format .entry)))) ⌝ }
 {
-    let mut lens = [0usize; 2056];
+    let mut lens = [1usize; 2056];
     measure(table, pieces.types, cap, &mut lens);
     total(image, table, format, pieces, &lens, cap)
 }
