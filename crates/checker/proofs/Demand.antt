@@ -35,7 +35,7 @@ use Rattle.checker.proofs.Ends.{answer-fault, answer-sound}
 abbrev pub moduleOf : List ℕ → List Entry
 moduleOf image = entries (namesOf image) (moduleFrame image)
 
-pub record Accepted (image : List ℕ) (a : Meant) : Type 0 where
+pub record Concluded (image : List ℕ) (a : Meant) : Type 0 where
   pub sound : Sound image
   pub sheet : a .sheet ≡ sheetOf (moduleOf image)
 
@@ -67,28 +67,28 @@ module _ (image : List ℕ) (room told : ℕ) where
   by-end (wrong r s) e c = absurd (omega (arith, refused-typing (namesOf image) (treeOf (nodesOf image)) r s e .above))
   by-end (tooDeep n) e c = absurd (omega arith)
 
-  by-fault : (o : Option Fault) → imageFault image ≡ o → answer image room told .code ≡ 0 → Accepted image (answer image room told)
+  by-fault : (o : Option Fault) → imageFault image ≡ o → answer image room told .code ≡ 0 → Concluded image (answer image room told)
   by-fault (some f) e c = absurd (omega (arith, fault-told image f e .above, ap (λ (a : Meant). a .code) (answer-fault image f room told e)))
   by-fault none e c =
       let s = sound image .0 e in
       let a = answer-sound image room told s in
       record { sound = s; sheet = ap (λ (x : Meant). x .sheet) a ∙ by-end (walked image) refl (ap (λ (x : Meant). x .code) (sym a) ∙ c) }
 
-  pub accepted : answer image room told .code ≡ 0 → Accepted image (answer image room told)
+  pub accepted : answer image room told .code ≡ 0 → Concluded image (answer image room told)
   accepted c = by-fault (imageFault image) refl c
 
 -- ---- one run
 
 module _ (image : List ℕ) (room told : ℕ) {r : Answer} {old new oldMessage newMessage : List ℕ}
     (x : Answers (answer image room told) r old new oldMessage newMessage) where
-  sheet-there : sheetIn r new ≡ answer image room told .sheet
+  pub sheet-there : sheetIn r new ≡ answer image room told .sheet
   unfolding overlaid
   sheet-there =
       let n : numbersOf r .sheet ≡ length (answer image room told .sheet) = ap (λ n. n .sheet) (x .numbers) in
       rw (n, x .sheet) (take-append-seam (answer image room told .sheet) (drop (length (answer image room told .sheet)) old))
 
   module _ (c : numbersOf r .code ≡ 0) where
-    own : Accepted image (answer image room told)
+    own : Concluded image (answer image room told)
     own = accepted image room told (sym (ap (λ n. n .code) (x .numbers)) ∙ c)
 
     -- the sheet is that of the module frame

@@ -1,15 +1,17 @@
 -- Document 01's runs with known ends, of `check`: they are proved of `answer` in `meaning`, each table as one statement, and whatever
 -- `check` leaves is what `answer` says.
-use mathlib.Core.Path.{_≡_, sym, subst}
+use mathlib.Core.Path.{_≡_, refl, ap, subst}
 use mathlib.Core.Logic.{⊎-elim}
-use mathlib.Core.List.{List, [], _∷_, map, List·Memᴰ, List·Memᴰ·not-nil, List·Memᴰ·cases-cons, head-eq-of-cons-eq, tail-eq-of-cons-eq}
+use mathlib.Core.List.{List, [], _∷_, map, List·Memᴰ, List·Memᴰ·head, List·Memᴰ·tail, List·Memᴰ·not-nil, List·Memᴰ·cases-cons, head-eq-of-cons-eq, tail-eq-of-cons-eq}
 use Prim.Native.Nat.{ℕ}
+use lib.ListN.{getD}
+use Rattle.meaning.specs.Base.{bytes, words}
 use Rattle.meaning.specs.Limits.{sheetBuffer, messageBuffer}
 use Rattle.meaning.specs.Answer.{answer}
 use Rattle.meaning.specs.Answer.{Answer as Meant}
 use Rattle.meaning.proofs.Rows.{Run}
-use Rattle.meaning.proofs.Runs.{runs, runs-end, also, also-end}
-use Rattle.checker.specs.Answers.{Answers}
+use Rattle.meaning.proofs.Runs.{noNames, runs, runs-end, also, also-end}
+use Rattle.checker.specs.Answers.{Answers, Numbers, numbersOf}
 use Rattle.checker.specs.declared.Answer.{Answer}
 
 each : {A B : Type 0} (f g : A → B) (xs : List A) → map f xs ≡ map g xs → (x : A) → List·Memᴰ x xs → f x ≡ g x
@@ -33,3 +35,11 @@ starred-end = all-end runs runs-end
 -- "Also: .."
 pub others-end : (run : Run) → List·Memᴰ run also → Ends run
 others-end = all-end also also-end
+
+-- Run 2, `x = 1`, read off the table: accepted, 53 bytes.
+pub second-end : {r : Answer} {s s₁ m m₁ : List ℕ} → Answers (answer (getD runs 1 ([], noNames) .0) sheetBuffer messageBuffer) r s s₁ m m₁
+    → (numbersOf r .code ≡ 0) × (numbersOf r .sheet ≡ 53)
+unfolding bytes words
+second-end x =
+    let a = starred-end (getD runs 1 ([], noNames)) (List·Memᴰ·tail (List·Memᴰ·head refl)) .leaves x in
+    (ap (λ (n : Numbers). n .code) (a .numbers), ap (λ (n : Numbers). n .sheet) (a .numbers))
