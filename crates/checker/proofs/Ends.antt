@@ -48,7 +48,7 @@ answer-sound bs s m h = rw (sound bs .1 h)
 
 -- ---- an accepted program
 
-newest-row : (t : Tab) (fs : Rows) (top : ℕ) → newest (framesOf t fs top) ≡ frameOf t (getD fs top [])
+pub newest-row : (t : Tab) (fs : Rows) (top : ℕ) → newest (framesOf t fs top) ≡ frameOf t (getD fs top [])
 unfolding newest framesOf below
 newest-row t fs top = refl
 

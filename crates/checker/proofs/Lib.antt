@@ -1,4 +1,7 @@
 mod Places
+mod Short
 pub mod Ends
 pub mod Outcomes
 pub mod Sheets
+pub mod Demand
+pub mod Starred

@@ -24,7 +24,8 @@ use Rattle.checker.specs.declared.Refusal.{Refusal}
 use Rattle.checker.specs.declared.Answer.{Answer}
 use Rattle.checker.specs.declared.Answer.the-variants.{Accepted, BadHead, BadCount, BadOffset, BadName, UnsafeName, BadNode, BadNesting, TooDeep, NinthFrame, ShortBuffer, Typing}
 use Rattle.checker.proofs.Places.{fault-near}
-use Rattle.checker.proofs.Ends.{answer-fault, ran-well, ran-deep, ran-ill, ran-typing}
+use Rattle.checker.proofs.Short.{sheet-short, written-short}
+use Rattle.checker.proofs.Ends.{newest-row, answer-fault, ran-well, ran-deep, ran-ill, ran-typing}
 
 -- a buffer that nothing was written to
 kept : (m : List ℕ) → m ≡ overlaid [] m
@@ -49,7 +50,7 @@ no-place room bs = by (leb (length bs) room)
 pub answers-fault : (bs : List ℕ) (x y : ℕ) {f : Fault} {q : Answer} {s m : List ℕ} → imageFault bs ≡ some f → numbersOf q ≡ bareNumbers (f .code) (f .place)
     → Stands q → Answers (answer bs x y) q s s m m
 answers-fault bs x y {f} {q} {s} {m} e n t =
-    rw (answer-fault bs f x y e) record { numbers = n; stands = t; near = fault-near bs f e; sheet = kept s; message = kept m }
+    rw (answer-fault bs f x y e) record { numbers = n; stands = t; near = fault-near bs f e; short = omega arith; sheet = kept s; message = kept m }
 
 module _ {bs : List ℕ} {t u : Tab} {gs : Rows} {top : ℕ} {su : List ℕ} {code place a b : ℕ} (h : Sound bs) (r : Ran bs t u gs top su code place a b) where
   pub ran-accepting : code ≡ 0 → Accepting bs u gs top
@@ -62,12 +63,13 @@ module _ {bs : List ℕ} {t u : Tab} {gs : Rows} {top : ℕ} {su : List ℕ} {co
         numbers = w .numbers;
         stands = w .stands;
         near = rw (no-place (length old) (sheetOf (entries (namesOf bs) (newest (framesOf u gs top))))) (omega arith);
+        short = written-short (length old) (sheetOf (entries (namesOf bs) (newest (framesOf u gs top)))) (rw (newest-row u gs top) (sheet-short h (ran-accepting z .wf) (ran-accepting z .fit)));
         sheet = w .sheet;
         message = rw (no-message (length old) (sheetOf (entries (namesOf bs) (newest (framesOf u gs top))))) (kept m);
       }
 
   pub answers-deep : (x y : ℕ) {s m : List ℕ} → (code ≡ 0 → ⊥) → code ≡ 9 → Answers (answer bs x y) (NinthFrame place) s s m m
-  answers-deep x y {s} {m} z n = rw (ran-deep h r z n x y) record { numbers = refl; stands = tt; near = omega (arith, r .placed n, sizes (h .headed) .nodes); sheet = kept s; message = kept m }
+  answers-deep x y {s} {m} z n = rw (ran-deep h r z n x y) record { numbers = refl; stands = tt; near = omega (arith, r .placed n, sizes (h .headed) .nodes); short = omega arith; sheet = kept s; message = kept m }
 
   pub ran-refusing : {nodes : ℕ} → nodes ≡ nodesFrom bs → (code ≡ 0 → ⊥) → (code ≡ 9 → ⊥) → Refusing bs nodes u code place a b
   ran-refusing e z n = record {
@@ -86,6 +88,7 @@ module _ {bs : List ℕ} {t u : Tab} {gs : Rows} {top : ℕ} {su : List ℕ} {co
         numbers = w .numbers;
         stands = w .stands;
         near = omega (arith, r .named n .placed z, sizes (h .headed) .nodes);
+        short = omega arith;
         sheet = kept s;
         message = w .message;
       }

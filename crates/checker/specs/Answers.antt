@@ -71,11 +71,13 @@ numbersIn a =
       message = length (a .message);
     }
 
--- r has the numbers of a, its place is a word, a's sheet stands at the front of the one buffer and its message at the front of the other, and the rest is kept
+-- r has the numbers of a, its place and the length of its sheet are words, a's sheet stands at the front of the one buffer and its message
+-- at the front of the other, and the rest is kept
 pub record Answers (a : Meant) (r : Answer) (oldSheet newSheet oldMessage newMessage : List ℕ) : Type 0 where
   pub numbers : numbersOf r ≡ numbersIn a
   pub stands : Stands r
   pub near : a .place < 4294967296
+  pub short : length (a .sheet) < 4294967296
   pub sheet : newSheet ≡ overlaid (a .sheet) oldSheet
   pub message : newMessage ≡ overlaid (a .message) oldMessage
 

@@ -9,10 +9,10 @@ use Rattle.meaning.specs.Answer.{Answer, answer, meaning-open}
 use Rattle.meaning.specs.Line.{printed, line-open}
 use Rattle.meaning.proofs.Rows.{Run, image, accepts, refuses}
 
-abbrev noNames : Answer
+abbrev pub noNames : Answer
 noNames = accepts (words (1 ∷ 0 ∷ 40 ∷ 0 ∷ 40 ∷ 0 ∷ 40 ∷ 0 ∷ 40 ∷ 40 ∷ []) ++ bytes "")
 
-abbrev runs : List Run
+abbrev pub runs : List Run
 runs =
     ((
       image []
@@ -82,7 +82,7 @@ runs-end = refl
 
 -- ---- "Also: .."
 
-abbrev also : List Run
+abbrev pub also : List Run
 also =
     ((
       image []

@@ -29,7 +29,7 @@ pub record Limits (es : List Entry) : Type 0 where
   pub elements : length (elementsOf (typesOf es [])) ≤ 2047
   pub size : length (spellings es) ≤ 64 * length es
 
-texts-size : (last : List ℕ) (es : List Entry) → textsStand last es ≡ true → length (spellings es) ≤ 64 * length es
+pub texts-size : (last : List ℕ) (es : List Entry) → textsStand last es ≡ true → length (spellings es) ≤ 64 * length es
 unfolding textsStand textStands spellings
 texts-size last [] h = omega arith
 texts-size last (e ∷ es) h =
@@ -45,6 +45,16 @@ limits es h =
       elements = leb-true _ 2047 (and-right _ _ h);
       size = texts-size [] es (and-left _ _ (and-left _ _ (and-left _ _ h)));
     }
+
+-- ---- the length
+
+pub sheet-size : (es : List Entry)
+    → length (sheetOf es) ≡ 40 + 12 * length (typesOf es []) + 4 * length (elementsOf (typesOf es [])) + 12 * length es + length (spellings es)
+unfolding sheetOf
+sheet-size es = simp (length-append, words-length, laid-many, types-many, names-many, length-map) (omega arith)
+
+pub sheet-length : (es : List Entry) → withinLimits es ≡ true → length (sheetOf es) ≤ 42532
+sheet-length es w = omega (arith, limits es w, sheet-size es)
 
 -- ---- a header and four areas read back
 
@@ -93,15 +103,18 @@ module _ (es : List Entry) where
   unfolding entriesFrom
   areas = rw (types-read us (map (number us) (elementsOf us)) [] us 0 refl (walked .ordered) refl) (names-read us (spellings es) es 0 (walked .known) refl)
 
-  counts : Limits es → (word (sheetOf es) 4 ≡ length us) × (word (sheetOf es) 12 ≡ length (elementsOf us)) × (word (sheetOf es) 20 ≡ length es)
+  -- a sheet whose length is a word says its own counts
+  counts : length (sheetOf es) < 4294967296
+      → (word (sheetOf es) 4 ≡ length us) × (word (sheetOf es) 12 ≡ length (elementsOf us)) × (word (sheetOf es) 20 ≡ length es)
   unfolding sheetOf
-  counts h = laid-words _ _ _ _ _ _ _ _ _ _ _ _ _ (omega arith) (omega arith) (omega arith)
+  counts l = let s = sheet-size es in laid-words _ _ _ _ _ _ _ _ _ _ _ _ _ (omega arith) (omega arith) (omega arith)
 
-  pub round-trip : withinLimits es ≡ true → entriesIn (sheetOf es) ≡ es
+  -- and is read back: of the limits no more is needed
+  pub short-trip : length (sheetOf es) < 4294967296 → entriesIn (sheetOf es) ≡ es
   unfolding sheetOf
-  round-trip w =
-      let h = limits es w in
-      let c = counts h in
+  short-trip l =
+      let s = sheet-size es in
+      let c = counts l in
       let T = typeRecords us 0 us in
       let E = map (number us) (elementsOf us) in
       let N = nameRecords us 0 es in
@@ -111,9 +124,19 @@ module _ (es : List Entry) where
       (laid-drop _ _ _ _ _ _ _ _ _ (words (laid T)) (words E) (words (laid N)) (spellings es) _ _ _ (laid-length T) (words-length E) (laid-length N))
       ∙ areas
 
+  word-long : withinLimits es ≡ true → length (sheetOf es) < 4294967296
+  word-long w = omega (arith, sheet-length es w)
+
+  pub round-trip : withinLimits es ≡ true → entriesIn (sheetOf es) ≡ es
+  round-trip w = short-trip (word-long w)
+
 -- two lists of entries with one sheet are one
 pub sheet-injective : (es fs : List Entry) → withinLimits es ≡ true → withinLimits fs ≡ true → (sheetOf es ≡ sheetOf fs) ↔ (es ≡ fs)
 sheet-injective es fs v w = (λ e. sym (round-trip es v) ∙ (ap entriesIn e ∙ round-trip fs w), λ e. ap sheetOf e)
+
+-- the same of any entries, their sheets being short enough for words to count them
+pub short-injective : (es fs : List Entry) → length (sheetOf es) < 4294967296 → length (sheetOf fs) < 4294967296 → (sheetOf es ≡ sheetOf fs) ↔ (es ≡ fs)
+short-injective es fs v w = (λ e. sym (short-trip es v) ∙ (ap entriesIn e ∙ short-trip fs w), λ e. ap sheetOf e)
 
 -- ---- the form
 
@@ -127,7 +150,7 @@ pub is-sheet : (bs : List ℕ) (es : List Entry) → SheetOf bs es → isSheet b
 unfolding isSheet
 is-sheet bs es s =
     let h = limits es (s .limits) in
-    let c = counts es h in
+    let c = counts es (word-long es (s .limits)) in
     rw (s .written, round-trip es (s .limits), c .0, c .1, c .2)
     (both _ _ (both _ _ (both _ _ (le-leb _ 2048 (h .types)) (le-leb _ 2047 (h .elements))) (le-leb _ 128 (h .names))) (both _ _ (text-same (sheetOf es)) (s .limits)))
 
@@ -153,15 +176,7 @@ read-none bs = (
   λ n. rw (not-so (isSheet bs) (λ h. n (entriesIn bs) (sheet-is bs h))),
 )
 
--- ---- its length, its header, its bytes
-
-pub sheet-size : (es : List Entry)
-    → length (sheetOf es) ≡ 40 + 12 * length (typesOf es []) + 4 * length (elementsOf (typesOf es [])) + 12 * length es + length (spellings es)
-unfolding sheetOf
-sheet-size es = simp (length-append, words-length, laid-many, types-many, names-many, length-map) (omega arith)
-
-pub sheet-length : (es : List Entry) → withinLimits es ≡ true → length (sheetOf es) ≤ 42532
-sheet-length es w = omega (arith, limits es w, sheet-size es)
+-- ---- its header, its bytes
 
 -- the ten words of the header
 pub record Header (bs : List ℕ) (types elements names size : ℕ) : Type 0 where

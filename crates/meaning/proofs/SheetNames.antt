@@ -35,7 +35,7 @@ unfolding before if_then_else_
 cons-before x y xs ys (inl h) = rw (ne-eqb x y (λ e. omega arith), lt-ltb x y h)
 cons-before x y xs ys (inr h) = rw (eq-eqb x y (h .0)) (h .1)
 
-before-trans : (a b c : List ℕ) → before a b ≡ true → before b c ≡ true → before a c ≡ true
+pub before-trans : (a b c : List ℕ) → before a b ≡ true → before b c ≡ true → before a c ≡ true
 unfolding before
 before-trans a b [] h k = absurd (false≢true k)
 before-trans [] b (z ∷ zs) h k = refl

@@ -1,0 +1,140 @@
+-- Demand 3, of two runs of `check`: "Two sheets are equal exactly when both modules end with the same names in the module frame with the
+-- same types."
+use mathlib.Core.Path.{_≡_, refl, sym, ap, _∙_, subst}
+use mathlib.Core.Bool.{Bool, true, false}
+use mathlib.Core.Logic.{_↔_}
+use mathlib.Core.Option.{Option, none, some}
+use mathlib.Core.List.{List, [], _∷_, _++_, List·Memᴰ}
+use Prim.Native.Nat.{ℕ, _≤_, _<_}
+use native.Mathlib.Omega.{arith}
+use lib.Dec.{leb}
+use lib.ListN.{length, take, drop}
+use lib.Seq.{take-append-seam}
+use Rattle.meaning.specs.Base.{if_then_else_}
+use Rattle.meaning.specs.Types.{Ty}
+use Rattle.meaning.specs.Image.{Fault, Name, Node, imageFault, namesOf, nodesOf}
+use Rattle.meaning.specs.Decode.{treeOf}
+use Rattle.meaning.specs.Frames.{Frame, Frames, newest}
+use Rattle.meaning.specs.Walk.{State, End, done, wrong, tooDeep, program, start}
+use Rattle.meaning.specs.Sheet.{Entry, entries, sheetOf}
+use Rattle.meaning.specs.Read.{entriesIn}
+use Rattle.meaning.specs.Answer.{Answer as Meant, bare, written, ended, walked, answer, overlaid}
+use Rattle.meaning.proofs.Faults.{Sound, sound, fault-told}
+use Rattle.meaning.proofs.Kept.{accepted-one-frame, refused-typing}
+use Rattle.meaning.proofs.SheetForm.{short-trip, short-injective}
+use Rattle.meaning.proofs.SheetNames.{texts-stand}
+use Rattle.meaning.proofs.SheetSame.{told-by-members, entry-held, held-entry}
+use Rattle.checker.specs.Answers.{Answers, numbersOf}
+use Rattle.checker.specs.Module.{framesAt, lowest, moduleFrame, ModuleHas, SameModule, sheetIn}
+use Rattle.checker.specs.declared.Answer.{Answer}
+use Rattle.checker.proofs.Ends.{answer-fault, answer-sound}
+
+-- ---- an accepted program: its image is sound, and its sheet is that of its module frame
+
+-- the names of the module frame with their types, in byte order
+abbrev pub moduleOf : List ℕ → List Entry
+moduleOf image = entries (namesOf image) (moduleFrame image)
+
+pub record Concluded (image : List ℕ) (a : Meant) : Type 0 where
+  pub sound : Sound image
+  pub sheet : a .sheet ≡ sheetOf (moduleOf image)
+
+only-frame : (fs : Frames) → length fs ≡ 1 → newest fs ≡ lowest [] fs
+unfolding newest lowest
+only-frame [] e = refl
+only-frame (f ∷ []) e = refl
+only-frame (f ∷ g ∷ fs) e = absurd (omega arith)
+
+written-sheet : (room : ℕ) (bs : List ℕ) → written room bs .code ≡ 0 → written room bs .sheet ≡ bs
+unfolding written if_then_else_
+written-sheet room bs e = by (leb (length bs) room) e
+  where
+    by : (b : Bool) → (if b then record { code = 0; place = 0; spanStart = 0; spanEnd = 0; sheet = bs; message = [] } else bare 10 0) .code ≡ 0
+        → (if b then record { code = 0; place = 0; spanStart = 0; spanEnd = 0; sheet = bs; message = [] } else bare 10 0) .sheet ≡ bs
+    by true e = refl
+    by false e = absurd (omega arith)
+
+module _ (image : List ℕ) (room told : ℕ) where
+  -- the module frame of a program that ended well is its only frame
+  one-frame : (s : State) → walked image ≡ done s → newest (s .frames) ≡ moduleFrame image
+  unfolding walked moduleFrame framesAt
+  one-frame s e = only-frame (s .frames) (accepted-one-frame (namesOf image) (treeOf (nodesOf image)) s e) ∙ ap (λ (x : End). lowest [] (framesAt x)) (sym e)
+
+  by-end : (e : End) → walked image ≡ e → ended (namesOf image) (nodesOf image) room told e .code ≡ 0
+      → ended (namesOf image) (nodesOf image) room told e .sheet ≡ sheetOf (moduleOf image)
+  unfolding ended walked
+  by-end (done s) e c = written-sheet room _ c ∙ ap (λ (f : Frame). sheetOf (entries (namesOf image) f)) (one-frame s e)
+  by-end (wrong r s) e c = absurd (omega (arith, refused-typing (namesOf image) (treeOf (nodesOf image)) r s e .above))
+  by-end (tooDeep n) e c = absurd (omega arith)
+
+  by-fault : (o : Option Fault) → imageFault image ≡ o → answer image room told .code ≡ 0 → Concluded image (answer image room told)
+  by-fault (some f) e c = absurd (omega (arith, fault-told image f e .above, ap (λ (a : Meant). a .code) (answer-fault image f room told e)))
+  by-fault none e c =
+      let s = sound image .0 e in
+      let a = answer-sound image room told s in
+      record { sound = s; sheet = ap (λ (x : Meant). x .sheet) a ∙ by-end (walked image) refl (ap (λ (x : Meant). x .code) (sym a) ∙ c) }
+
+  pub accepted : answer image room told .code ≡ 0 → Concluded image (answer image room told)
+  accepted c = by-fault (imageFault image) refl c
+
+-- ---- one run
+
+module _ (image : List ℕ) (room told : ℕ) {r : Answer} {old new oldMessage newMessage : List ℕ}
+    (x : Answers (answer image room told) r old new oldMessage newMessage) where
+  pub sheet-there : sheetIn r new ≡ answer image room told .sheet
+  unfolding overlaid
+  sheet-there =
+      let n : numbersOf r .sheet ≡ length (answer image room told .sheet) = ap (λ n. n .sheet) (x .numbers) in
+      rw (n, x .sheet) (take-append-seam (answer image room told .sheet) (drop (length (answer image room told .sheet)) old))
+
+  module _ (c : numbersOf r .code ≡ 0) where
+    own : Concluded image (answer image room told)
+    own = accepted image room told (sym (ap (λ n. n .code) (x .numbers)) ∙ c)
+
+    -- the sheet is that of the module frame
+    pub sheet-of-module : sheetIn r new ≡ sheetOf (moduleOf image)
+    sheet-of-module = sheet-there ∙ own .sheet
+
+    module-short : length (sheetOf (moduleOf image)) < 4294967296
+    module-short = rw (← own .sheet) (x .short)
+
+    -- and says what the module frame holds: reading gives its names with their types
+    pub sheet-tells-module : entriesIn (sheetIn r new) ≡ moduleOf image
+    sheet-tells-module = ap entriesIn sheet-of-module ∙ short-trip (moduleOf image) module-short
+
+-- ---- the names with their types, as a list and one by one
+
+module _ {a b : List ℕ} (s : Sound a) (t : Sound b) where
+  pub same-list : SameModule a b → moduleOf a ≡ moduleOf b
+  same-list m =
+      told-by-members [] [] (moduleOf a) (moduleOf b) (texts-stand a s (moduleFrame a)) (texts-stand b t (moduleFrame b))
+      (λ e i. held-entry (m .same (e .0) (e .1) .0 (entry-held (namesOf a) (moduleFrame a) (e .0) (e .1) i)))
+      (λ e i. held-entry (m .same (e .0) (e .1) .1 (entry-held (namesOf b) (moduleFrame b) (e .0) (e .1) i)))
+
+pub list-same : {a b : List ℕ} → moduleOf a ≡ moduleOf b → SameModule a b
+list-same {a} {b} e =
+    record {
+      same = λ name t. (
+        λ h. entry-held (namesOf b) (moduleFrame b) name t (subst (List·Memᴰ (name, t)) e (held-entry h)),
+        λ h. entry-held (namesOf a) (moduleFrame a) name t (subst (List·Memᴰ (name, t)) (sym e) (held-entry h)),
+      );
+    }
+
+-- ---- two runs
+
+module _ (a b : List ℕ) (room told room₂ told₂ : ℕ) {r q : Answer} {s s₁ m m₁ t t₁ n n₁ : List ℕ}
+    (x : Answers (answer a room told) r s s₁ m m₁) (y : Answers (answer b room₂ told₂) q t t₁ n n₁)
+    (c : numbersOf r .code ≡ 0) (d : numbersOf q .code ≡ 0) where
+  pub same-sheet-same-list : (sheetIn r s₁ ≡ sheetIn q t₁) ↔ (moduleOf a ≡ moduleOf b)
+  same-sheet-same-list =
+      let i = short-injective (moduleOf a) (moduleOf b) (module-short a room told x c) (module-short b room₂ told₂ y d) in
+      let u = sheet-of-module a room told x c in
+      let v = sheet-of-module b room₂ told₂ y d in
+      (λ e. i .0 (sym u ∙ e ∙ v), λ e. u ∙ i .1 e ∙ sym v)
+
+  -- "Two sheets are equal exactly when both modules end with the same names in the module frame with the same types."
+  pub same-sheet-same-module : (sheetIn r s₁ ≡ sheetIn q t₁) ↔ SameModule a b
+  same-sheet-same-module = (
+    λ e. list-same (same-sheet-same-list .0 e),
+    λ e. same-sheet-same-list .1 (same-list (own a room told x c .sound) (own b room₂ told₂ y d .sound) e),
+  )
