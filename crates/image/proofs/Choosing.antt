@@ -1,6 +1,5 @@
 -- The arms of the matches on a role's number and on a node's kind. Assumes nothing.
 use mathlib.Core.Path.{_≡_, refl, sym, _∙_}
-use mathlib.Core.List.{List}
 use mathlib.Core.Logic.{_⊎_, inl, inr}
 use mathlib.Core.Bool.{Bool, true, false, not, false≢true}
 use Prim.Native.Nat.{ℕ, suc, _+_, _%_, _<_, _≤_}

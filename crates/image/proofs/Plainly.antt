@@ -1,11 +1,11 @@
 -- The limits of each kind, against what 6 says of it. Assumes nothing.
 use mathlib.Core.Path.{_≡_, refl, subst}
-use mathlib.Core.Bool.{Bool, true, false, not}
-use Prim.Native.Nat.{ℕ, zero, suc, _%_, _<_, _≤_}
+use mathlib.Core.Bool.{true, false}
+use Prim.Native.Nat.{ℕ, suc, _%_, _<_, _≤_}
 use native.Mathlib.Nat.{not-suc-le-zero}
 use native.Mathlib.Decide.{decLt}
 use native.Mathlib.Omega.{arith}
-use lib.Dec.{eqb, leb, ltb}
+use lib.Dec.{eqb, leb}
 use lib.ListN.{getD}
 use borrow.Author.Tests.{eq-eqb, le-leb, lt-leb, lt-ltb, le-ltb, ltb-true, leb-true}
 use Rattle.meaning.specs.Base.{_and_, _or_, choose, if_then_else_}
@@ -46,9 +46,19 @@ module _ {c : ℕ} where
   any : 0 ≤ c → c ≤ 4294967295 → true ≡ true
   any l u = refl
 
+-- in the order of the kinds, from 0 on
 counts : (c : ℕ) → Each (Counts c) 0
 unfolding countStands choose if_then_else_
-counts c = exactly 0 next exactly 0 next exactly 0 next exactly 0 next exactly 0 next exactly 2 next exactly 1 next exactly 1 next from 2 next exactly 2 next exactly 2 next from 1 next any next exactly 0 next exactly 0 next exactly 0 next exactly 0 next exactly 0 next exactly 0 next exactly 0 next exactly 0 next exactly 0 next exactly 1 next exactly 2 next from 1 next exactly 1 next any next paired next any next any next any next exactly 2 next exactly 0 next done
+counts c =
+    exactly 0 next exactly 0 next exactly 0 next exactly 0 next exactly 0 next
+    exactly 2 next exactly 1 next exactly 1 next
+    from 2 next exactly 2 next exactly 2 next from 1 next
+    any next exactly 0 next
+    exactly 0 next exactly 0 next exactly 0 next exactly 0 next exactly 0 next exactly 0 next
+    exactly 0 next exactly 0 next exactly 1 next exactly 2 next
+    from 1 next exactly 1 next any next paired next
+    any next any next any next exactly 2 next exactly 0 next
+    done
 
 -- ---- args
 
@@ -62,9 +72,23 @@ Args N a k = a < getD (argLimits N) k 0 → Told N k (getD (argLimits N) k 0)
 never : {A : Type 0} {a : ℕ} → a < 0 → A
 never h = absurd (not-suc-le-zero h)
 
+-- in the order of the kinds, from 0 on
 args : (N a : ℕ) → Each (Args N a) 0
 unfolding isStatement isSpanless isExpression argBelow choose if_then_else_ _and_ _or_
-args N a = never next (λ h. (refl, refl, refl)) next (λ h. (refl, refl, refl)) next (λ h. (refl, refl, refl)) next (λ h. (refl, refl, refl)) next (λ h. (refl, refl, refl)) next (λ h. (refl, refl, refl)) next (λ h. (refl, refl, refl)) next (λ h. (refl, refl, refl)) next (λ h. (refl, refl, refl)) next (λ h. (refl, refl, refl)) next (λ h. (refl, refl, refl)) next never next never next never next never next never next never next never next never next (λ h. (refl, refl, refl)) next (λ h. (refl, refl, refl)) next (λ h. (refl, refl, refl)) next (λ h. (refl, refl, refl)) next (λ h. (refl, refl, refl)) next (λ h. (refl, refl, refl)) next (λ h. (refl, refl, refl)) next (λ h. (refl, refl, refl)) next (λ h. (refl, refl, refl)) next (λ h. (refl, refl, refl)) next (λ h. (refl, refl, refl)) next (λ h. (refl, refl, refl)) next (λ h. (refl, refl, refl)) next done
+args N a =
+    never next
+    (λ h. (refl, refl, refl)) next (λ h. (refl, refl, refl)) next (λ h. (refl, refl, refl)) next
+    (λ h. (refl, refl, refl)) next (λ h. (refl, refl, refl)) next (λ h. (refl, refl, refl)) next
+    (λ h. (refl, refl, refl)) next (λ h. (refl, refl, refl)) next (λ h. (refl, refl, refl)) next
+    (λ h. (refl, refl, refl)) next (λ h. (refl, refl, refl)) next
+    never next never next
+    never next never next never next never next never next never next
+    (λ h. (refl, refl, refl)) next (λ h. (refl, refl, refl)) next (λ h. (refl, refl, refl)) next
+    (λ h. (refl, refl, refl)) next (λ h. (refl, refl, refl)) next (λ h. (refl, refl, refl)) next
+    (λ h. (refl, refl, refl)) next (λ h. (refl, refl, refl)) next (λ h. (refl, refl, refl)) next
+    (λ h. (refl, refl, refl)) next (λ h. (refl, refl, refl)) next (λ h. (refl, refl, refl)) next
+    (λ h. (refl, refl, refl)) next
+    done
 
 -- ---- a node
 

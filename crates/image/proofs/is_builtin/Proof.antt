@@ -1,7 +1,6 @@
 -- The answers stand by name in answers/is_builtin.txt.
 use Rattle.image.proofs.Choosing.{in-range, below-range, above-range}
 use native.Mathlib.Omega.{arith}
-use borrow.Author.Needs.{needs}
 use Rattle.image.proofs.is_builtin.Statement.{statement}
 use Rattle.image.proofs.is_builtin.Tie as tie
 use Rattle.image.proofs.is_builtin.Reads as reads

@@ -1,7 +1,6 @@
 -- The answers stand by name in answers/node_stands.txt.
 use Rattle.image.proofs.Plainly.{plain-stands, node-by-record, node-ended, node-outside}
 use mathlib.Core.Path.{sym, _∙_}
-use native.Mathlib.Omega.{arith}
 use borrow.Author.Needs.{needs}
 use Rattle.image.proofs.node_stands.Statement.{statement}
 use Rattle.image.proofs.node_stands.Tie as tie

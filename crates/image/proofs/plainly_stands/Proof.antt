@@ -2,7 +2,6 @@
 use Rattle.image.specs.Kinds.{plain}
 use Rattle.meaning.specs.Base.{_and_}
 use borrow.Author.Tests.{lt-ltb, le-ltb, lt-leb, le-leb}
-use native.Mathlib.Omega.{arith}
 use borrow.Author.Needs.{needs}
 use Rattle.image.proofs.plainly_stands.Statement.{statement}
 use Rattle.image.proofs.plainly_stands.Tie as tie

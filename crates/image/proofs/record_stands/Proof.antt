@@ -2,7 +2,6 @@
 use Rattle.image.specs.Kinds.{recordStands}
 use Rattle.meaning.specs.Base.{_and_}
 use borrow.Author.Tests.{lt-ltb, le-ltb, not-true, not-false}
-use native.Mathlib.Omega.{arith}
 use borrow.Author.Needs.{needs}
 use Rattle.image.proofs.record_stands.Statement.{statement}
 use Rattle.image.proofs.record_stands.Tie as tie

@@ -5,7 +5,6 @@ use Rattle.image.proofs.Records.{role-of, name-is}
 use Rattle.meaning.specs.Image.{nameOf, namesOf, safe}
 use borrow.Author.Tests.{not-true}
 use mathlib.Core.Path.{sym, ap, _∙_}
-use native.Mathlib.Omega.{arith}
 use borrow.Author.Needs.{needs}
 use Rattle.image.proofs.safe_at.Statement.{statement}
 use Rattle.image.proofs.safe_at.Tie as tie
