@@ -1,14 +1,14 @@
 -- The arms of the matches on a role's number and on a node's kind. Assumes nothing.
-use mathlib.Core.Path.{_≡_, refl}
+use mathlib.Core.Path.{_≡_, refl, sym, _∙_}
 use mathlib.Core.Logic.{_⊎_, inl, inr}
-use mathlib.Core.Bool.{Bool, true, false}
+use mathlib.Core.Bool.{Bool, true, false, not, false≢true}
 use Prim.Native.Nat.{ℕ, suc, _+_, _%_, _<_, _≤_}
 use native.Mathlib.Decide.{decLt}
 use native.Mathlib.Omega.{arith}
 use lib.Dec.{eqb, leb}
 use borrow.Author.Tests.{eq-eqb, ne-eqb, le-leb, lt-leb}
 use Rattle.meaning.specs.Base.{_and_, _or_, choose, if_then_else_}
-use Rattle.meaning.specs.Image.{NameRecord, plain, takes, roleStands, roleOf, allows, isStatement, isSpanless, isExpression, argBelow, countStands, belongs}
+use Rattle.meaning.specs.Image.{NameRecord, Name, plain, takes, roleStands, roleOf, allows, safe, isStatement, isSpanless, isExpression, argBelow, countStands, belongs}
 
 module _ (r : NameRecord) where
   pub role-unused : (r .role ≡ 0) ⊎ (r .role ≡ 3) → roleStands r ≡ (eqb (r .p) 0 and eqb (r .q) 0)
@@ -50,6 +50,31 @@ module _ (r : NameRecord) where
       by : (t : Bool) → allows (if t then takes (r .p) else plain) k ≡ false
       by true = refl
       by false = refl
+
+-- ---- names that are no builtins
+
+or-false : (t : Bool) → (t or false) ≡ t
+unfolding _or_
+or-false true = refl
+or-false false = refl
+
+pub and-true : (t : Bool) → (t and true) ≡ t
+unfolding _and_
+and-true true = refl
+and-true false = refl
+
+pub and-false : (t : Bool) → (t and false) ≡ false
+unfolding _and_
+and-false true = refl
+and-false false = refl
+
+-- only the roles 1 to 3 are builtins, and only builtins are unsafe
+pub no-builtin : (w : Name) (r : NameRecord) → roleOf r ≡ w .role → (leb 1 (r .role) and leb (r .role) 3) ≡ false → safe w ≡ true
+unfolding safe _and_
+no-builtin w r p e =
+    let wrong : (n : ℕ) → (leb 1 n and leb n 3) ≡ true → r .role ≡ n → ⊥ = λ n t q. false≢true (sym (rw q at e) ∙ t) in
+    let never : (k : ℕ) → allows (w .role) k ≡ false = λ k. rw p at (allows-none r k (wrong 1 refl) (wrong 2 refl) (wrong 3 refl)) in
+    rw (never 0, never 1, or-false, and-false, and-false)
 
 -- ---- kinds
 
@@ -196,11 +221,6 @@ or-true : (t : Bool) → (t or true) ≡ true
 unfolding _or_
 or-true true = refl
 or-true false = refl
-
-or-false : (t : Bool) → (t or false) ≡ t
-unfolding _or_
-or-false true = refl
-or-false false = refl
 
 module _ (p c j k : ℕ) where
   pub below-if-odd : p ≡ 8 → j % 2 ≡ 1 → belongs p c j k ≡ eqb k 12

@@ -95,18 +95,18 @@ module _ (ds : List Node) (i : ℕ) (inside : i < length ds) where
 
 -- ---- the table of ends
 
--- it says of each place how many of these nodes end there
+-- it says of each place how many of these nodes end there, plus 1
 pub record Counted (ends : List ℕ) (ds : List Node) : Type 0 where
   pub long : length ends ≡ 2049
-  pub each : (e : ℕ) → e < 2049 → getD ends e 0 ≡ endsAt e ds
+  pub each : (e : ℕ) → e < 2049 → getD ends e 0 ≡ endsAt e ds + 1
 
-pub counted-none : Counted (replicate 2049 0) []
+pub counted-none : Counted (replicate 2049 1) []
 unfolding endsAt
-counted-none = record { long = length-replicate {A = ℕ} 2049 0; each = λ e h. getD-replicate {A = ℕ} 2049 e 0 0 h }
+counted-none = record { long = length-replicate {A = ℕ} 2049 1; each = λ e h. getD-replicate {A = ℕ} 2049 e 1 0 h }
 
 module _ (ds : List Node) (i : ℕ) (inside : i < length ds) (ends : List ℕ) (h : Counted ends (take i ds)) (s : ℕ) (same : s ≡ nodeOf ds i .stop) (fits : s < 2049) where
   -- by whether node i ends at e
-  counted-at : (e : ℕ) → e < 2049 → (t : Bool) → eqb s e ≡ t → getD (set ends s (getD ends s 0 + 1)) e 0 ≡ endsAt e (take (i + 1) ds)
+  counted-at : (e : ℕ) → e < 2049 → (t : Bool) → eqb s e ≡ t → getD (set ends s (getD ends s 0 + 1)) e 0 ≡ endsAt e (take (i + 1) ds) + 1
   unfolding if_then_else_
   counted-at e l true p =
       let here : s ≡ e = eqb-true s e p in
@@ -119,7 +119,7 @@ module _ (ds : List Node) (i : ℕ) (inside : i < length ds) (ends : List ℕ) (
   pub counted-next : Counted (set ends s (getD ends s 0 + 1)) (take (i + 1) ds)
   counted-next = record { long = simp length-set (h .long); each = λ e l. counted-at e l (eqb s e) refl }
 
-  pub counted-few : getD ends s 0 ≤ i
+  pub counted-few : getD ends s 0 ≤ i + 1
   counted-few = rw (h .each s fits) (omega (arith, ends-few s (take i ds), length-take i ds))
 
 -- ---- depth 65

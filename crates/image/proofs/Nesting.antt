@@ -10,10 +10,12 @@ use native.Mathlib.Omega.{arith}
 use lib.Dec.{eqb}
 use borrow.Author.Tests.{lt-ltb, le-ltb, ltb-true, leb-true}
 use Rattle.meaning.specs.Base.{_and_, _or_}
-use Rattle.meaning.specs.Image.{Node, nameCount, nodeCount, nodesOf, nodeOf, isStatement, isSpanless, isExpression, argBelow, countStands, nodeStands, belongs, lands, brokenNode}
+use Rattle.meaning.specs.Image.{Node, nameCount, nodeCount, nodesOf, nodeOf, isStatement, isSpanless, isExpression, argBelow, countStands, nodeStands, belongs, lands, nests, brokenNode}
 use Rattle.meaning.proofs.Choices.{and-left, and-right, none-failing}
 use Rattle.meaning.proofs.Faults.{Headed, sizes}
 use Rattle.meaning.proofs.Nesting.{Stands, stands, nodes-many}
+use Rattle.image.specs.Kinds.{rootStands}
+use Rattle.image.proofs.Choosing.{and-true, and-false}
 
 -- ---- one node
 
@@ -52,3 +54,15 @@ module _ (ds : List Node) (d : Node) (i : ℕ) where
   unfolding lands _and_
   lands-next zero h u e = absurd (omega arith)
   lands-next (suc left) h u e = rw (lt-ltb i (d .stop) u, e, sub-one)
+
+-- ---- node 0, which is looked at by itself
+
+module _ (ds : List Node) where
+  pub nests-not : rootStands ds ≡ false → nests ds 0 (nodeOf ds 0) ≡ false
+  unfolding nests rootStands _or_
+  nests-not e = rw (e, and-false)
+
+  pub nests-all : rootStands ds ≡ true → (i : ℕ) → nests ds i (nodeOf ds i) ≡ lands ds (nodeOf ds i) (suc i) (nodeOf ds i .children)
+  unfolding nests rootStands _or_
+  nests-all e zero = rw (e, and-true)
+  nests-all e (suc i) = rw (lt-ltb 0 (suc i) (omega arith), and-true)

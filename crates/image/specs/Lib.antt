@@ -1,2 +1,3 @@
+pub mod Kinds
 pub mod Outcome
 pub mod Parts

@@ -3,13 +3,20 @@ ghost use mathlib.Core.Path.{_≡_};
 ghost use mathlib.Core.Bool.{not};
 ghost use mathlib.Core.Option.{none};
 ghost use Prim.Native.Nat.{suc, _+_, _-_, _*_, _<_, _≤_};
-ghost use lib.Dec.{eqb};
+ghost use lib.Dec.{eqb, leb};
 ghost use lib.ListN.{length, take, drop};
 ghost use Rattle.meaning.specs.Image.{nameCount, nodeCount, nodesFrom, textsFrom, node, nodesOf, nodeOf, nameRecord, nameRecords, textsOf, namesOf, nameOf, printable, textStands, roleStands, roleOf, allows, safe, brokenName, unsafeName, isStatement, isSpanless, isExpression, argBelow, countStands, nodeStands, brokenNode, belongs, lands, nests, badlyNested, tooDeepNode, headStands, countsStand, offsetsStand, imageFault};
 ghost use Rattle.meaning.specs.Base.{_and_, _or_, if_then_else_, all, isOneOf};
 ghost use Rattle.meaning.proofs.Faults.{Headed};
+ghost use Rattle.image.specs.Kinds.{recordStands, argLimits, fewestChildren, mostChildren, plain, rootStands};
 ghost use Rattle.image.specs.Outcome.{faultOf, placeOf};
 ghost use Rattle.image.specs.Parts.{Laid, nodeMeans, nameMeans, recordOf, nameStands, oneArgument, twoArguments, On, Moved};
+
+mod limits;
+
+use limits::BELOW;
+use limits::FEWEST;
+use limits::MOST;
 use words::before;
 use words::get_word;
 use words::same;
@@ -388,6 +395,29 @@ fn safe_name(t: &[u8], r: NameAt) -> bool
     !lacks_two(t, r)
 }
 
+fn is_builtin(role: u32) -> bool
+    ensures { λ r. ⌜ r ≡ (leb 1 role and leb role 3) ⌝ }
+{
+    match role {
+        1..=3 => true,
+        _ => false,
+    }
+}
+
+// Most names are no builtins: their texts are not looked at.
+fn safe_at(image: &[u8], texts: usize, k: usize) -> bool
+    requires { ⌜ Headed (now image) ⌝ }
+    requires { ⌜ brokenName (now image) ≡ none ⌝ }
+    requires { ⌜ (texts ≡ textsFrom (now image)) × (k < nameCount (now image)) ⌝ }
+    ensures { λ s. ⌜ s ≡ safe (nameOf (namesOf (now (image .entry))) k) ⌝ }
+{
+    let r = name_at(image, k);
+    if !is_builtin(r.role) {
+        return true;
+    }
+    safe_name(name_text(image, texts, k), r)
+}
+
 fn unsafe_name(image: &[u8], texts: usize, names: usize) -> Found
     requires { ⌜ Headed (now image) ⌝ }
     requires { ⌜ brokenName (now image) ≡ none ⌝ }
@@ -396,8 +426,7 @@ fn unsafe_name(image: &[u8], texts: usize, names: usize) -> Found
 {
     let mut k = 0;
     while k < names {
-        let r = name_at(image, k);
-        if !safe_name(name_text(image, texts, k), r) {
+        if !safe_at(image, texts, k) {
             return Found::At(k);
         }
         k += 1;
@@ -467,9 +496,13 @@ fn span_stands(d: Node) -> bool
     }
 }
 
-fn node_stands(names: usize, count: usize, i: usize, d: Node) -> bool
-    ensures { λ r. ⌜ r ≡ nodeStands names count i (nodeMeans d) ⌝ }
+// All of 6 but the end, by the kind.
+fn record_stands(image: &[u8], names: usize, nodes: usize, i: usize) -> bool
+    requires { ⌜ Headed (now image) ⌝ }
+    requires { ⌜ (nodes ≡ nodesFrom (now image)) × (i < nodeCount (now image)) ⌝ }
+    ensures { λ r. ⌜ r ≡ recordStands names (nodeOf (nodesOf (now (image .entry))) i) ⌝ }
 {
+    let d = node_at(image, nodes, i);
     if !is_known(d.kind) {
         return false;
     }
@@ -479,25 +512,79 @@ fn node_stands(names: usize, count: usize, i: usize, d: Node) -> bool
     if !count_stands(d.kind, d.children) {
         return false;
     }
-    if !span_stands(d) {
+    span_stands(d)
+}
+
+// As a call of its own, a kind asks no proof that it fits.
+fn place_of(kind: u32) -> usize
+    ensures { λ r. ⌜ r ≡ kind ⌝ }
+{
+    kind as usize
+}
+
+// Most nodes are seen to stand by three limits of their kind, read from tables. Where they do not, `record_stands` decides.
+fn plainly_stands(below: &[u32; 33], fewest: &[u32; 33], most: &[u32; 33], d: Node) -> bool
+    ensures { λ r. ⌜ r ≡ plain (now (below .entry)) (now (fewest .entry)) (now (most .entry)) (nodeMeans d) ⌝ }
+{
+    let k = place_of(d.kind);
+    if 33 <= k {
         return false;
     }
+    if below[k] <= d.arg {
+        return false;
+    }
+    if d.children < fewest[k] {
+        return false;
+    }
+    d.children <= most[k]
+}
+
+// The end is tested first, so that nothing is left to do where the limits hold.
+fn node_stands(
+    image: &[u8],
+    below: &[u32; 33],
+    fewest: &[u32; 33],
+    most: &[u32; 33],
+    names: usize,
+    nodes: usize,
+    count: usize,
+    i: usize,
+) -> bool
+    requires { ⌜ Headed (now image) ⌝ }
+    requires { ⌜ (nodes ≡ nodesFrom (now image)) × (i < nodeCount (now image)) ⌝ }
+    requires { ⌜ (now below ≡ argLimits names) × (now fewest ≡ fewestChildren) × (now most ≡ mostChildren) ⌝ }
+    ensures { λ r. ⌜ r ≡ nodeStands names count i (nodeOf (nodesOf (now (image .entry))) i) ⌝ }
+{
+    let d = node_at(image, nodes, i);
     let stop = d.stop as usize;
     if stop <= i {
         return false;
     }
-    stop <= count
+    if count < stop {
+        return false;
+    }
+    if plainly_stands(below, fewest, most, d) {
+        return true;
+    }
+    record_stands(image, names, nodes, i)
 }
 
+// The tables are made once, here: a constant is made anew wherever it is named. The arg of a For, a Def or a Variable is a name.
 fn broken_node(image: &[u8], names: usize, nodes: usize, count: usize) -> Found
     requires { ⌜ Headed (now image) ⌝ }
     requires { ⌜ (names ≡ nameCount (now image)) × (nodes ≡ nodesFrom (now image)) × (count ≡ nodeCount (now image)) ⌝ }
     ensures { λ r. ⌜ placeOf r ≡ brokenNode (now (image .entry)) ⌝ }
 {
+    let n = names as u32;
+    let mut below = BELOW;
+    below[10] = n;
+    below[11] = n;
+    below[21] = n;
+    let fewest = FEWEST;
+    let most = MOST;
     let mut i = 0;
     while i < count {
-        let d = node_at(image, nodes, i);
-        if !node_stands(names, count, i, d) {
+        if !node_stands(image, &below, &fewest, &most, names, nodes, count, i) {
             return Found::At(i);
         }
         i += 1;
@@ -535,10 +622,14 @@ fn block_or_expression(block: bool, kind: u32) -> bool
 }
 
 // Of an If's children those at odd places are Blocks, and so is the last: an even number of them has no else.
+// Most parents are expressions, so they are told apart first.
 fn has_business(parent: u32, c: u32, j: u32, kind: u32) -> bool
     requires { ⌜ j < c ⌝ }
     ensures { λ r. ⌜ r ≡ belongs parent c j kind ⌝ }
 {
+    if 12 < parent {
+        return is_expression(kind);
+    }
     match parent {
         8 => {
             if j % 2 == 1 {
@@ -580,19 +671,13 @@ fn lands_on_end(image: &[u8], nodes: usize, i: usize, d: Node) -> bool
     at == d.stop as usize
 }
 
-fn nests_well(image: &[u8], nodes: usize, count: usize, i: usize) -> bool
+// "Node 0 is a Block ending at M."
+fn root_stands(image: &[u8], nodes: usize, count: usize) -> bool
     requires { ⌜ Headed (now image) ⌝ }
-    requires { ⌜ brokenNode (now image) ≡ none ⌝ }
-    requires { ⌜ (nodes ≡ nodesFrom (now image)) × (count ≡ nodeCount (now image)) × (i < count) ⌝ }
-    ensures { λ r. ⌜ r ≡ nests (nodesOf (now (image .entry))) i (nodeOf (nodesOf (now (image .entry))) i) ⌝ }
+    requires { ⌜ (nodes ≡ nodesFrom (now image)) × (count ≡ nodeCount (now image)) ⌝ }
+    ensures { λ r. ⌜ r ≡ rootStands (nodesOf (now (image .entry))) ⌝ }
 {
-    let d = node_at(image, nodes, i);
-    if !lands_on_end(image, nodes, i, d) {
-        return false;
-    }
-    if 0 < i {
-        return true;
-    }
+    let d = node_at(image, nodes, 0);
     if d.kind != 12 {
         return false;
     }
@@ -607,9 +692,13 @@ fn badly_nested(image: &[u8], nodes: usize, count: usize) -> Found
     requires { ⌜ (nodes ≡ nodesFrom (now image)) × (count ≡ nodeCount (now image)) ⌝ }
     ensures { λ r. ⌜ placeOf r ≡ badlyNested (now (image .entry)) ⌝ }
 {
+    if !root_stands(image, nodes, count) {
+        return Found::At(0);
+    }
     let mut i = 0;
     while i < count {
-        if !nests_well(image, nodes, count, i) {
+        let d = node_at(image, nodes, i);
+        if !lands_on_end(image, nodes, i, d) {
             return Found::At(i);
         }
         i += 1;
@@ -627,14 +716,15 @@ fn wide(n: u16) -> usize
 }
 
 // Linear: `around` nodes before node i end behind it, so it lies at depth around + 1. Of these and itself, those that end at i + 1
-// are around no more, and `ends` has how many they are. After 6 this needs no nesting: it is counting alone.
+// are around no more, and `ends` has how many they are, plus 1. After 6 this needs no nesting: it is counting alone.
+// The counts start at 1: a fill with 0 is made byte by byte, one with 1 by 16 bytes at a time.
 fn too_deep(image: &[u8], nodes: usize, count: usize) -> Found
     requires { ⌜ Headed (now image) ⌝ }
     requires { ⌜ brokenNode (now image) ≡ none ⌝ }
     requires { ⌜ (nodes ≡ nodesFrom (now image)) × (count ≡ nodeCount (now image)) ⌝ }
     ensures { λ r. ⌜ placeOf r ≡ tooDeepNode (now (image .entry)) ⌝ }
 {
-    let mut ends = [0u16; 2049];
+    let mut ends = [1u16; 2049];
     let mut around = 0;
     let mut i = 0;
     while i < count {
@@ -645,7 +735,7 @@ fn too_deep(image: &[u8], nodes: usize, count: usize) -> Found
         let stop = d.stop as usize;
         ends[stop] = ends[stop] + 1;
         i += 1;
-        around = around + 1 - wide(ends[i]);
+        around = around + 2 - wide(ends[i]);
     }
     Found::Nowhere
 }

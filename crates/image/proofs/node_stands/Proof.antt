@@ -1,78 +1,56 @@
 -- The answers stand by name in answers/node_stands.txt.
-use Rattle.meaning.specs.Image.{nodeStands}
-use Rattle.meaning.specs.Base.{_and_}
-use borrow.Author.Tests.{lt-ltb, le-ltb, not-true, not-false}
+use Rattle.image.proofs.Plainly.{plain-stands, node-by-record, node-ended, node-outside}
+use mathlib.Core.Path.{sym, _∙_}
 use borrow.Author.Needs.{needs}
 use Rattle.image.proofs.node_stands.Statement.{statement}
 use Rattle.image.proofs.node_stands.Tie as tie
 use Rattle.image.proofs.node_stands.Reads as reads
 use Rattle.image.proofs.node_stands.Lts as lts
-use Rattle.image.proofs.arg_below.Reads as arg-below-reads
-use Rattle.image.proofs.count_stands.Reads as count-stands-reads
-use Rattle.image.proofs.is_known.Reads as is-known-reads
-use Rattle.image.proofs.span_stands.Reads as span-stands-reads
+use Rattle.image.proofs.node_at.Reads as node-at-reads
+use Rattle.image.proofs.plainly_stands.Reads as plainly-stands-reads
+use Rattle.image.proofs.record_stands.Reads as record-stands-reads
 
-is-known-requires : tie.Need-is-known-requires
-is-known-requires c κs = search needs
-
-returns : tie.Need-returns
-unfolding nodeStands _and_
-returns c =
-    rw (← c .before .is-known .ensures, not-true (c .before .is-known .result) (c .if1 .taken))
-
-arg-below-requires : tie.Need-arg-below-requires
-arg-below-requires c κs = search needs
-
-cast-if2 : tie.Need-cast-if2
-cast-if2 c = search needs
-
-returns-2 : tie.Need-returns-2
-unfolding nodeStands _and_
-returns-2 c =
-    rw (← c .before .before .before .before .is-known .ensures, not-false (c .before .before .before .before .is-known .result) (c .before .before .before .if1 .left), ← c .before .before .arg-below .ensures, le-ltb _ _ (c .if2 .taken))
-
-count-stands-requires : tie.Need-count-stands-requires
-count-stands-requires c κs = search needs
-
-returns-3 : tie.Need-returns-3
-unfolding nodeStands _and_
-returns-3 c =
-    rw (← c .before .before .before .before .before .before .is-known .ensures, not-false (c .before .before .before .before .before .before .is-known .result) (c .before .before .before .before .before .if1 .left), ← c .before .before .before .before .arg-below .ensures, lt-ltb _ _ (c .before .before .if2 .left), ← c .before .count-stands .ensures, not-true (c .before .count-stands .result) (c .if3 .taken))
-
-span-stands-requires : tie.Need-span-stands-requires
-span-stands-requires c κs = search needs
-
-returns-4 : tie.Need-returns-4
-unfolding nodeStands _and_
-returns-4 c =
-    rw (← c .before .before .before .before .before .before .before .before .is-known .ensures, not-false (c .before .before .before .before .before .before .before .before .is-known .result) (c .before .before .before .before .before .before .before .if1 .left), ← c .before .before .before .before .before .before .arg-below .ensures, lt-ltb _ _ (c .before .before .before .before .if2 .left), ← c .before .before .before .count-stands .ensures, not-false (c .before .before .before .count-stands .result) (c .before .before .if3 .left), ← c .before .span-stands .ensures, not-true (c .before .span-stands .result) (c .if4 .taken))
+node-at-requires : tie.Need-node-at-requires
+node-at-requires c κs =
+    (c .before .pre .0, c .before .pre .1 .0)
 
 cast-stop : tie.Need-cast-stop
 cast-stop c = search needs
 
-returns-5 : tie.Need-returns-5
-unfolding nodeStands _and_
-returns-5 c =
-    rw (← c .before .before .before .before .before .before .before .before .before .before .is-known .ensures, not-false (c .before .before .before .before .before .before .before .before .before .before .is-known .result) (c .before .before .before .before .before .before .before .before .before .if1 .left), ← c .before .before .before .before .before .before .before .before .arg-below .ensures, lt-ltb _ _ (c .before .before .before .before .before .before .if2 .left), ← c .before .before .before .before .before .count-stands .ensures, not-false (c .before .before .before .before .before .count-stands .result) (c .before .before .before .before .if3 .left), ← c .before .before .before .span-stands .ensures, not-false (c .before .before .before .span-stands .result) (c .before .before .if4 .left), le-ltb _ _ (c .if5 .taken))
+returns : tie.Need-returns
+returns c =
+    rw (← c .before .before .node-at .ensures) (sym (node-ended _ _ _ _ (c .if1 .taken)))
 
-returns-6 : tie.Need-returns-6
-unfolding nodeStands _and_
-returns-6 c =
-    rw (← c .before .before .before .before .before .before .before .before .before .before .is-known .ensures, not-false (c .before .before .before .before .before .before .before .before .before .before .is-known .result) (c .before .before .before .before .before .before .before .before .before .if1 .left), ← c .before .before .before .before .before .before .before .before .arg-below .ensures, lt-ltb _ _ (c .before .before .before .before .before .before .if2 .left), ← c .before .before .before .before .before .count-stands .ensures, not-false (c .before .before .before .before .before .count-stands .result) (c .before .before .before .before .if3 .left), ← c .before .before .before .span-stands .ensures, not-false (c .before .before .before .span-stands .result) (c .before .before .if4 .left), lt-ltb _ _ (c .if5 .left))
+returns-2 : tie.Need-returns-2
+returns-2 c =
+    rw (← c .before .before .before .node-at .ensures) (sym (node-outside _ _ _ _ (c .if2 .taken)))
+
+plainly-stands-requires : tie.Need-plainly-stands-requires
+plainly-stands-requires c κs = search needs
+
+returns-3 : tie.Need-returns-3
+returns-3 c =
+    let t = c .before .before .before .before .before .before .before .pre .1 .1 in
+    let plainly = rw (t .0, t .1, t .2) at (sym (c .before .plainly-stands .ensures) ∙ c .if3 .taken) in
+    rw (← c .before .before .before .before .before .node-at .ensures) (sym (node-by-record _ _ _ _ (c .before .before .before .if1 .left) (c .before .before .if2 .left) ∙ plain-stands _ _ plainly))
+
+record-stands-requires : tie.Need-record-stands-requires
+record-stands-requires c κs =
+    (c .before .before .before .before .before .before .before .pre .0, c .before .before .before .before .before .before .before .pre .1 .0)
+
+returns-4 : tie.Need-returns-4
+returns-4 c =
+    rw (← c .before .before .before .before .before .before .node-at .ensures) (rw (← c .before .before .before .before .before .before .node-at .ensures) at (c .record-stands .ensures) ∙ sym (node-by-record _ _ _ _ (c .before .before .before .before .if1 .left) (c .before .before .before .if2 .left)))
 
 pub node-stands-spec : {M : Type 1} → statement M
 node-stands-spec =
     tie.close
     (tie.spec
-    is-known-requires
-    returns
-    arg-below-requires
-    cast-if2
-    returns-2
-    count-stands-requires
-    returns-3
-    span-stands-requires
-    returns-4
+    node-at-requires
     cast-stop
-    returns-5
-    returns-6)
+    returns
+    returns-2
+    plainly-stands-requires
+    returns-3
+    record-stands-requires
+    returns-4)

@@ -1,20 +1,18 @@
 -- The answers stand by name in answers/unsafe_name.txt.
 use Rattle.image.proofs.Searches.{first-end, first-fails, first-next}
-use Rattle.image.proofs.Records.{names-many, name-is}
+use Rattle.image.proofs.Records.{names-many}
 use Rattle.meaning.specs.Image.{Name, nameOf, namesOf, safe, firstNot, unsafeName}
 use Prim.Native.Nat.{ℕ, _-_, _≤_, _<_}
 use lib.ListN.{length, drop}
 use borrow.Author.Tests.{not-true, not-false}
-use mathlib.Core.Path.{_≡_, sym, ap, _∙_}
+use mathlib.Core.Path.{_≡_, sym, _∙_}
 use native.Mathlib.Omega.{arith}
 use borrow.Author.Needs.{needs}
 use Rattle.image.proofs.unsafe_name.Statement.{statement}
 use Rattle.image.proofs.unsafe_name.Tie as tie
 use Rattle.image.proofs.unsafe_name.Reads as reads
 use Rattle.image.proofs.unsafe_name.Lts as lts
-use Rattle.image.proofs.name_at.Reads as name-at-reads
-use Rattle.image.proofs.name_text.Reads as name-text-reads
-use Rattle.image.proofs.safe_name.Reads as safe-name-reads
+use Rattle.image.proofs.safe_at.Reads as safe-at-reads
 
 -- the names from k on answer what all answer
 abbrev Inv-loop : tie.InvT-loop
@@ -27,26 +25,16 @@ loop-holds : tie.Need-loop-holds Inv-loop μ-loop
 unfolding unsafeName
 loop-holds c = search needs
 
-name-at-requires : tie.Need-name-at-requires Inv-loop μ-loop
-name-at-requires c κs =
-    (c .before .before .before .pre .0, omega arith)
-
-name-text-requires : tie.Need-name-text-requires Inv-loop μ-loop
-name-text-requires c κs =
-    (c .before .before .before .before .pre .0, (c .before .before .before .before .pre .1 .0, (c .before .before .before .before .pre .1 .1 .0, omega arith)))
-
-safe-name-requires : tie.Need-safe-name-requires Inv-loop μ-loop
-safe-name-requires c κs =
-    search needs
+safe-at-requires : tie.Need-safe-at-requires Inv-loop μ-loop
+safe-at-requires c κs =
+    (c .before .before .before .pre .0, (c .before .before .before .pre .1 .0, (c .before .before .before .pre .1 .1 .0, omega arith)))
 
 returns : tie.Need-returns Inv-loop μ-loop
 unfolding nameOf
 returns c =
-    let bs = c .before .before .before .before .before .before .before .args .image .now in
-    let inside : c .before .before .before .before .before .loop .k < length (namesOf bs) = rw names-many (omega arith) in
-    let same = name-is bs (c .before .before .before .before .before .loop .k) (c .before .before .before .name-at .ensures) (c .before .before .name-text .ensures) in
-    sym (first-fails (λ (i : ℕ) (w : Name). safe w) (namesOf bs) (c .before .before .before .before .before .loop .k) _ inside (ap safe (sym same) ∙ sym (c .before .safe-name .ensures) ∙ not-true _ (c .if1 .taken)))
-    ∙ c .before .before .before .before .before .loop .inv .1
+    let bs = c .before .before .before .before .before .args .image .now in
+    let inside : c .before .before .before .loop .k < length (namesOf bs) = rw names-many (omega arith) in
+    sym (first-fails (λ (i : ℕ) (w : Name). safe w) (namesOf bs) (c .before .before .before .loop .k) _ inside (sym (c .before .safe-at .ensures) ∙ not-true _ (c .if1 .taken))) ∙ c .before .before .before .loop .inv .1
 
 add-k : tie.Need-add-k Inv-loop μ-loop
 add-k c = search needs
@@ -57,12 +45,10 @@ loop-less c = search needs
 loop-again : tie.Need-loop-again Inv-loop μ-loop
 unfolding nameOf
 loop-again c =
-    let bs = c .before .before .before .before .before .before .before .args .image .now in
-    let inside : c .before .before .before .before .before .loop .k < length (namesOf bs) = rw names-many (omega arith) in
-    let same = name-is bs (c .before .before .before .before .before .loop .k) (c .before .before .before .name-at .ensures) (c .before .before .name-text .ensures) in (
+    let bs = c .before .before .before .before .before .args .image .now in
+    let inside : c .before .before .before .loop .k < length (namesOf bs) = rw names-many (omega arith) in (
       omega arith,
-      sym (first-next (λ (i : ℕ) (w : Name). safe w) (namesOf bs) (c .before .before .before .before .before .loop .k) _ inside (ap safe (sym same) ∙ sym (c .before .safe-name .ensures) ∙ not-false _ (c .if1 .left)))
-          ∙ c .before .before .before .before .before .loop .inv .1,
+      sym (first-next (λ (i : ℕ) (w : Name). safe w) (namesOf bs) (c .before .before .before .loop .k) _ inside (sym (c .before .safe-at .ensures) ∙ not-false _ (c .if1 .left))) ∙ c .before .before .before .loop .inv .1,
     )
 
 returns-2 : tie.Need-returns-2 Inv-loop μ-loop
@@ -78,9 +64,7 @@ unsafe-name-spec =
     Inv-loop
     μ-loop
     loop-holds
-    name-at-requires
-    name-text-requires
-    safe-name-requires
+    safe-at-requires
     returns
     add-k
     loop-less
