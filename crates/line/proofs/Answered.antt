@@ -29,7 +29,7 @@ use Rattle.checker.specs.Answers.{Numbers, numbersIn, Replies}
 pub record Header (a : Answer) : Type 0 where
   pub forty : a .code ≡ 0 → 40 ≤ length (a .sheet)
 
-bare-header : (c n : ℕ) → 1 ≤ c → Header (bare c n)
+pub bare-header : (c n : ℕ) → 1 ≤ c → Header (bare c n)
 bare-header c n h = record { forty = λ e. absurd (omega arith) }
 
 pub written-header : (room : ℕ) (bs : List ℕ) → 40 ≤ length bs → Header (written room bs)
@@ -58,7 +58,7 @@ answer-header bs x y =
     (ended-header (namesOf bs) (nodesOf bs) x y _ (λ r s e. refused-typing (namesOf bs) _ r s e .above))
 
 -- what was laid over a buffer without making it longer lies inside
-within : (old : List ℕ) {new : List ℕ} {size : ℕ} (w : List ℕ) → new ≡ overlaid w old → size ≡ length w → length new ≡ length old → size ≤ length old
+pub within : (old : List ℕ) {new : List ℕ} {size : ℕ} (w : List ℕ) → new ≡ overlaid w old → size ≡ length w → length new ≡ length old → size ≤ length old
 unfolding overlaid
 within old {new} {size} w e f kept =
     let long : length new ≡ length w + length (drop (length w) old) = ap length e ∙ length-append w (drop (length w) old) in
@@ -122,7 +122,7 @@ module _ (bs : List ℕ) {n : Numbers} (s s₁ m m₁ : List ℕ) (r : Replies (
       → Lined (answer bs (length s) (length m)) old new s s₁ size (n .code) (n .sheet)
   lined {old} {new} {size} {p} e w kept =
       let l : lineOf (answered (n .code) p (n .spanStart) (n .spanEnd) (take (n .sheet) s₁) (take (n .message) m₁)) ≡ lineOf (answer bs (length s) (length m)) =
-          rw (e, sheet-part, message-part, r .numbers) in
+      rw (e, sheet-part, message-part, r .numbers) in
       record {
         line = w .0 ∙ rw l;
         ends = w .1 ∙ ap length l;
