@@ -305,7 +305,7 @@ fn are_there(got: Got, line: Line) -> bool {
     false
 }
 
-fn name(task: Task) {
+fn say_record(task: Task) {
     match task {
         Task::Images => say(b"image "),
         Task::Tight => say(b"tight image "),
@@ -313,15 +313,23 @@ fn name(task: Task) {
     }
 }
 
-// As `image 17: ours accepted 0 0 40 / T refused 7 0 0 0 -`. Of sheets T knows nothing: there the oracle's reader is the judge.
+// Of sheets T knows nothing: there the oracle's reader is the judge.
+fn say_judge(task: Task) {
+    match task {
+        Task::Sheets => say(b" / reader "),
+        _ => say(b" / T "),
+    }
+}
+
+// As `image 17: ours accepted 0 0 40 #41d22a8c2066ae0c / T refused 7 0 0 0 -`. The judge's line brings the line's end.
 fn tell(task: Task, number: u32, ours: &[u8], theirs: &[u8]) {
-    name(task);
+    say_record(task);
     io::print_decimal(STDOUT_FILENO, number as u64);
     say(b": ours ");
     if 0 < ours.len() {
         say(text(ours, 0, ours.len() - 1));
     }
-    say(b" / T ");
+    say_judge(task);
     say(theirs);
 }
 
@@ -368,7 +376,7 @@ struct Tally {
     differ: u32,
 }
 
-// What the gate runs: the list has some thousands of entries, and a proved loop has to end.
+// A proved loop has to end: the list has some thousands of entries, far from this limit.
 fn replay_all(task: Task, records: i32, answers: i32) -> Tally
     ensures { λ r. ⌜ (r .agreed ≤ 1000000) × (r .differ ≤ 1000000) ⌝ }
 {
