@@ -1,3 +1,4 @@
+-- `replay::fnv` meets its contract: what is left to sum gives what all gives. The answers stand by name in answers/fnv.txt.
 use mathlib.Core.Path.{_≡_, sym, _∙_}
 use Prim.Native.Nat.{_-_, _≤_}
 use lib.ListN.{length, drop}
@@ -19,7 +20,8 @@ abbrev μ-loop : tie.MeasureT-loop
 μ-loop s h₀ i₀ h i = length s - i
 
 loop-holds : tie.Need-loop-holds Inv-loop μ-loop
-loop-holds c = (search needs, sum-all (c .before .args .s .now))
+loop-holds c =
+    (search needs, sum-all (c .before .args .s .now))
 
 shared-slice-read-wide : tie.Need-shared-slice-read-wide Inv-loop μ-loop
 shared-slice-read-wide c = search needs
@@ -39,13 +41,11 @@ loop-less c = search needs
 loop-again : tie.Need-loop-again Inv-loop μ-loop
 loop-again c =
     let a = c .before .before .before .before .before .before .args in
-    let l = c .before .before .before .before .loop in
-    (search needs, rw (c .times-prime .ensures, c .before .wide .ensures .0) (sym (sum-more (a .s .now) (l .h) (l .i) (omega arith)) ∙ l .inv .1))
+    (search needs, rw (c .times-prime .ensures, c .before .wide .ensures .0) (sym (sum-more (a .s .now) (c .before .before .before .before .loop .h) (c .before .before .before .before .loop .i) (omega arith)) ∙ c .before .before .before .before .loop .inv .1))
 
 returns : tie.Need-returns Inv-loop μ-loop
 returns c =
-    let l = c .before .loop in
-    sym (sum-end (c .before .before .before .args .s .now) (l .h) (l .i) (omega arith)) ∙ l .inv .1
+    sym (sum-end (c .before .before .before .args .s .now) (c .before .loop .h) (c .before .loop .i) (omega arith)) ∙ c .before .loop .inv .1
 
 pub fnv-spec : {M : Type 1} → statement M
 fnv-spec =

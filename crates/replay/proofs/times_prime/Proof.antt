@@ -1,3 +1,4 @@
+-- `replay::times_prime` meets its contract. The answers stand by name in answers/times_prime.txt.
 use mathlib.Core.Path.{_∙_}
 use Rattle.replay.proofs.Sums.{product}
 use borrow.Author.Needs.{needs}
@@ -26,7 +27,8 @@ wrapping-add-u64-requires-2 : tie.Need-wrapping-add-u64-requires-2
 wrapping-add-u64-requires-2 c κs = search needs
 
 returns : tie.Need-returns
-returns c = rw (c .before .wrapping-add-u64 .ensures) at (c .wrapping-add-u642 .ensures) ∙ product (c .before .before .args .h)
+returns c =
+    rw (c .before .wrapping-add-u64 .ensures) at (c .wrapping-add-u642 .ensures) ∙ product (c .before .before .args .h)
 
 pub times-prime-spec : {M : Type 1} → statement M
 times-prime-spec =
