@@ -9,7 +9,8 @@ trap 'rm -rf "$scratch"' EXIT
 say() { printf '%s\n' "-- $*"; }
 fail() { printf '%s\n' "FAILED: $*" >&2; exit 1; }
 
-# The seed of the stored list.
+# The stored list and its seed. The list stands with the program that replays it.
+stored=../crates/replay/data
 seed=1125
 
 say "it builds"
@@ -127,37 +128,37 @@ tail -1 "$scratch/exhaust.txt"
 say "the stored list is what its seed makes"
 $oracle store --seed $seed --out "$scratch"
 for file in images.batch answers.txt notes.txt tight-images.batch tight-answers.txt tight-notes.txt; do
-    cmp "$scratch/$file" "stored/$file" || fail "stored/$file is not what seed $seed makes"
+    cmp "$scratch/$file" "$stored/$file" || fail "$stored/$file is not what seed $seed makes"
 done
-images_and_answers="stored/images.batch stored/answers.txt stored/notes.txt stored/tight-images.batch stored/tight-answers.txt stored/tight-notes.txt"
+images_and_answers="$stored/images.batch $stored/answers.txt $stored/notes.txt $stored/tight-images.batch $stored/tight-answers.txt $stored/tight-notes.txt"
 [ "$(cat $images_and_answers | wc -c)" -lt 3000000 ] || fail "the stored lists are 3 MB or more"
 
 say "the stored answers are T's, and the reference's"
-$oracle judge --rules < stored/images.batch | cmp - stored/answers.txt || fail "T answers otherwise"
-$oracle reference < stored/images.batch | cmp - stored/answers.txt || fail "the reference answers otherwise"
+$oracle judge --rules < $stored/images.batch | cmp - $stored/answers.txt || fail "T answers otherwise"
+$oracle reference < $stored/images.batch | cmp - $stored/answers.txt || fail "the reference answers otherwise"
 for who in "judge --rules" reference; do
-    $oracle $who --sheet-room 98 --message-room 69 < stored/tight-images.batch | cmp - stored/tight-answers.txt || fail "$who, tight rooms"
+    $oracle $who --sheet-room 98 --message-room 69 < $stored/tight-images.batch | cmp - $stored/tight-answers.txt || fail "$who, tight rooms"
 done
 for code in 0 1 2 3 4 5 6 7 8 9 $(seq 20 50); do
     if [ "$code" = 0 ]; then form="^accepted "; else form="^refused $code "; fi
-    grep -q "$form" stored/answers.txt || fail "no stored image has code $code"
+    grep -q "$form" $stored/answers.txt || fail "no stored image has code $code"
 done
-grep -q "^refused 10 " stored/tight-answers.txt || fail "no stored image has code 10"
+grep -q "^refused 10 " $stored/tight-answers.txt || fail "no stored image has code 10"
 
 say "every mistake is told"
-$oracle mistakes --tight stored/tight-images.batch < stored/images.batch > "$scratch/mistakes.txt" || { grep SURVIVES "$scratch/mistakes.txt"; fail "a mistake survives"; }
+$oracle mistakes --tight $stored/tight-images.batch < $stored/images.batch > "$scratch/mistakes.txt" || { grep SURVIVES "$scratch/mistakes.txt"; fail "a mistake survives"; }
 tail -1 "$scratch/mistakes.txt"
 # With no images nothing is told: the suite can fail.
 if $oracle mistakes --tight /dev/null < /dev/null > "$scratch/none.txt"; then fail "no images tell every mistake"; fi
 grep -q "$(tail -1 "$scratch/mistakes.txt" | cut -d' ' -f1) mistakes, $(tail -1 "$scratch/mistakes.txt" | cut -d' ' -f1) survive" "$scratch/none.txt" || fail "no images tell a mistake"
 
 say "compare finds nothing where there is nothing"
-$oracle compare $oracle reference < stored/images.batch > "$scratch/compare.txt" || { cat "$scratch/compare.txt"; fail "the reference compares otherwise"; }
+$oracle compare $oracle reference < $stored/images.batch > "$scratch/compare.txt" || { cat "$scratch/compare.txt"; fail "the reference compares otherwise"; }
 
 say "compare finds and shrinks planted mistakes"
 # name, and how many bytes the smallest form may have
 while read -r name most; do
-    if $oracle compare --show 1 $oracle mistaken "$name" < stored/images.batch > "$scratch/compare.txt"; then fail "$name is not found"; fi
+    if $oracle compare --show 1 $oracle mistaken "$name" < $stored/images.batch > "$scratch/compare.txt"; then fail "$name is not found"; fi
     size=$(sed -n 's/^  smallest form (\([0-9]*\) bytes).*/\1/p' "$scratch/compare.txt")
     [ -n "$size" ] && [ "$size" -le "$most" ] || { cat "$scratch/compare.txt"; fail "$name has a smallest form of $size bytes, not $most"; }
     printf '%s: %s bytes\n' "$name" "$size"
@@ -171,7 +172,7 @@ types-as-formed 300
 PLANTED
 
 say "compare tells a program that ends without a line"
-head -c 20000 stored/tight-images.batch > "$scratch/few.batch"
+head -c 20000 $stored/tight-images.batch > "$scratch/few.batch"
 if $oracle compare --show 0 true < "$scratch/few.batch" > "$scratch/compare.txt"; then fail "a silent program passes"; fi
 grep -q "^27 images, 27 differ" "$scratch/compare.txt" || fail "a silent program passes in part"
 
@@ -218,28 +219,28 @@ $oracle read < "$scratch/run-sheets.batch" | sed 's/ #[0-9a-f]*$//' | cmp - "$sc
 say "the stored sheets are what their seed makes"
 $oracle store-sheets --seed $seed --out "$scratch"
 for file in sheets.batch sheets-answers.txt sheets-notes.txt; do
-    cmp "$scratch/$file" "stored/$file" || fail "stored/$file is not what seed $seed makes"
+    cmp "$scratch/$file" "$stored/$file" || fail "$stored/$file is not what seed $seed makes"
 done
-[ "$(cat stored/sheets* | wc -c)" -lt 1500000 ] || fail "the stored sheets are 1.5 MB or more"
-$oracle read < stored/sheets.batch | cmp - stored/sheets-answers.txt || fail "the reader answers otherwise"
+[ "$(cat $stored/sheets* | wc -c)" -lt 1500000 ] || fail "the stored sheets are 1.5 MB or more"
+$oracle read < $stored/sheets.batch | cmp - $stored/sheets-answers.txt || fail "the reader answers otherwise"
 $oracle sheet-kinds | while read -r kind fate _; do
-    count=$(cut -f2 stored/sheets-notes.txt | grep -cx "$kind" || true)
+    count=$(cut -f2 $stored/sheets-notes.txt | grep -cx "$kind" || true)
     [ "$fate" = read ] || [ "$count" -ge 5 ] || fail "only $count stored sheets of $kind"
     [ "$count" -ge 1 ] || fail "no stored sheet of $kind"
 done
 
 say "the stored sheets tell a reader with any rule left out"
-$oracle compare --sheets $oracle read < stored/sheets.batch > "$scratch/compare.txt" || { cat "$scratch/compare.txt"; fail "the reader compares otherwise"; }
+$oracle compare --sheets $oracle read < $stored/sheets.batch > "$scratch/compare.txt" || { cat "$scratch/compare.txt"; fail "the reader compares otherwise"; }
 for rule in $($oracle sheet-rules | grep -v ' always ' | cut -d' ' -f1); do
-    if $oracle compare --sheets --show 1 $oracle read --without "$rule" < stored/sheets.batch > "$scratch/compare.txt"; then fail "$rule left out is not told"; fi
+    if $oracle compare --sheets --show 1 $oracle read --without "$rule" < $stored/sheets.batch > "$scratch/compare.txt"; then fail "$rule left out is not told"; fi
     # Told by a sheet that breaks this rule, and not by a program that ends.
     grep -q "breaks $rule " "$scratch/compare.txt" || { cat "$scratch/compare.txt"; fail "$rule left out is told by another rule"; }
     printf '%s: %s\n' "$rule" "$(tail -1 "$scratch/compare.txt")"
 done
 
-if $oracle compare --sheets --show 0 true < stored/sheets.batch > "$scratch/compare.txt"; then fail "a silent program passes"; fi
-count=$(wc -l < stored/sheets-answers.txt)
+if $oracle compare --sheets --show 0 true < $stored/sheets.batch > "$scratch/compare.txt"; then fail "a silent program passes"; fi
+count=$(wc -l < $stored/sheets-answers.txt)
 grep -q "^$count sheets, $count differ" "$scratch/compare.txt" || fail "a silent program passes in part"
-ORACLE="$oracle" $oracle compare --sheets --no-checksum sh -c '"$ORACLE" read | sed "s/ #.*//"' < stored/sheets.batch > "$scratch/compare.txt" || fail "lines without a checksum"
+ORACLE="$oracle" $oracle compare --sheets --no-checksum sh -c '"$ORACLE" read | sed "s/ #.*//"' < $stored/sheets.batch > "$scratch/compare.txt" || fail "lines without a checksum"
 
 say "all is well"

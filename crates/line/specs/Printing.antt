@@ -3,9 +3,10 @@ use mathlib.Core.Path.{_≡_}
 use mathlib.Core.List.{List}
 use Prim.Native.Nat.{ℕ, _+_, _<_, _≤_}
 use lib.Dec.{eqb}
-use lib.ListN.{length}
-use Rattle.meaning.specs.Answer.{Answer}
+use lib.ListN.{length, take}
+use Rattle.meaning.specs.Answer.{Answer, overlaid}
 use Rattle.meaning.specs.Base.{if_then_else_, bytes}
+use Rattle.meaning.specs.Line.{lineOf}
 use Rattle.words.specs.Words.{putAt}
 
 -- an accepted image has a sheet with a header, whose length is a word; the line finds room whatever its numbers are
@@ -29,3 +30,14 @@ pub record Wrote (d : List ℕ) (at : ℕ) (s e : List ℕ) (end : ℕ) : Type 0
   pub ends : end ≡ at + length s
   pub long : length e ≡ length d
   pub inside : end ≤ length e
+
+-- the line of an answer stands at the front of a buffer, its sheet at the front of another; size is the line's
+pub record Lined (a : Answer) (old new oldSheet newSheet : List ℕ) (size code sheet : ℕ) : Type 0 where
+  pub line : new ≡ overlaid (lineOf a) old
+  pub ends : size ≡ length (lineOf a)
+  pub inside : size ≤ length old
+  pub told : code ≡ a .code
+  pub sheet-long : length newSheet ≡ length oldSheet
+  pub sheet-inside : sheet ≤ length newSheet
+  pub sheet-is : take sheet newSheet ≡ a .sheet
+  pub headed : code ≡ 0 → 40 ≤ length (a .sheet)

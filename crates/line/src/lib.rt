@@ -3,16 +3,18 @@ ghost use mathlib.Core.Path.{_≡_};
 ghost use mathlib.Core.List.{[], _∷_};
 ghost use Prim.Native.Nat.{_+_, _<_, _≤_};
 ghost use lib.ListN.{length};
-ghost use Rattle.meaning.specs.Answer.{overlaid};
+ghost use Rattle.meaning.specs.Answer.{answer, overlaid};
 ghost use Rattle.meaning.specs.Line.{spaced, acceptedLine, refusedLine, lineOf};
-ghost use Rattle.line.specs.Printing.{Printable, answered, orDash, Wrote};
+ghost use Rattle.line.specs.Printing.{Printable, answered, orDash, Wrote, Lined};
+use checker::cablebirch_check;
 use words::get_word;
 use words::put;
 use words::put_decimal;
+use words::text;
 
 // ---- the pieces: each returns where it ends in `out`
 
-fn put_spaced(out: &mut [u8], at: usize, n: u32) -> usize
+pub fn put_spaced(out: &mut [u8], at: usize, n: u32) -> usize
     requires { ⌜ at + 11 ≤ length (now out) ⌝ }
     ensures { λ r. ⌜ Wrote (now (out .entry)) at (spaced (n ∷ [])) (now (out .exit)) r ⌝ }
     ensures { λ r. ⌜ r ≤ at + 11 ⌝ }
@@ -95,4 +97,45 @@ pub fn write(
         return accepted_line(sheet, out);
     }
     refused_line(code, place, begins, ends, message, out)
+}
+
+// ---- the line of an image
+
+// How long the line is, and the answer's code and sheet length, for whoever goes on with them.
+pub struct Printed {
+    pub length: usize,
+    pub code: u32,
+    pub sheet: usize,
+}
+
+// As a call of its own, a place that is a word asks its proof here alone.
+fn word(n: usize) -> u32
+    requires { ⌜ n < 4294967296 ⌝ }
+    ensures { λ r. ⌜ r ≡ n ⌝ }
+{
+    n as u32
+}
+
+// Checks an image with the two buffers for its sheet and its message, and puts the line for it at the front of `out`.
+pub fn of_image(image: &[u8], sheet: &mut [u8], message: &mut [u8], out: &mut [u8]) -> Printed
+    requires { ⌜ length (now sheet) < 4294967296 ⌝ }
+    requires { ⌜ 64 + length (now message) ≤ length (now out) ⌝ }
+    ensures { λ r. ⌜ Lined (answer (now (image .entry)) (length (now (sheet .entry))) (length (now (message .entry))))
+        (now (out .entry)) (now (out .exit)) (now (sheet .entry)) (now (sheet .exit)) (r .length) (r .code) (r .sheet) ⌝ }
+{
+    let a = cablebirch_check(image, sheet, message);
+    let length = write(
+        a.code,
+        word(a.place),
+        a.span_start,
+        a.span_end,
+        text(sheet, 0, a.sheet_length),
+        text(message, 0, a.message_length),
+        out,
+    );
+    Printed {
+        length,
+        code: a.code,
+        sheet: a.sheet_length,
+    }
 }

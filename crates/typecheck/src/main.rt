@@ -1,19 +1,9 @@
 // Reads a program image on standard input and prints the one line of its answer.
 ghost use mathlib.Core.Path.{_≡_};
-ghost use Prim.Native.Nat.{_≤_, _<_};
+ghost use Prim.Native.Nat.{_≤_};
 ghost use lib.ListN.{length};
 ghost use Rattle.meaning.specs.Answer.{answer, overlaid};
 ghost use Rattle.meaning.specs.Line.{lineOf};
-use checker::cablebirch_check;
-use words::text;
-
-// As a call of its own, a place that is a word asks its proof here alone.
-fn word(n: usize) -> u32
-    requires { ⌜ n < 4294967296 ⌝ }
-    ensures { λ r. ⌜ r ≡ n ⌝ }
-{
-    n as u32
-}
 
 // The line for an image, at the front of `out`: "Its message buffer has 1,024 bytes, its sheet buffer 42,532."
 fn print_line(image: &[u8], out: &mut [u8]) -> usize
@@ -23,16 +13,8 @@ fn print_line(image: &[u8], out: &mut [u8]) -> usize
 {
     let mut sheet = [0u8; 42532];
     let mut message = [0u8; 1024];
-    let a = cablebirch_check(image, &mut sheet, &mut message);
-    line::write(
-        a.code,
-        word(a.place),
-        a.span_start,
-        a.span_end,
-        text(&sheet, 0, a.sheet_length),
-        text(&message, 0, a.message_length),
-        out,
-    )
+    let p = line::of_image(image, &mut sheet, &mut message, out);
+    p.length
 }
 
 fn main() {

@@ -1,4 +1,4 @@
--- The printed line, from what the check left in the buffers.
+-- The line of an image, from what the check left in the buffers. Assumes nothing.
 use mathlib.Core.Path.{_≡_, refl, sym, ap, _∙_}
 use mathlib.Core.Bool.{Bool, true, false}
 use mathlib.Core.List.{List, []}
@@ -6,7 +6,7 @@ use mathlib.Core.Option.{Option, none, some}
 use Prim.Native.Nat.{ℕ, _+_, _≤_, _<_}
 use native.Mathlib.Omega.{arith}
 use lib.Dec.{leb}
-use lib.ListN.{length, take}
+use lib.ListN.{length, take, drop, length-append}
 use lib.Seq.{take-append-seam, length-take-le}
 use Rattle.meaning.specs.Base.{if_then_else_, ifSome}
 use Rattle.meaning.specs.Image.{Fault, Name, Node, imageFault, namesOf, nodesOf}
@@ -21,7 +21,7 @@ use Rattle.meaning.proofs.Kept.{refused-typing}
 use Rattle.meaning.proofs.Answers.{overlaid-length}
 use Rattle.meaning.proofs.Answers.{answered as bounds}
 use Rattle.meaning.proofs.SheetForm.{sheet-size}
-use Rattle.line.specs.Printing.{Printable, answered}
+use Rattle.line.specs.Printing.{Printable, answered, Lined}
 use Rattle.checker.specs.Answers.{Numbers, numbersIn, Replies}
 
 -- ---- an accepted program's sheet has a header
@@ -29,10 +29,10 @@ use Rattle.checker.specs.Answers.{Numbers, numbersIn, Replies}
 pub record Header (a : Answer) : Type 0 where
   pub forty : a .code ≡ 0 → 40 ≤ length (a .sheet)
 
-bare-header : (c n : ℕ) → 1 ≤ c → Header (bare c n)
+pub bare-header : (c n : ℕ) → 1 ≤ c → Header (bare c n)
 bare-header c n h = record { forty = λ e. absurd (omega arith) }
 
-written-header : (room : ℕ) (bs : List ℕ) → 40 ≤ length bs → Header (written room bs)
+pub written-header : (room : ℕ) (bs : List ℕ) → 40 ≤ length bs → Header (written room bs)
 unfolding written if_then_else_
 written-header room bs h = by (leb (length bs) room)
   where
@@ -51,24 +51,33 @@ unfolding ifSome
 fault-header none a h g = g
 fault-header (some f) a h g = bare-header (f .code) (f .place) (h f refl)
 
-pub answer-header : (bs : List ℕ) (x y : ℕ) → Header (answer bs x y)
+answer-header : (bs : List ℕ) (x y : ℕ) → Header (answer bs x y)
 unfolding answer walked
 answer-header bs x y =
     fault-header (imageFault bs) _ (λ f e. fault-told bs f e .above)
     (ended-header (namesOf bs) (nodesOf bs) x y _ (λ r s e. refused-typing (namesOf bs) _ r s e .above))
 
+-- what was laid over a buffer without making it longer lies inside
+pub within : (old : List ℕ) {new : List ℕ} {size : ℕ} (w : List ℕ) → new ≡ overlaid w old → size ≡ length w → length new ≡ length old → size ≤ length old
+unfolding overlaid
+within old {new} {size} w e f kept =
+    let long : length new ≡ length w + length (drop (length w) old) = ap length e ∙ length-append w (drop (length w) old) in
+    omega (arith, long, f, kept)
+
 -- ---- the buffers
 
-module _ (bs : List ℕ) {n : Numbers} (s s₁ m m₁ : List ℕ) (ls : length s ≡ 42532) (lm : length m ≡ 1024)
-    (r : Replies (answer bs (length s) (length m)) n s s₁ m m₁) where
-  long-s : length s₁ ≡ 42532
-  long-s = ap length (r .sheet) ∙ overlaid-length _ s (bounds (length s) (length m) bs .sheet-fits) ∙ ls
+module _ (bs : List ℕ) {n : Numbers} (s s₁ m m₁ : List ℕ) (r : Replies (answer bs (length s) (length m)) n s s₁ m m₁) where
+  long-s : length s₁ ≡ length s
+  long-s = ap length (r .sheet) ∙ overlaid-length _ s (bounds (length s) (length m) bs .sheet-fits)
 
-  long-m : length m₁ ≡ 1024
-  long-m = ap length (r .message) ∙ overlaid-length _ m (bounds (length s) (length m) bs .message-fits) ∙ lm
+  long-m : length m₁ ≡ length m
+  long-m = ap length (r .message) ∙ overlaid-length _ m (bounds (length s) (length m) bs .message-fits)
 
-  sheet-is : n .sheet ≡ length (answer bs (length s) (length m) .sheet)
-  sheet-is = ap (λ k. k .sheet) (r .numbers)
+  code-is : n .code ≡ answer bs (length s) (length m) .code
+  code-is = ap (λ k. k .code) (r .numbers)
+
+  size-is : n .sheet ≡ length (answer bs (length s) (length m) .sheet)
+  size-is = ap (λ k. k .sheet) (r .numbers)
 
   message-is : n .message ≡ length (answer bs (length s) (length m) .message)
   message-is = ap (λ k. k .message) (r .numbers)
@@ -77,7 +86,7 @@ module _ (bs : List ℕ) {n : Numbers} (s s₁ m m₁ : List ℕ) (ls : length s
   place-near = rw (ap (λ k. k .place) (r .numbers)) (r .near)
 
   pub sheet-in : n .sheet ≤ length s₁
-  sheet-in = omega (arith, sheet-is, long-s, bounds (length s) (length m) bs .sheet-fits)
+  sheet-in = omega (arith, size-is, long-s, bounds (length s) (length m) bs .sheet-fits)
 
   pub message-in : n .message ≤ length m₁
   message-in = omega (arith, message-is, long-m, bounds (length s) (length m) bs .message-fits)
@@ -87,20 +96,40 @@ module _ (bs : List ℕ) {n : Numbers} (s s₁ m m₁ : List ℕ) (ls : length s
   front w old = take-append-seam w _
 
   sheet-part : take (n .sheet) s₁ ≡ answer bs (length s) (length m) .sheet
-  sheet-part = rw (sheet-is, r .sheet) (front _ s)
+  sheet-part = rw (size-is, r .sheet) (front _ s)
 
   message-part : take (n .message) m₁ ≡ answer bs (length s) (length m) .message
   message-part = rw (message-is, r .message) (front _ m)
 
-  pub printable : {out : List ℕ} → 1088 ≤ length out → Printable (n .code) (take (n .sheet) s₁) (take (n .message) m₁) out
-  printable h =
+  has-header : n .code ≡ 0 → 40 ≤ length (answer bs (length s) (length m) .sheet)
+  has-header z = answer-header bs (length s) (length m) .forty (sym code-is ∙ z)
+
+  pub printable : {out : List ℕ} → length s < 4294967296 → 64 + length m ≤ length out
+      → Printable (n .code) (take (n .sheet) s₁) (take (n .message) m₁) out
+  printable short room =
       let q = length-take-le (n .sheet) s₁ sheet-in in
       let t = length-take-le (n .message) m₁ message-in in
       record {
-        headed = λ z. omega (arith, q, sheet-is, answer-header bs (length s) (length m) .forty (sym (ap (λ k. k .code) (r .numbers)) ∙ z));
-        short = omega (arith, q, sheet-in, long-s);
-        room = omega (arith, t, message-in, long-m);
+        headed = λ z. omega (arith, q, size-is, has-header z);
+        short = omega (arith, q, sheet-in, long-s, short);
+        room = omega (arith, t, message-in, long-m, room);
       }
 
-  pub line-is : (p : ℕ) → p ≡ n .place → lineOf (answered (n .code) p (n .spanStart) (n .spanEnd) (take (n .sheet) s₁) (take (n .message) m₁)) ≡ lineOf (answer bs 42532 1024)
-  line-is p e = rw (e, sheet-part, message-part, r .numbers, ls, lm)
+  pub lined : {old new : List ℕ} {size p : ℕ} → p ≡ n .place
+      → (new ≡ overlaid (lineOf (answered (n .code) p (n .spanStart) (n .spanEnd) (take (n .sheet) s₁) (take (n .message) m₁))) old)
+      × (size ≡ length (lineOf (answered (n .code) p (n .spanStart) (n .spanEnd) (take (n .sheet) s₁) (take (n .message) m₁))))
+      → length new ≡ length old
+      → Lined (answer bs (length s) (length m)) old new s s₁ size (n .code) (n .sheet)
+  lined {old} {new} {size} {p} e w kept =
+      let l : lineOf (answered (n .code) p (n .spanStart) (n .spanEnd) (take (n .sheet) s₁) (take (n .message) m₁)) ≡ lineOf (answer bs (length s) (length m)) =
+      rw (e, sheet-part, message-part, r .numbers) in
+      record {
+        line = w .0 ∙ rw l;
+        ends = w .1 ∙ ap length l;
+        inside = within old (lineOf (answer bs (length s) (length m))) (w .0 ∙ rw l) (w .1 ∙ ap length l) kept;
+        told = code-is;
+        sheet-long = long-s;
+        sheet-inside = sheet-in;
+        sheet-is = sheet-part;
+        headed = has-header;
+      }

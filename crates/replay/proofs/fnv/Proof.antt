@@ -1,0 +1,52 @@
+-- `replay::fnv` meets its contract: what is left to sum gives what all gives. The answers stand by name in answers/fnv.txt.
+use mathlib.Core.Path.{_≡_, sym, _∙_}
+use Prim.Native.Nat.{_-_, _≤_}
+use lib.ListN.{length, drop}
+use Rattle.replay.specs.Lines.{fnvFrom, fnvOf}
+use Rattle.replay.proofs.Sums.{sum-end, sum-more, sum-all}
+use native.Mathlib.Omega.{arith}
+use borrow.Author.Needs.{needs}
+use Rattle.replay.proofs.fnv.Statement.{statement}
+use Rattle.replay.proofs.fnv.Tie as tie
+use Rattle.replay.proofs.fnv.Reads as reads
+use Rattle.replay.proofs.fnv.Lts as lts
+use Rattle.replay.proofs.times_prime.Reads as times-prime-reads
+use Rattle.replay.proofs.wide.Reads as wide-reads
+
+abbrev Inv-loop : tie.InvT-loop
+Inv-loop s h₀ i₀ h i = (i ≤ length s) × (fnvFrom h (drop i s) ≡ fnvOf s)
+
+abbrev μ-loop : tie.MeasureT-loop
+μ-loop s h₀ i₀ h i = length s - i
+
+loop-holds : tie.Need-loop-holds Inv-loop μ-loop
+loop-holds c =
+    (search needs, sum-all (c .before .args .s .now))
+
+shared-slice-read-wide : tie.Need-shared-slice-read-wide Inv-loop μ-loop
+shared-slice-read-wide c = search needs
+
+wide-requires : tie.Need-wide-requires Inv-loop μ-loop
+wide-requires c κs = search needs
+
+times-prime-requires : tie.Need-times-prime-requires Inv-loop μ-loop
+times-prime-requires c κs = search needs
+
+add-i : tie.Need-add-i Inv-loop μ-loop
+add-i c = search needs
+
+loop-less : tie.Need-loop-less Inv-loop μ-loop
+loop-less c = search needs
+
+loop-again : tie.Need-loop-again Inv-loop μ-loop
+loop-again c =
+    let a = c .before .before .before .before .before .before .args in
+    (search needs, rw (c .times-prime .ensures, c .before .wide .ensures .0) (sym (sum-more (a .s .now) (c .before .before .before .before .loop .h) (c .before .before .before .before .loop .i) (omega arith)) ∙ c .before .before .before .before .loop .inv .1))
+
+returns : tie.Need-returns Inv-loop μ-loop
+returns c =
+    sym (sum-end (c .before .before .before .args .s .now) (c .before .loop .h) (c .before .loop .i) (omega arith)) ∙ c .before .loop .inv .1
+
+pub fnv-spec : {M : Type 1} → statement M
+fnv-spec =
+    tie.close (tie.spec Inv-loop μ-loop loop-holds shared-slice-read-wide wide-requires times-prime-requires add-i loop-less loop-again returns)

@@ -1,0 +1,81 @@
+-- `replay::line_of` meets its contract. The answers stand by name in answers/line_of.txt.
+use Rattle.replay.specs.Lines.{lineFor}
+use native.Mathlib.Omega.{arith}
+use borrow.Author.Needs.{needs}
+use Rattle.replay.proofs.line_of.Statement.{statement}
+use Rattle.replay.proofs.line_of.Tie as tie
+use Rattle.replay.proofs.line_of.Reads as reads
+use Rattle.replay.proofs.line_of.Lts as lts
+use Rattle.replay.proofs.image_line.Reads as image-line-reads
+use Rattle.replay.proofs.sheet_line.Reads as sheet-line-reads
+
+-- src/main.rt:138:56
+enum-told : tie.Need-enum-told
+enum-told c = search needs
+
+-- src/main.rt:138:25
+image-line-requires : tie.Need-image-line-requires
+image-line-requires c κs = search needs
+
+-- src/main.rt:139:50
+enum-told-2 : tie.Need-enum-told-2
+enum-told-2 c = search needs
+
+-- src/main.rt:139:24
+image-line-requires-2 : tie.Need-image-line-requires-2
+image-line-requires-2 c κs = search needs
+
+-- src/main.rt:140:43
+enum-told-3 : tie.Need-enum-told-3
+enum-told-3 c = search needs
+
+-- src/main.rt:140:25
+sheet-line-requires : tie.Need-sheet-line-requires
+sheet-line-requires c κs = search needs
+
+-- src/main.rt:132:1
+same-length : tie.Need-same-length
+same-length c = search needs
+
+-- src/main.rt:132:1
+returns : tie.Need-returns
+unfolding lineFor
+returns c =
+    rw (c .before .before .before .before .enum-told .given .1) (c .before .before .image-line .ensures, c .before .before .image-line .ensures .inside)
+
+-- src/main.rt:132:1
+same-length-2 : tie.Need-same-length-2
+same-length-2 c = search needs
+
+-- src/main.rt:132:1
+returns-2 : tie.Need-returns-2
+unfolding lineFor
+returns-2 c =
+    rw (c .before .before .before .before .enum-told2 .given .1) (c .before .before .image-line2 .ensures, c .before .before .image-line2 .ensures .inside)
+
+-- src/main.rt:132:1
+same-length-3 : tie.Need-same-length-3
+same-length-3 c = search needs
+
+-- src/main.rt:132:1
+returns-3 : tie.Need-returns-3
+unfolding lineFor
+returns-3 c =
+    rw (c .before .before .before .before .enum-told3 .given .1) (c .before .before .sheet-line .ensures, c .before .before .sheet-line .ensures .inside)
+
+pub line-of-spec : {M : Type 1} → statement M
+line-of-spec =
+    tie.close
+    (tie.spec
+    enum-told
+    image-line-requires
+    enum-told-2
+    image-line-requires-2
+    enum-told-3
+    sheet-line-requires
+    same-length
+    returns
+    same-length-2
+    returns-2
+    same-length-3
+    returns-3)

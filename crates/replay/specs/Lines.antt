@@ -1,0 +1,73 @@
+-- The lines of the oracle's batch form: document 01's printed line, and behind it the checksum of the sheet, "since the line alone does
+-- not tell sheets of one size apart".
+use mathlib.Core.Path.{_≡_}
+use mathlib.Core.List.{List, [], _∷_, _++_}
+use Prim.Native.Nat.{ℕ, _-_, _*_, _%_, _^_, _≤_}
+use lib.Bits.{bitXor}
+use lib.Dec.{eqb}
+use lib.ListN.{length, take}
+use Rattle.io.specs.Digits.{digits}
+use Rattle.meaning.specs.Base.{if_then_else_, bytes, word}
+use Rattle.meaning.specs.Limits.{largestSheet, sheetBuffer, messageBuffer}
+use Rattle.meaning.specs.Answer.{Answer, answer, overlaid}
+use Rattle.meaning.specs.Line.{spaced, lineOf}
+use Rattle.checker.specs.Answers.{rewritten}
+use Rattle.replay.specs.declared.Task.{Task}
+use Rattle.replay.specs.declared.Task.the-variants.{Images, Tight, Sheets}
+
+-- ---- FNV-1a 64: "start with 0xcbf29ce484222325; for each byte xor it in, then multiply by 0x100000001b3 modulo 2^64"
+
+abbrev pub fnvStart : ℕ
+fnvStart = 0xcbf29ce484222325
+
+abbrev pub fnvPrime : ℕ
+fnvPrime = 0x100000001b3
+
+unfoldable pub fnvFrom : ℕ → List ℕ → ℕ
+fnvFrom h [] = h
+fnvFrom h (b ∷ bs) = fnvFrom (bitXor h b * fnvPrime % 2 ^ 64) bs
+
+unfoldable pub fnvOf : List ℕ → ℕ
+fnvOf bs = fnvFrom fnvStart bs
+
+-- ---- "a space, `#` and FNV-1a 64 of the sheet's bytes as 16 lower-case hexadecimal digits", and the line's end
+
+unfoldable pub hexOf : ℕ → List ℕ
+hexOf n = digits 16 16 n
+
+unfoldable pub checksum : List ℕ → List ℕ
+checksum sheet = bytes " #" ++ hexOf (fnvOf sheet) ++ bytes "\n"
+
+-- ---- the line of an image: the checksum takes the place of the line's end
+
+unfoldable pub summedLine : Answer → List ℕ
+summedLine a = if eqb (a .code) 0 then take (length (lineOf a) - 1) (lineOf a) ++ checksum (a .sheet) else lineOf a
+
+unfoldable pub checkedLine : List ℕ → ℕ → ℕ → List ℕ
+checkedLine image sheetRoom messageRoom = summedLine (answer image sheetRoom messageRoom)
+
+-- ---- the line of a sheet: "`read`, how many names and structured types it has, and `#` and FNV-1a 64 of what writing it again must
+-- give"; or the one refusal
+
+unfoldable pub readLine : List ℕ → List ℕ
+readLine sheet = bytes "read" ++ spaced (word sheet 20 ∷ word sheet 4 ∷ []) ++ checksum sheet
+
+unfoldable pub rewrittenLine : Answer → List ℕ
+rewrittenLine a = if eqb (a .code) 0 then readLine (a .sheet) else lineOf a
+
+unfoldable pub sheetLine : List ℕ → List ℕ
+sheetLine sheet = rewrittenLine (rewritten sheet largestSheet)
+
+-- ---- what a batch holds, and the rooms
+
+unfoldable pub lineFor : Task → List ℕ → List ℕ
+lineFor Images image = checkedLine image sheetBuffer messageBuffer
+lineFor Tight image = checkedLine image 98 69
+lineFor Sheets sheet = sheetLine sheet
+
+-- a line stands at the front of a buffer that is as long as it was
+pub record Fronted (w old new : List ℕ) (size : ℕ) : Type 0 where
+  pub line : new ≡ overlaid w old
+  pub ends : size ≡ length w
+  pub long : length new ≡ length old
+  pub inside : size ≤ length new

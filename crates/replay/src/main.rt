@@ -1,0 +1,449 @@
+// Runs the stored list of T's answers against the checker, and speaks the oracle's batch form, so that any other list goes through the
+// same proved code. `replay stored` reads the list beside it and prints what differs and how many agree. `replay` prints the line of each
+// image of a batch on standard input, `replay tight` the same in the rooms of the tight list, and `replay sheets` the line of each sheet.
+ghost use mathlib.Core.Path.{_≡_};
+ghost use mathlib.Core.Bool.{true};
+ghost use Prim.Native.Nat.{_+_, _*_, _%_, _^_, _<_, _≤_, min};
+ghost use lib.ListN.{length};
+ghost use Rattle.line.specs.Printing.{Wrote};
+ghost use Rattle.replay.specs.Lines.{fnvOf, hexOf, checksum, checkedLine, readLine, sheetLine, lineFor, Fronted};
+use checker::cablebirch_write_sheet;
+use libc::STDIN_FILENO;
+use libc::STDOUT_FILENO;
+use line::put_spaced;
+use std::num::wrapping_add_u64;
+use words::get_word;
+use words::put;
+use words::same;
+use words::text;
+
+// ---- the checksum
+
+// As a call of its own, a byte asks no proof that it fits.
+fn wide(b: u8) -> u64
+    ensures { λ r. ⌜ (r ≡ b) × (r < 256) ⌝ }
+{
+    b as u64
+}
+
+// The product by FNV's prime, 2^40 + 435, modulo 2^64: the numbers that wrap are sums alone.
+fn times_prime(h: u64) -> u64
+    ensures { λ r. ⌜ r ≡ h * 1099511628211 % 2 ^ 64 ⌝ }
+{
+    let high = h % 16777216 * 1099511627776;
+    let middle = h / 4294967296 * 435 % 4294967296 * 4294967296;
+    let low = h % 4294967296 * 435;
+    wrapping_add_u64(wrapping_add_u64(high, middle), low)
+}
+
+fn fnv(s: &[u8]) -> u64
+    ensures { λ r. ⌜ r ≡ fnvOf (now (s .entry)) ⌝ }
+{
+    let mut h = 14695981039346656037;
+    let mut i = 0;
+    while i < s.len() {
+        h = times_prime(h ^ wide(s[i]));
+        i += 1;
+    }
+    h
+}
+
+fn put_hex(out: &mut [u8], at: usize, n: u64) -> usize
+    requires { ⌜ at + 16 ≤ length (now out) ⌝ }
+    ensures { λ r. ⌜ Wrote (now (out .entry)) at (hexOf n) (now (out .exit)) r ⌝ }
+    ensures { λ r. ⌜ r ≡ at + 16 ⌝ }
+{
+    let mut digits = [0u8; 16];
+    let count = io::hex(n, 16, &mut digits);
+    put(out, at, &digits[..count])
+}
+
+// The checksum of a sheet and the line's end.
+fn put_checksum(out: &mut [u8], at: usize, sheet: &[u8]) -> usize
+    requires { ⌜ at + 19 ≤ length (now out) ⌝ }
+    ensures { λ r. ⌜ Wrote (now (out .entry)) at (checksum (now (sheet .entry))) (now (out .exit)) r ⌝ }
+{
+    let digits = put(out, at, b" #");
+    let end = put_hex(out, digits, fnv(sheet));
+    put(out, end, b"\n")
+}
+
+// ---- the lines
+
+// The line of an image in the rooms of the two buffers that are lent, and the checksum of its sheet.
+fn summed_line(image: &[u8], sheet: &mut [u8], message: &mut [u8], out: &mut [u8]) -> usize
+    requires { ⌜ (length (now sheet) ≤ 42532) × (length (now message) ≤ 1024) ⌝ }
+    requires { ⌜ 1152 ≤ length (now out) ⌝ }
+    ensures { λ r. ⌜ Fronted (checkedLine (now (image .entry)) (length (now (sheet .entry))) (length (now (message .entry))))
+        (now (out .entry)) (now (out .exit)) r ⌝ }
+{
+    let p = line::of_image(image, sheet, message, out);
+    let length = p.length;
+    if p.code == 0 {
+        return put_checksum(out, length - 1, text(sheet, 0, p.sheet));
+    }
+    length
+}
+
+fn image_line(image: &[u8], sheet_room: usize, message_room: usize, out: &mut [u8]) -> usize
+    requires { ⌜ («sheet_room» ≤ 42532) × («message_room» ≤ 1024) ⌝ }
+    requires { ⌜ 1152 ≤ length (now out) ⌝ }
+    ensures { λ r. ⌜ Fronted (checkedLine (now (image .entry)) «sheet_room» «message_room») (now (out .entry)) (now (out .exit)) r ⌝ }
+{
+    let mut sheet = [0u8; 42532];
+    let mut message = [0u8; 1024];
+    summed_line(
+        image,
+        &mut sheet[..sheet_room],
+        &mut message[..message_room],
+        out,
+    )
+}
+
+fn read_line(sheet: &[u8], out: &mut [u8]) -> usize
+    requires { ⌜ 40 ≤ length (now sheet) ⌝ }
+    requires { ⌜ 64 ≤ length (now out) ⌝ }
+    ensures { λ r. ⌜ Wrote (now (out .entry)) 0 (readLine (now (sheet .entry))) (now (out .exit)) r ⌝ }
+{
+    let names = get_word(sheet, 20);
+    let types = get_word(sheet, 4);
+    let numbers = put(out, 0, b"read");
+    let second = put_spaced(out, numbers, names);
+    let end = put_spaced(out, second, types);
+    put_checksum(out, end, sheet)
+}
+
+// The line is that of what was written again from what was read, so it speaks of the reader and of the writer.
+fn sheet_line(sheet: &[u8], out: &mut [u8]) -> usize
+    requires { ⌜ 1152 ≤ length (now out) ⌝ }
+    ensures { λ r. ⌜ Fronted (sheetLine (now (sheet .entry))) (now (out .entry)) (now (out .exit)) r ⌝ }
+{
+    let mut again = [0u8; 42532];
+    let p = cablebirch_write_sheet(sheet, &mut again);
+    let code = p.code;
+    if code == 0 {
+        return read_line(text(&again, 0, p.sheet_length), out);
+    }
+    line::write(code, 0, 0, 0, text(&again, 0, 0), text(&again, 0, 0), out)
+}
+
+// What a batch holds, and the rooms.
+pub enum Task {
+    Images,
+    Tight,
+    Sheets,
+}
+
+fn line_of(task: Task, bytes: &[u8], out: &mut [u8]) -> usize
+    requires { ⌜ 1152 ≤ length (now out) ⌝ }
+    ensures { λ r. ⌜ Fronted (lineFor task (now (bytes .entry))) (now (out .entry)) (now (out .exit)) r ⌝ }
+    ensures { λ r. ⌜ r ≤ length (now (out .exit)) ⌝ }
+{
+    match task {
+        Task::Images => image_line(bytes, 42532, 1024, out),
+        Task::Tight => image_line(bytes, 98, 69, out),
+        Task::Sheets => sheet_line(bytes, out),
+    }
+}
+
+// Two lines agree exactly if they are the same bytes.
+fn agrees(ours: &[u8], theirs: &[u8]) -> bool
+    ensures { λ r. ⌜ (r ≡ true → now (ours .entry) ≡ now (theirs .entry)) × (now (ours .entry) ≡ now (theirs .entry) → r ≡ true) ⌝ }
+{
+    same(ours, theirs)
+}
+
+// ---- a batch: each record behind its length, a word
+
+// Whether there is a record, whether it is whole, and how much of it stands in the buffer.
+struct Got {
+    is_there: bool,
+    is_whole: bool,
+    length: usize,
+}
+
+fn least(a: usize, b: usize) -> usize
+    ensures { λ r. ⌜ (r ≤ a) × (r ≤ b) × (r ≡ min a b) ⌝ }
+{
+    if a < b { a } else { b }
+}
+
+fn skip_some(fd: i32, wanted: usize) -> bool
+    requires { ⌜ wanted ≤ 4096 ⌝ }
+{
+    let mut block = io::buffer();
+    let n = io::count(wanted as isize, &block);
+    io::read_full(fd, &mut block[..n]) == wanted
+}
+
+// Reads over the bytes of a record for which there was no room, and answers whether they were there.
+fn skip(fd: i32, from: usize, to: usize) -> bool {
+    let mut at = from;
+    while at < to {
+        let wanted = least(to - at, 4096);
+        if !skip_some(fd, wanted) {
+            return false;
+        }
+        at += wanted;
+    }
+    true
+}
+
+fn signed(n: u32) -> isize {
+    n as isize
+}
+
+// A record that is longer than the buffer is cut. The answer is the same, if the buffer has 59,937 bytes: 1 and 2 are decided by the
+// first 32 bytes, and where those stand "an image has at most 59,936 bytes", so that either length gives 3; a sheet has at most 42,532,
+// so that either length gives 12.
+fn next(fd: i32, buf: &mut [u8]) -> Got
+    ensures { λ r. ⌜ r .length ≤ length (now (buf .exit)) ⌝ }
+{
+    let mut head = [0u8; 4];
+    let n = io::read_full(fd, &mut head);
+    if n < 4 {
+        return Got {
+            is_there: 0 < n,
+            is_whole: false,
+            length: 0,
+        };
+    }
+    let length = get_word(&head, 0);
+    let kept = io::count(signed(length), buf);
+    let m = io::read_full(fd, &mut buf[..kept]);
+    let is_whole = m == kept && skip(fd, kept, length as usize);
+    Got {
+        is_there: true,
+        is_whole,
+        length: kept,
+    }
+}
+
+fn say(text: &[u8]) {
+    io::write_all(STDOUT_FILENO, text);
+}
+
+// The line of the next record of standard input; whether to go on.
+fn print_next(task: Task, buf: &mut [u8], out: &mut [u8]) -> bool
+    requires { ⌜ 1152 ≤ length (now out) ⌝ }
+{
+    let got = next(STDIN_FILENO, buf);
+    if !got.is_there {
+        return false;
+    }
+    if !got.is_whole {
+        say(b"the batch is cut short\n");
+        return false;
+    }
+    let length = got.length;
+    let n = line_of(task, text(buf, 0, length), out);
+    io::write_all(STDOUT_FILENO, text(out, 0, n))
+}
+
+// A proved loop has to end, and nothing says that the input does: it counts its turns down from a number that no batch uses up.
+fn print_lines(task: Task) {
+    let mut buf = [0u8; 59937];
+    let mut out = [0u8; 1152];
+    let mut turns = u64::MAX;
+    while turns > 0 && print_next(task, &mut buf, &mut out) {
+        turns -= 1;
+    }
+}
+
+// ---- the stored list
+
+// The length of the first line with its end, 0 if no line ends here.
+fn line_length(s: &[u8]) -> usize
+    ensures { λ r. ⌜ r ≤ length (now (s .entry)) ⌝ }
+{
+    let mut i = 0;
+    while i < s.len() {
+        i += 1;
+        if s[i - 1] == b'\n' {
+            return i;
+        }
+    }
+    0
+}
+
+// Whether the file goes on there, and the length of the line.
+struct Line {
+    is_there: bool,
+    length: usize,
+}
+
+fn offset(at: u32) -> i64 {
+    at as i64
+}
+
+fn line_at(fd: i32, at: u32, buf: &mut [u8]) -> Line
+    ensures { λ r. ⌜ r .length ≤ length (now (buf .exit)) ⌝ }
+{
+    let n = io::count(libc::pread(fd, buf, offset(at)), buf);
+    Line {
+        is_there: 0 < n,
+        length: line_length(&buf[..n]),
+    }
+}
+
+// Whether there is a record with an answer. The list must end with both.
+fn are_there(got: Got, line: Line) -> bool {
+    if got.is_there {
+        if !got.is_whole {
+            say(b"the batch is cut short\n");
+            return false;
+        }
+        if line.length == 0 {
+            say(b"the answers are cut short\n");
+            return false;
+        }
+        return true;
+    }
+    if line.is_there {
+        say(b"there are more answers than records\n");
+    }
+    false
+}
+
+fn say_record(task: Task) {
+    match task {
+        Task::Images => say(b"image "),
+        Task::Tight => say(b"tight image "),
+        Task::Sheets => say(b"sheet "),
+    }
+}
+
+// Of sheets T knows nothing: there the oracle's reader is the judge.
+fn say_judge(task: Task) {
+    match task {
+        Task::Sheets => say(b" / reader "),
+        _ => say(b" / T "),
+    }
+}
+
+// As `image 17: ours accepted 0 0 40 #41d22a8c2066ae0c / T refused 7 0 0 0 -`. The judge's line brings the line's end.
+fn tell(task: Task, number: u32, ours: &[u8], theirs: &[u8]) {
+    say_record(task);
+    io::print_decimal(STDOUT_FILENO, number as u64);
+    say(b": ours ");
+    if 0 < ours.len() {
+        say(text(ours, 0, ours.len() - 1));
+    }
+    say_judge(task);
+    say(theirs);
+}
+
+// What came of one entry of the list, and where the next answer begins.
+struct Step {
+    goes_on: bool,
+    agreed: bool,
+    at: u32,
+}
+
+fn replay_next(task: Task, records: i32, answers: i32, number: u32, at: u32, buf: &mut [u8]) -> Step
+    requires { ⌜ at + 1152 < 4294967296 ⌝ }
+    ensures { λ r. ⌜ r .at ≤ at + 1152 ⌝ }
+{
+    let mut ours = [0u8; 1152];
+    let mut theirs = [0u8; 1152];
+    let got = next(records, buf);
+    let line = line_at(answers, at, &mut theirs);
+    if !are_there(got, line) {
+        return Step {
+            goes_on: false,
+            agreed: false,
+            at,
+        };
+    }
+    let length = got.length;
+    let n = line_of(task, text(buf, 0, length), &mut ours);
+    let m = line.length;
+    let our = text(&ours, 0, n);
+    let their = text(&theirs, 0, m);
+    let agreed = agrees(our, their);
+    if !agreed {
+        tell(task, number, our, their);
+    }
+    Step {
+        goes_on: true,
+        agreed,
+        at: at + m as u32,
+    }
+}
+
+struct Tally {
+    agreed: u32,
+    differ: u32,
+}
+
+// A proved loop has to end: the list has some thousands of entries, far from this limit.
+fn replay_all(task: Task, records: i32, answers: i32) -> Tally
+    ensures { λ r. ⌜ (r .agreed ≤ 1000000) × (r .differ ≤ 1000000) ⌝ }
+{
+    let mut buf = [0u8; 59937];
+    let mut number = 0;
+    let mut agreed = 0;
+    let mut at = 0;
+    while number < 1000000 {
+        let step = replay_next(task, records, answers, number, at, &mut buf);
+        if !step.goes_on {
+            break;
+        }
+        number += 1;
+        at = step.at;
+        if step.agreed {
+            agreed += 1;
+        }
+    }
+    Tally {
+        agreed,
+        differ: number - agreed,
+    }
+}
+
+fn opened(path: &[u8]) -> i32 {
+    let fd = os::open_read(path);
+    if fd < 0 {
+        say(path);
+        say(b" cannot be opened\n");
+    }
+    fd
+}
+
+fn replay_files(task: Task, records: &[u8], answers: &[u8]) -> Tally
+    ensures { λ r. ⌜ (r .agreed ≤ 1000000) × (r .differ ≤ 1000000) ⌝ }
+{
+    replay_all(task, opened(records), opened(answers))
+}
+
+fn replay_stored() {
+    let images = replay_files(Task::Images, b"images.batch", b"answers.txt");
+    let tight = replay_files(Task::Tight, b"tight-images.batch", b"tight-answers.txt");
+    let sheets = replay_files(Task::Sheets, b"sheets.batch", b"sheets-answers.txt");
+    io::print_decimal(
+        STDOUT_FILENO,
+        (images.agreed + tight.agreed + sheets.agreed) as u64,
+    );
+    say(b" agreed, ");
+    io::print_decimal(
+        STDOUT_FILENO,
+        (images.differ + tight.differ + sheets.differ) as u64,
+    );
+    say(b" differ\n");
+}
+
+fn main() {
+    let mut word = io::buffer();
+    let n = os::arg(1, &mut word);
+    if os::arg_count() < 2 {
+        print_lines(Task::Images);
+    } else if same(&word[..n], b"tight") {
+        print_lines(Task::Tight);
+    } else if same(&word[..n], b"sheets") {
+        print_lines(Task::Sheets);
+    } else if same(&word[..n], b"stored") {
+        replay_stored();
+    } else {
+        say(b"usage: replay [tight | sheets | stored]\n");
+    }
+}
