@@ -348,7 +348,7 @@ fn needs_two(t: &[u8]) -> bool
 }
 
 // Whether a builtin of r's role takes k arguments; only the roles 1 to 3 are builtins.
-fn admits(r: NameAt, k: u32) -> bool
+pub fn admits(r: NameAt, k: u32) -> bool
     ensures { λ s. ⌜ s ≡ allows (roleOf (nameMeans r)) k ⌝ }
 {
     let role = r.role;

@@ -19,7 +19,6 @@ use Rattle.meaning.proofs.Faults.{Sound}
 use Rattle.types.specs.Table.{Tab}
 use Rattle.rules.specs.Outcome.{typesNamed, taken, pieces}
 use Rattle.rules.specs.Builtins.{builtinTexts, numberOf, builtinNumber, numberedRule}
-use Rattle.rules.specs.Leaves.{Allowed}
 use Rattle.rules.proofs.Builtins.{builtin-rule}
 use Rattle.rules.proofs.Calls.{builtin-counted, builtin-miscounted, function-counted, function-miscounted}
 use Rattle.image.specs.Parts.{recordOf, nameMeans, oneArgument, twoArguments}
@@ -329,13 +328,13 @@ unfolding nameOf unsafeName
 name-safe {bs} s x h = all-pass (λ (i : ℕ) (w : Name). safe w) (namesOf bs) _ (s .safe) x (rw names-many h)
 
 module _ {bs : List ℕ} (s : Sound bs) (x : ℕ) (h : x < nameCount bs) {r : NameAt} (e : nameMeans r ≡ recordOf (nameRecords bs) x) {count : ℕ} where
-  allows-is : {b : Bool} → Allowed (r .role) (r .p) (r .q) count b → b ≡ allows (nameOf (namesOf bs) x .role) count
-  allows-is a = a .says (nameMeans r) refl refl refl ∙ ap (λ o. allows o count) (role-of bs x e)
+  allows-is : {b : Bool} → b ≡ allows (roleOf (nameMeans r)) count → b ≡ allows (nameOf (namesOf bs) x .role) count
+  allows-is a = a ∙ ap (λ o. allows o count) (role-of bs x e)
 
-  pub plan-builtin : {b : Bool} {text : List ℕ} {rule : ℕ} → Allowed (r .role) (r .p) (r .q) count b → b ≡ true
+  pub plan-builtin : {b : Bool} {text : List ℕ} {rule : ℕ} → b ≡ allows (roleOf (nameMeans r)) count → b ≡ true
       → text ≡ nameOf (namesOf bs) x .spelling → rule ≡ builtinNumber text → Planned (namesOf bs) x count 0 rule
   plan-builtin a b t k = planned-builtin (namesOf bs) x count (name-safe s x h) (sym (allows-is a) ∙ b) (k ∙ ap builtinNumber t)
 
-  pub plan-other : {b : Bool} {code : ℕ} → Allowed (r .role) (r .p) (r .q) count b → b ≡ false → code ≡ countCode (r .role) (r .p) count
+  pub plan-other : {b : Bool} {code : ℕ} → b ≡ allows (roleOf (nameMeans r)) count → b ≡ false → code ≡ countCode (r .role) (r .p) count
       → Planned (namesOf bs) x count code 0
   plan-other a b c = planned-other (namesOf bs) x count (nameMeans r) (role-of bs x e) (sym (allows-is a) ∙ b) c

@@ -16,12 +16,12 @@ ghost use Rattle.nodes.specs.Operands.{literalNumber, Variable, operandR
 ghost use Rattle.nodes.specs.Planning.{countCode, Planned, lookedAt, Argued};
 use frames::lookup;
 use image::Node;
+use image::admits;
 use image::areas;
 use image::name_at;
 use image::name_text;
 use image::node_at;
 use rules::Decision;
-use rules::allowed;
 use rules::binary;
 use rules::builtin_of;
 use rules::index;
@@ -327,7 +327,7 @@ pub fn plan(image: &[u8], x: usize, count: u32) -> Choice
     ensures { λ r. ⌜ Planned (namesOf (now (image .entry))) x count (r .code) (r .rule) ⌝ }
 {
     let name = name_at(image, x);
-    if allowed(name.role, name.p, name.q, count) {
+    if admits(name, count) {
         let layout = areas(image);
         let rule = builtin_of(name_text(image, layout.texts, x));
         return Choice { code: 0, rule };

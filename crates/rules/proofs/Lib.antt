@@ -7,4 +7,3 @@ mod Steps
 mod Arguments
 mod Indexing
 pub mod Streaming
-mod Allowing

@@ -8,7 +8,7 @@ use Prim.Native.Nat.{ℕ, _<_}
 use lib.Dec.{eqb}
 use Rattle.meaning.specs.Base.{_or_, if_then_else_, ifSome, isIn}
 use Rattle.meaning.specs.Types.{Ty, unknown, int, string, function, list, dict, mapIter, filterIter, same, maybe, kind}
-use Rattle.meaning.specs.Image.{NameRecord, roleOf, Name, allows}
+use Rattle.meaning.specs.Image.{Name}
 use Rattle.meaning.specs.Message.{aType, refusal}
 use Rattle.meaning.specs.Operators.{Checked, ok, refused, when}
 use Rattle.meaning.specs.Rules.{Children, listRule, joined, dictRule, streamed, indexRule}
@@ -127,8 +127,3 @@ pub record Streams (t u : Tab) (filters : Bool) (i code number a b : ℕ) : Type
   pub says : (ws : List Name) (n : ℕ) → Decides ws u (secondRule filters n (denote t i)) code n number a b
   pub made : code ≡ 0 → Made t u number (denote u number) 0
   pub kept : (code ≡ 0 → ⊥) → u ≡ t
-
--- ---- how many arguments a builtin allows, by its name record
-
-pub record Allowed (role p q count : ℕ) (r : Bool) : Type 0 where
-  pub says : (w : NameRecord) → w .role ≡ role → w .p ≡ p → w .q ≡ q → r ≡ allows (roleOf w) count

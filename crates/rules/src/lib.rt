@@ -2,8 +2,7 @@
 ghost use mathlib.Core.Path.{_≡_};
 ghost use mathlib.Core.List.{[], _∷_};
 ghost use Prim.Native.Nat.{_<_};
-ghost use lib.Dec.{leb};
-ghost use Rattle.meaning.specs.Base.{_and_, isIn};
+ghost use Rattle.meaning.specs.Base.{isIn};
 ghost use Rattle.meaning.specs.Decode.{unaryOf, binaryOf};
 ghost use Rattle.meaning.specs.Operators.{unaryRule, binaryRule};
 ghost use Rattle.types.specs.Table.{tab, denote, Made};
@@ -11,7 +10,7 @@ ghost use Rattle.types.specs.Reading.{IsNumber};
 ghost use Rattle.rules.specs.Outcome.{typesNamed};
 ghost use Rattle.rules.specs.Builtins.{builtinNumber};
 ghost use Rattle.rules.specs.Leaves.{Known, OfOne, OfTwo, OfNumber, Expected, promptRule, sizedRule, boundRule, callableRule, ListStep, JoinedOf, DictStep};
-ghost use Rattle.rules.specs.Leaves.{Keyed, Indexed, StreamedOf, streamType, secondCode, Asks, Streams, Allowed};
+ghost use Rattle.rules.specs.Leaves.{Keyed, Indexed, StreamedOf, streamType, secondCode, Asks, Streams};
 use operators::answer_of;
 use operators::unary_answer_of;
 use types::Counts;
@@ -402,29 +401,6 @@ pub fn stream(table: &mut [u16; 10272], counts: Counts, filters: bool, b: usize)
             b: 0,
         },
         counts,
-    }
-}
-
-// ---- how many arguments a builtin allows
-
-fn within(p: u32, q: u32, count: u32) -> bool
-    ensures { λ r. ⌜ r ≡ (leb p count and leb count q) ⌝ }
-{
-    if p <= count {
-        return count <= q;
-    }
-    false
-}
-
-// By the words of its name record.
-pub fn allowed(role: u32, p: u32, q: u32, count: u32) -> bool
-    ensures { λ r. ⌜ Allowed role p q count r ⌝ }
-{
-    match role {
-        1 => count == p,
-        2 => within(p, q, count),
-        3 => true,
-        _ => false,
     }
 }
 
