@@ -327,14 +327,15 @@ name-safe : {bs : List ℕ} → Sound bs → (x : ℕ) → x < nameCount bs → 
 unfolding nameOf unsafeName
 name-safe {bs} s x h = all-pass (λ (i : ℕ) (w : Name). safe w) (namesOf bs) _ (s .safe) x (rw names-many h)
 
-module _ {bs : List ℕ} (s : Sound bs) (x : ℕ) (h : x < nameCount bs) {r : NameAt} (e : nameMeans r ≡ recordOf (nameRecords bs) x) {count : ℕ} where
-  allows-is : {b : Bool} → b ≡ allows (roleOf (nameMeans r)) count → b ≡ allows (nameOf (namesOf bs) x .role) count
-  allows-is a = a ∙ ap (λ o. allows o count) (role-of bs x e)
+allows-is : (bs : List ℕ) (x : ℕ) {r : NameAt} → nameMeans r ≡ recordOf (nameRecords bs) x → (count : ℕ) {b : Bool}
+    → b ≡ allows (roleOf (nameMeans r)) count → b ≡ allows (nameOf (namesOf bs) x .role) count
+allows-is bs x e count a = a ∙ ap (λ o. allows o count) (role-of bs x e)
 
+module _ {bs : List ℕ} (s : Sound bs) (x : ℕ) (h : x < nameCount bs) {r : NameAt} (e : nameMeans r ≡ recordOf (nameRecords bs) x) {count : ℕ} where
   pub plan-builtin : {b : Bool} {text : List ℕ} {rule : ℕ} → b ≡ allows (roleOf (nameMeans r)) count → b ≡ true
       → text ≡ nameOf (namesOf bs) x .spelling → rule ≡ builtinNumber text → Planned (namesOf bs) x count 0 rule
-  plan-builtin a b t k = planned-builtin (namesOf bs) x count (name-safe s x h) (sym (allows-is a) ∙ b) (k ∙ ap builtinNumber t)
+  plan-builtin a b t k = planned-builtin (namesOf bs) x count (name-safe s x h) (sym (allows-is bs x e count a) ∙ b) (k ∙ ap builtinNumber t)
 
   pub plan-other : {b : Bool} {code : ℕ} → b ≡ allows (roleOf (nameMeans r)) count → b ≡ false → code ≡ countCode (r .role) (r .p) count
       → Planned (namesOf bs) x count code 0
-  plan-other a b c = planned-other (namesOf bs) x count (nameMeans r) (role-of bs x e) (sym (allows-is a) ∙ b) c
+  plan-other a b c = planned-other (namesOf bs) x count (nameMeans r) (role-of bs x e) (sym (allows-is bs x e count a) ∙ b) c
