@@ -2,6 +2,7 @@
 use mathlib.Core.Path.{_≡_, refl, sym, ap, _∙_}
 use mathlib.Core.Bool.{Bool, true, false}
 use mathlib.Core.List.{List, [], _∷_, _++_}
+use mathlib.Core.Option.{none}
 use Prim.Native.Nat.{ℕ, suc, _+_, _-_, _<_, _≤_}
 use native.Mathlib.Nat.{zero-add, add-assoc}
 use native.Mathlib.Numerals.{add-one}
@@ -12,7 +13,7 @@ use lib.ListN.{length, getD, set, take, length-take, length-set, replicate, leng
 use lib.Seq.{take-nil, take-suc, getD-set-same, getD-set-other}
 use borrow.Author.Tests.{eq-eqb, ne-eqb, lt-ltb, le-ltb, le-leb, lt-leb, eqb-true, eqb-false}
 use Rattle.meaning.specs.Base.{_and_, if_then_else_}
-use Rattle.meaning.specs.Image.{Node, nodeOf, depth}
+use Rattle.meaning.specs.Image.{Node, nodeOf, nodesOf, depth, firstNot, tooDeepNode}
 
 -- how many of these nodes end behind i, and how many end at e
 unfoldable pub held : ℕ → List Node → ℕ
@@ -130,3 +131,19 @@ module _ (ds : List Node) (i : ℕ) (inside : i < length ds) (above : i < nodeOf
 
   pub deep : 64 ≤ n → leb (depth i 0 ds) 64 ≡ false
   deep h = rw (depth-here ds i inside above, ← e) (lt-leb (n + 1) 64 (omega arith))
+
+-- ---- few nodes
+
+depth-few : (i j : ℕ) (ds : List Node) → depth i j ds ≤ length ds
+unfolding depth
+depth-few i j [] = omega arith
+depth-few i j (d ∷ ds) = omega (arith, at-most-one (leb j i and ltb i (d .stop)), depth-few i (suc j) ds)
+
+pass-all : {A : Type 0} (f : ℕ → A → Bool) (k : ℕ) (xs : List A) → ((i : ℕ) (x : A) → f i x ≡ true) → firstNot f k xs ≡ none
+unfolding firstNot if_then_else_
+pass-all f k [] h = refl
+pass-all f k (x ∷ xs) h = rw (h k x) (pass-all f (suc k) xs h)
+
+pub few-shallow : (bs : List ℕ) → length (nodesOf bs) ≤ 64 → tooDeepNode bs ≡ none
+unfolding tooDeepNode
+few-shallow bs h = pass-all (λ (i : ℕ) (d : Node). leb (depth i 0 (nodesOf bs)) 64) 0 (nodesOf bs) (λ i d. le-leb (depth i 0 (nodesOf bs)) 64 (omega (arith, depth-few i 0 (nodesOf bs))))

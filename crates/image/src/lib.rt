@@ -718,7 +718,7 @@ fn wide(n: u16) -> usize
 // Linear: `around` nodes before node i end behind it, so it lies at depth around + 1. Of these and itself, those that end at i + 1
 // are around no more, and `ends` has how many they are, plus 1. After 6 this needs no nesting: it is counting alone.
 // The counts start at 1: a fill with 0 is made byte by byte, one with 1 by 16 bytes at a time.
-fn too_deep(image: &[u8], nodes: usize, count: usize) -> Found
+fn deep_by_counting(image: &[u8], nodes: usize, count: usize) -> Found
     requires { ⌜ Headed (now image) ⌝ }
     requires { ⌜ brokenNode (now image) ≡ none ⌝ }
     requires { ⌜ (nodes ≡ nodesFrom (now image)) × (count ≡ nodeCount (now image)) ⌝ }
@@ -738,6 +738,19 @@ fn too_deep(image: &[u8], nodes: usize, count: usize) -> Found
         around = around + 2 - wide(ends[i]);
     }
     Found::Nowhere
+}
+
+// No node lies deeper than there are nodes: a small program needs no counting.
+fn too_deep(image: &[u8], nodes: usize, count: usize) -> Found
+    requires { ⌜ Headed (now image) ⌝ }
+    requires { ⌜ brokenNode (now image) ≡ none ⌝ }
+    requires { ⌜ (nodes ≡ nodesFrom (now image)) × (count ≡ nodeCount (now image)) ⌝ }
+    ensures { λ r. ⌜ placeOf r ≡ tooDeepNode (now (image .entry)) ⌝ }
+{
+    if count <= 64 {
+        return Found::Nowhere;
+    }
+    deep_by_counting(image, nodes, count)
 }
 
 // ---- the answer
