@@ -1,9 +1,10 @@
 // What an operator answers, by the kinds of its operands.
 ghost use mathlib.Core.Path.{_≡_};
-ghost use Prim.Native.Nat.{_<_};
+ghost use Prim.Native.Nat.{_<_, max};
 ghost use lib.ListN.{getD};
 ghost use Rattle.meaning.specs.Operators.{operatorAnswer, unaryAnswer};
 ghost use Rattle.meaning.specs.Decode.{binaryOf, unaryOf};
+ghost use Rattle.operators.specs.Numbers.{numeric, numbersAnswer};
 
 mod constants;
 
@@ -34,11 +35,48 @@ fn unary_entry(row: [u8; 13], at: usize) -> u32
     wide(row[at])
 }
 
+// Whether a kind is Int or Float, or Unknown, which passes for either.
+fn is_numeric(kind: u32) -> bool
+    ensures { λ r. ⌜ r ≡ numeric kind ⌝ }
+{
+    if kind == 4 {
+        return true;
+    }
+    kind <= 1
+}
+
+fn larger(left: u32, right: u32) -> u32
+    ensures { λ r. ⌜ r ≡ max left right ⌝ }
+{
+    if left < right {
+        return right;
+    }
+    left
+}
+
+// The answer for two numbers, by far the most frequent operands: no row has to be copied for it.
+fn of_numbers(op: u32, left: u32, right: u32) -> u32
+    ensures { λ r. ⌜ r ≡ numbersAnswer op left right ⌝ }
+{
+    if 6 <= op {
+        return 2;
+    }
+    if op == 3 {
+        return 4;
+    }
+    larger(left, right)
+}
+
 // The answer of a binary operator. All numbers are u32, as they stand in the image and in the type table.
 pub fn answer_of(op: u32, left: u32, right: u32) -> u32
     requires { ⌜ (op < 14) × (left < 13) × (right < 13) ⌝ }
     ensures { λ r. ⌜ r ≡ operatorAnswer (binaryOf op) left right ⌝ }
 {
+    if is_numeric(left) {
+        if is_numeric(right) {
+            return of_numbers(op, left, right);
+        }
+    }
     let table = ANSWERS;
     let at = (left * 13 + right) as usize;
     match op {
