@@ -1,5 +1,6 @@
 mod Places
 mod Short
+mod Lending
 pub mod Ends
 pub mod Outcomes
 pub mod Sheets

@@ -1,5 +1,5 @@
 -- The length of an accepted program's sheet is a word: the types of its names are numbers of the check's table, which has room for 2,056
--- types of at most 2,048 elements each.
+-- types of at most 2,056 elements each.
 use mathlib.Core.Path.{_≡_, refl, sym, ap, _∙_}
 use mathlib.Core.Bool.{Bool, true, false}
 use mathlib.Core.Logic.{⊎-elim}
@@ -95,14 +95,14 @@ module _ {t : Tab} (w : Wf t) where
       let b : f .0 < t.n = omega (arith, of-count 0 t.n (f .0) (f .1)) in
       Memᴰ·cast (sym (a .1 .1)) (part-held (f .0) (a .0) b (a .1 .0))
 
-  few-elements : (i : ℕ) → i < t.n → length (elementsIn (denote t i)) ≤ 2048
+  few-elements : (i : ℕ) → i < t.n → length (elementsIn (denote t i)) ≤ 2056
   unfolding elementsIn if_then_else_
   few-elements i h = elim (ℕ-discrete (kindAt t i) 10) [
-    | yes e ↦ rw (eq-eqb _ _ (kind-of w i h ∙ e)) (omega (arith, parts-many w i h e, w .low i h .inside e, w .space))
+    | yes e ↦ rw (eq-eqb _ _ (kind-of w i h ∙ e)) (omega (arith, parts-many w i h e, w .low i h .inside e, w .space, w .most))
     | no n ↦ rw (ne-eqb _ _ (λ e. n (sym (kind-of w i h) ∙ e))) (omega arith)
   ]
 
-  all-elements : (a n : ℕ) → a + n ≤ t.n → length (elementsOf (map (denote t) (count a n))) ≤ 2048 * n
+  all-elements : (a n : ℕ) → a + n ≤ t.n → length (elementsOf (map (denote t) (count a n))) ≤ 2056 * n
   unfolding count elementsOf
   all-elements a zero h = omega arith
   all-elements a (suc n) h =
@@ -139,6 +139,7 @@ module _ {bs : List ℕ} {t : Tab} {fs : Rows} {top : ℕ} (s : Sound bs) (w : W
         count-many 0 t.n,
         all-elements w 0 t.n (omega arith),
         w .room,
+        w .most,
         names-many bs s F,
         texts-size [] es (texts-stand bs s F),
       )

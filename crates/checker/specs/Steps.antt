@@ -1,15 +1,30 @@
 -- The steps of a check.
 use mathlib.Core.Path.{_≡_}
 use mathlib.Core.List.{List, []}
-use Prim.Native.Nat.{ℕ, _≤_}
+use Prim.Native.Nat.{ℕ, _+_, _≤_}
 use Rattle.meaning.specs.Image.{nodeCount, nodesFrom, nodesOf, nodeOf, namesOf}
 use Rattle.meaning.specs.Message.{message, refusal}
 use Rattle.meaning.specs.Answer.{Answer, fitting}
 use Rattle.meaning.proofs.Faults.{Sound}
-use Rattle.types.specs.Table.{Tab, Wf}
+use Rattle.types.specs.Table.{Tab, capacity, Fresh, Wf}
 use Rattle.frames.specs.Env.{Rows, Fit}
 use Rattle.rules.specs.Outcome.{pieces}
 use Rattle.targets.specs.Ending.{Named}
+
+-- ---- what a walk is lent
+
+-- a sound image of at most so many nodes
+pub record Sized (bs : List ℕ) (nodes most : ℕ) : Type 0 where
+  pub sound : Sound bs
+  pub nodes-at : nodes ≡ nodesFrom bs
+  pub few : nodeCount bs ≤ most
+
+-- cells for a table that has room for a type and an element for each node of a sound image, beside the plain types
+pub record Lent (bs : List ℕ) (nodes : ℕ) (cs : List ℕ) : Type 0 where
+  pub sound : Sound bs
+  pub nodes-at : nodes ≡ nodesFrom bs
+  pub fresh : Fresh cs
+  pub room : nodeCount bs + 8 ≤ capacity cs
 
 -- ---- an accepted program
 

@@ -10,7 +10,7 @@ ghost use Rattle.meaning.proofs.Faults.{Sound};
 ghost use Rattle.types.specs.Table.{tab};
 ghost use Rattle.frames.specs.Env.{framesOf};
 ghost use Rattle.checker.specs.Answers.{Answers, Wrote, Told, numbersOf, numbersIn, bareNumbers, readingNumbers, rewritingNumbers, rewritten, Rewrote, replyMeans, Replies, Relaid};
-ghost use Rattle.checker.specs.Steps.{Accepting, Refusing, refusedAs};
+ghost use Rattle.checker.specs.Steps.{Sized, Lent, Accepting, Refusing, refusedAs};
 use image::Judged;
 use image::areas;
 use image::judge;
@@ -51,7 +51,7 @@ pub enum Answer {
 // Code 0 and the sheet of the names that the row `top` holds, or 10.
 fn accept(
     image: &[u8],
-    table: &[u16; 10272],
+    table: &[u16],
     counts: Counts,
     frames: &[[u16; 128]; 8],
     top: usize,
@@ -76,7 +76,7 @@ fn accept(
 fn refuse(
     image: &[u8],
     nodes: usize,
-    table: &[u16; 10272],
+    table: &[u16],
     counts: Counts,
     code: u32,
     place: usize,
@@ -101,39 +101,33 @@ fn refuse(
 
 // ---- the whole
 
-// The answer for a well-formed image.
-fn walk_image(image: &[u8], sheet: &mut [u8], message: &mut [u8]) -> Answer
-    requires { ⌜ Sound (now image) ⌝ }
+// The answer for a well-formed image, by a table that has room for its nodes, whatever it holds.
+fn walk_in(
+    image: &[u8],
+    nodes: usize,
+    table: &mut [u16],
+    sheet: &mut [u8],
+    message: &mut [u8],
+) -> Answer
+    requires { ⌜ Lent (now image) nodes (now table) ⌝ }
     ensures { λ r. ⌜ Answers (answer (now (image .entry)) (length (now (sheet .entry))) (length (now (message .entry))))
         r (now (sheet .entry)) (now (sheet .exit)) (now (message .entry)) (now (message .exit)) ⌝ }
 {
-    let mut table = [1u16; 10272];
-    start(&mut table);
+    start(table);
     let mut frames = [[0u16; 128]; 8];
     let mut stack = [1u16; 2048];
-    let l = areas(image);
-    let w = program(
-        image,
-        l.nodes,
-        &mut frames,
-        &mut table,
-        &mut stack,
-        Counts {
-            types: 8,
-            elements: 0,
-        },
-    );
+    let w = program(image, nodes, &mut frames, table, &mut stack);
     let code = w.code;
     if code == 0 {
-        return accept(image, &table, w.counts, &frames, w.top, sheet);
+        return accept(image, table, w.counts, &frames, w.top, sheet);
     }
     if code == 9 {
         return Answer::NinthFrame(w.place);
     }
     refuse(
         image,
-        l.nodes,
-        &table,
+        nodes,
+        table,
         w.counts,
         code,
         w.place,
@@ -141,6 +135,51 @@ fn walk_image(image: &[u8], sheet: &mut [u8], message: &mut [u8]) -> Answer
         w.b,
         message,
     )
+}
+
+// A filled array costs a store for each few cells, so that few nodes get a small table: 6 cells for each node and each of the 8 plain types.
+// Each size has its own function, and so its own frame.
+fn walk_few(image: &[u8], nodes: usize, sheet: &mut [u8], message: &mut [u8]) -> Answer
+    requires { ⌜ Sized (now image) nodes 64 ⌝ }
+    ensures { λ r. ⌜ Answers (answer (now (image .entry)) (length (now (sheet .entry))) (length (now (message .entry))))
+        r (now (sheet .entry)) (now (sheet .exit)) (now (message .entry)) (now (message .exit)) ⌝ }
+{
+    let mut table = [1u16; 432];
+    walk_in(image, nodes, &mut table, sheet, message)
+}
+
+fn walk_some(image: &[u8], nodes: usize, sheet: &mut [u8], message: &mut [u8]) -> Answer
+    requires { ⌜ Sized (now image) nodes 512 ⌝ }
+    ensures { λ r. ⌜ Answers (answer (now (image .entry)) (length (now (sheet .entry))) (length (now (message .entry))))
+        r (now (sheet .entry)) (now (sheet .exit)) (now (message .entry)) (now (message .exit)) ⌝ }
+{
+    let mut table = [1u16; 3120];
+    walk_in(image, nodes, &mut table, sheet, message)
+}
+
+fn walk_many(image: &[u8], nodes: usize, sheet: &mut [u8], message: &mut [u8]) -> Answer
+    requires { ⌜ Sized (now image) nodes 2048 ⌝ }
+    ensures { λ r. ⌜ Answers (answer (now (image .entry)) (length (now (sheet .entry))) (length (now (message .entry))))
+        r (now (sheet .entry)) (now (sheet .exit)) (now (message .entry)) (now (message .exit)) ⌝ }
+{
+    let mut table = [1u16; 12336];
+    walk_in(image, nodes, &mut table, sheet, message)
+}
+
+// The answer for a well-formed image.
+fn walk_image(image: &[u8], sheet: &mut [u8], message: &mut [u8]) -> Answer
+    requires { ⌜ Sound (now image) ⌝ }
+    ensures { λ r. ⌜ Answers (answer (now (image .entry)) (length (now (sheet .entry))) (length (now (message .entry))))
+        r (now (sheet .entry)) (now (sheet .exit)) (now (message .entry)) (now (message .exit)) ⌝ }
+{
+    let l = areas(image);
+    if l.count <= 64 {
+        return walk_few(image, l.nodes, sheet, message);
+    }
+    if l.count <= 512 {
+        return walk_some(image, l.nodes, sheet, message);
+    }
+    walk_many(image, l.nodes, sheet, message)
 }
 
 // Checks an image: the one answer, the sheet at the front of its buffer if the program is accepted and the sheet fits, the message at the
@@ -174,7 +213,7 @@ pub enum Reading {
 pub fn read_sheet(sheet: &[u8]) -> Reading
     ensures { λ r. ⌜ readingNumbers r ≡ numbersIn (readAnswer (now (sheet .entry))) ⌝ }
 {
-    let mut table = [1u16; 10272];
+    let mut table = [1u16; 12336];
     let mut names = [0u32; 384];
     let r = read(sheet, &mut table, &mut names);
     if r.stands {
@@ -194,7 +233,7 @@ pub enum Rewriting {
 pub fn write_sheet(sheet: &[u8], out: &mut [u8]) -> Rewriting
     ensures { λ r. ⌜ Rewrote (rewritten (now (sheet .entry)) (length (now (out .entry)))) r (now (out .entry)) (now (out .exit)) ⌝ }
 {
-    let mut table = [1u16; 10272];
+    let mut table = [1u16; 12336];
     let mut names = [0u32; 384];
     let r = read(sheet, &mut table, &mut names);
     if !r.stands {

@@ -144,18 +144,17 @@ module _ {bs : List ℕ} {nodes : ℕ} {fs : Rows} {top : ℕ} {t : Tab} {st : L
       pub look-listed : code ≡ 0 → Listed u su sp look
       look-listed z = record {
         wf = v .fine .grown .wf;
-        room = omega (arith, passed .types-spent, r .types-room, from-some);
-        space = omega (arith, v .fine .elements-spent, r .elements-room, behind, from-some);
-        long = v .fine .stack;
-        inside = omega (arith, r .stack-room, behind, row-long (r .sound) look look-row, from-some);
+        room = omega (arith, passed .types-spent, passed .grown .as-wide, r .types-room, from-some);
+        space = omega (arith, v .fine .elements-spent, v .fine .grown .as-wide, r .elements-room, behind, from-some);
+        inside = omega (arith, r .stack-room, v .fine .stack, behind, row-long (r .sound) look look-row, from-some);
         known = v .known z;
       }
 
       pub look-len : rule ≡ 7 → look ≡ 1
       look-len e = k ∙ looked-len rule n e
 
-      pub look-done : {code′ place′ number a′ b′ : ℕ} → code ≡ 0 → Argued u su sp rule look at code′ place′ number a′ b′
-          → Done (namesOf bs) (numberedRule at rule (checks bs (framesOf t fs top) d n from)) t u st su sp (from - 1) (past (nodesOf bs) n from) (nodeCount bs) code′ place′ number a′ b′
+      pub look-done : {x : Tab} {code′ place′ number a′ b′ : ℕ} → code ≡ 0 → Argued u x su sp rule look at code′ place′ number a′ b′
+          → Done (namesOf bs) (numberedRule at rule (checks bs (framesOf t fs top) d n from)) t x st su sp (from - 1) (past (nodesOf bs) n from) (nodeCount bs) code′ place′ number a′ b′
       look-done z g =
           done-as (looked ∙ v .told _ [] .well z)
           (done-given (from - 1) (omega (arith, from-some)) passed 0 (omega arith) (g .says (namesOf bs) (nodeCount bs) (q .there)))

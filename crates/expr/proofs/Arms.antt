@@ -121,3 +121,17 @@ module _ {bs : List ℕ} {nodes : ℕ} {fs : Rows} {top : ℕ} {t : Tab} {st : L
   lambda-done k z n =
       leaf-done function z (rw n record { below = omega (arith, r .wf .base); means = plain-number (r .wf) 7 (omega arith) })
       (rw (no-other (nodesOf bs) (λ j. exprAt (nodesOf bs) (d - 1) j) i (rw o at k)))
+
+-- ---- these numbers are no refusals
+
+pub literal-few : {r : ℕ} (a : ℕ) → r ≡ literalNumber a → r < 65535
+unfolding literalNumber
+literal-few zero e = omega arith
+literal-few (suc zero) e = omega arith
+literal-few (suc (suc zero)) e = omega arith
+literal-few (suc (suc (suc zero))) e = omega arith
+literal-few (suc (suc (suc (suc zero)))) e = omega arith
+literal-few (suc (suc (suc (suc (suc a))))) e = omega arith
+
+pub variable-few : {bs : List ℕ} {nodes : ℕ} {fs : Rows} {top : ℕ} {t : Tab} {st : List ℕ} {sp i e x v : ℕ} → Ready bs nodes fs top t st sp i e → Variable fs top x v → v < 65535
+variable-few {t = t} r w = omega (arith, w .says t (r .wf) (r .fit) .below, r .wf .room, r .wf .most)

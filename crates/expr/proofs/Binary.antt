@@ -1,19 +1,21 @@
--- A Binary: its two operands are two turns of `values`.
-use mathlib.Core.Path.{_≡_, refl, sym}
-use mathlib.Core.List.{List, map}
+-- A Binary: its two operands are two turns of `values`, but the second one's type is not pushed.
+use mathlib.Core.Path.{_≡_, refl, sym, _∙_}
+use mathlib.Core.List.{List}
 use Prim.Native.Nat.{ℕ, suc, _+_, _-_, _<_}
 use native.Mathlib.Omega.{arith}
-use lib.ListN.{length, set, take, drop}
+use lib.ListN.{length, getD, set}
+use lib.Seq.{getD-set-same, getD-set-other}
 use Rattle.meaning.specs.Image.{Node, nodeCount, nodesOf, nodeOf, namesOf}
 use Rattle.meaning.specs.Decode.{exprAt, formAt, stopOf, past}
 use Rattle.meaning.specs.Rules.{check, checkForm}
 use Rattle.meaning.proofs.Nesting.{sound-nested, nodes-many}
-use Rattle.types.specs.Table.{Tab, denote}
+use Rattle.types.specs.Table.{Tab}
 use Rattle.frames.specs.Env.{Rows, framesOf}
-use Rattle.nodes.specs.Giving.{Given}
-use Rattle.nodes.specs.Operands.{operandRule, Decidable}
+use Rattle.nodes.specs.Operands.{Decidable, Operable, Operated}
+use Rattle.nodes.proofs.Deciding.{binary-operable as operable, binary-given as given}
 use Rattle.nodes.proofs.Operating.{binary-node}
 use Rattle.expr.specs.Contract.{Ready, At, Inner, Operand, Done, Values, checks}
+use Rattle.expr.proofs.Leaving.{fine-unset}
 use Rattle.expr.proofs.Valuing.{Valuing, valuing-first, valuing-at, valuing-ready, valuing-room, valuing-refused, valuing-number, valuing-next, valuing-end}
 use Rattle.expr.proofs.Calling.{children-row, children-ready, operand-low, operands-refused, operands-decidable, operands-done}
 
@@ -66,8 +68,8 @@ module _ {bs : List ℕ} {nodes : ℕ} {fs : Rows} {top : ℕ} {t : Tab} {st : L
       pub binary-at-2 : At bs right d
       binary-at-2 = valuing-at second still
 
-      pub binary-room-2 : sp + 1 < 2048
-      binary-room-2 = valuing-room second still
+      room-2 : sp + 1 < 2048
+      room-2 = valuing-room second still
 
       module _ {w : Tab} {sw : List ℕ} {code′ place′ number′ a′ b′ : ℕ}
           (done′ : Done (namesOf bs) (check (namesOf bs) (framesOf v fs top) (exprAt (nodesOf bs) d right)) v w (set sv sp number) sw (sp + 1) right (stopOf (nodesOf bs) right)
@@ -77,19 +79,29 @@ module _ {bs : List ℕ} {nodes : ℕ} {fs : Rows} {top : ℕ} {t : Tab} {st : L
             (stopOf (nodesOf bs) i) (nodeCount bs) code′ place′ number′ a′ b′
         binary-refused-2 y = operands-refused r o operand e two (valuing-refused second still done′ y) y
 
-        pub binary-number-2 : code′ ≡ 0 → number′ < 2056
-        binary-number-2 y = valuing-number second still done′ y
-
         module _ (y : code′ ≡ 0) where
           both : Values (namesOf bs) (checks bs (framesOf t fs top) d 2 left) t w st (set sw (sp + 1) number′) sp 2 left (past (nodesOf bs) 2 left) (nodeCount bs) code′ place′ a′ b′
           both = valuing-end (valuing-next second still done′ y refl) (omega arith) y
 
-          pub binary-decidable : Decidable bs nodes w (set sw (sp + 1) number′) sp i node
-          binary-decidable = operands-decidable r o operand e two both y
+          decided : Decidable bs nodes w (set sw (sp + 1) number′) sp i node
+          decided = operands-decidable r o operand e two both y
 
-          pub binary-done : {c p n x z′ : ℕ}
-              → Given (namesOf bs) (operandRule (node .kind) (node .arg) i (suc i) (stopOf (nodesOf bs) (suc i)) (map (denote w) (take (node .children) (drop sp (set sw (sp + 1) number′))))) w w
-              (node .children) (nodeCount bs) c p n x z′
-              → Done (namesOf bs) (checkForm (namesOf bs) (framesOf t fs top) i (formAt (nodesOf bs) (λ j. exprAt (nodesOf bs) d j) i)) t w st (set sw (sp + 1) number′) sp i
-              (stopOf (nodesOf bs) i) (nodeCount bs) c p n x z′
-          binary-done g = operands-done r o operand e two both y g
+          lower : number ≡ getD (set sw (sp + 1) number′) sp 0
+          lower =
+              sym
+              (getD-set-other sw (sp + 1) sp number′ 0 (λ q. absurd (omega arith))
+              ∙ done′ .fine .kept sp (omega arith)
+              ∙ getD-set-same sv sp number 0 (rw (done .fine .stack) binary-room))
+
+          upper : number′ ≡ getD (set sw (sp + 1) number′) (sp + 1) 0
+          upper = sym (getD-set-same sw (sp + 1) number′ 0 (rw (done′ .fine .stack) room-2))
+
+          pub binary-operable : Operable w number number′ i (node .arg)
+          binary-operable = operable decided k lower upper
+
+          pub binary-done : {x : Tab} {c p n a₂ b₂ : ℕ} → Operated w x number number′ i (node .arg) c p n a₂ b₂
+              → Done (namesOf bs) (checkForm (namesOf bs) (framesOf t fs top) i (formAt (nodesOf bs) (λ j. exprAt (nodesOf bs) d j) i)) t x st sw sp i
+              (stopOf (nodesOf bs) i) (nodeCount bs) c p n a₂ b₂
+          binary-done g =
+              let q = operands-done r o operand e two both y (given decided k lower upper g) in
+              record { told = q .told; below = q .below; fine = fine-unset (sp + 1) number′ (omega arith) (done′ .fine .stack) (q .fine) }

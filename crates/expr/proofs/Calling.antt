@@ -84,15 +84,14 @@ module _ {bs : List ℕ} {nodes : ℕ} {fs : Rows} {top : ℕ} {t : Tab} {st : L
       let q = children-end r o from n e m in
       record {
         wf = v .fine .grown .wf;
-        room = omega (arith, operands-fine .types-spent, r .types-room);
-        space = omega (arith, operands-fine .elements-spent, r .elements-room);
-        long = v .fine .stack;
-        inside = omega (arith, r .stack-room, l, q);
+        room = omega (arith, operands-fine .types-spent, operands-fine .grown .as-wide, r .types-room);
+        space = omega (arith, operands-fine .elements-spent, operands-fine .grown .as-wide, r .elements-room);
+        inside = omega (arith, r .stack-room, v .fine .stack, l, q);
         known = v .known z;
       }
 
   pub operands-decidable : code ≡ 0 → Decidable bs nodes u su sp i node
-  operands-decidable z = decidable (r .sound) (r .nodes-at) (o .there) (o .read) (rw m at (listed z))
+  operands-decidable z = decidable (r .sound) (r .nodes-at) (o .there) (o .read) (rw m at (listed z)) (v .fine .stack)
 
   pub operands-done : {x : Tab} {code′ place′ number a′ b′ : ℕ} → code ≡ 0
       → Given (namesOf bs) (operandRule (node .kind) (node .arg) i (suc i) (stopOf (nodesOf bs) (suc i)) (map (denote u) (take (node .children) (drop sp su)))) u x

@@ -52,6 +52,16 @@ fine-set {su = su} k w h f = record {
   kept = λ j l. getD-set-other su k j w 0 (λ e. absurd (omega arith)) ∙ f .kept j l;
 }
 
+-- and the stack without it
+pub fine-unset : {t u : Tab} {st su : List ℕ} {sp i j x : ℕ} (k w : ℕ) → sp ≤ k → length su ≡ 2048 → Fine t u st (set su k w) sp i j x → Fine t u st su sp i j x
+fine-unset {su = su} k w h l f = record {
+  grown = f .grown;
+  types-spent = f .types-spent;
+  elements-spent = f .elements-spent;
+  stack = l;
+  kept = λ j m. sym (getD-set-other su k j w 0 (λ e. absurd (omega arith))) ∙ f .kept j m;
+}
+
 -- a node before them takes a type and as many elements as they were
 pub fine-node : {t u v : Tab} {st su : List ℕ} {sp j e n k : ℕ} (i : ℕ) → i < j → k ≤ n → Fine t u st su sp j e n → Grown u v → v.n ≤ u.n + 1
     → v.m ≤ u.m + k → Fine t v st su sp i e 1
@@ -89,8 +99,8 @@ ready-then r f h = record {
   wf = f .grown .wf;
   fit = fit-grown (f .grown .more) (r .fit);
   stack = f .stack;
-  types-room = omega (arith, r .types-room, f .types-spent);
-  elements-room = omega (arith, r .elements-room, f .elements-spent);
+  types-room = omega (arith, r .types-room, f .types-spent, f .grown .as-wide);
+  elements-room = omega (arith, r .elements-room, f .elements-spent, f .grown .as-wide);
   stack-room = omega (arith, r .stack-room);
 }
 

@@ -14,7 +14,7 @@ use Rattle.meaning.specs.Operators.{Checked, ok, refused, _>>=_}
 use Rattle.meaning.specs.Rules.{check, listRule, dictRule, rangeRule, joined}
 use Rattle.meaning.proofs.Faults.{Sound}
 use Rattle.meaning.proofs.Decoding.{past-down, past-none}
-use Rattle.types.specs.Table.{Tab, Wf, denote, Grown, Made}
+use Rattle.types.specs.Table.{Tab, capacity, Wf, denote, Grown, Made}
 use Rattle.types.proofs.Laws.{unknown-number, plain-number, grown-refl}
 use Rattle.frames.specs.Env.{Rows, framesOf}
 use Rattle.rules.specs.Outcome.{Decides}
@@ -38,7 +38,7 @@ pub record Loop (bs : List ℕ) (nodes : ℕ) (fs : Rows) (top : ℕ) (t : Tab) 
   pub answer : whole ≡ rest
   -- the node before them has room for its own type
   pub start : 0 < from
-  pub spare : t.n + past (nodesOf bs) n from < 2056 + from
+  pub spare : t.n + past (nodesOf bs) n from < capacity t.cells + from
 
 pub loop-first : {bs : List ℕ} {nodes : ℕ} {fs : Rows} {top : ℕ} {t : Tab} {st : List ℕ} {sp from n d j : ℕ} {whole rest : Checked} → whole ≡ rest → j < from
     → Ready bs nodes fs top t st sp j (past (nodesOf bs) n from) → Row bs from n d → Loop bs nodes fs top t st sp from n d whole rest t st from n
@@ -106,7 +106,7 @@ module _ {bs : List ℕ} {nodes : ℕ} {fs : Rows} {top : ℕ} {t : Tab} {st : L
 pub loop-asks : {bs : List ℕ} {nodes : ℕ} {fs : Rows} {top : ℕ} {t : Tab} {st : List ℕ} {sp from n d : ℕ} {whole rest : Checked} {u : Tab} {su : List ℕ} {i left : ℕ}
     {v : Tab} {sv : List ℕ} {element : ℕ} → Loop bs nodes fs top t st sp from n d whole rest u su i left
     → Fine t v st sv sp from (past (nodesOf bs) n from) n → element < v.n → Asks v element
-loop-asks l f h = record { wf = f .grown .wf; room = omega (arith, f .types-spent, l .spare); below = h }
+loop-asks l f h = record { wf = f .grown .wf; room = omega (arith, f .types-spent, f .grown .as-wide, l .spare); below = h }
 
 pub bind-ok : (c : Checked) (k : Ty → Checked) → (c >>= k) ≡ (c >>= λ ty. ok ty >>= k)
 unfolding _>>=_

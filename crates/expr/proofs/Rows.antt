@@ -7,7 +7,7 @@ use native.Mathlib.Omega.{arith}
 use lib.ListN.{length}
 use Rattle.meaning.specs.Image.{Node, nodeCount, nodesOf, nodeOf, depth, nameCount}
 use Rattle.meaning.specs.Decode.{stopOf, past}
-use Rattle.meaning.proofs.Faults.{Sound}
+use Rattle.meaning.proofs.Faults.{Sound, sizes}
 use Rattle.meaning.proofs.Nesting.{Nested, sound-nested, nodes-many, Children, Child, child, children-le, children-past, children, node-stands, deeper}
 use Rattle.meaning.proofs.Decoding.{past-down}
 use Rattle.expr.specs.Contract.{At, Inner, Row}
@@ -118,3 +118,20 @@ module _ {bs : List ℕ} (s : Sound bs) where
 
   pub inner : {i d : ℕ} {node : Node} → At bs i d → node ≡ nodeOf (nodesOf bs) i → Inner bs i (d - 1) node
   inner h e = record { there = h .there; deep = omega (arith, h .deep, shallow h); read = e }
+
+  -- a node's number fits a word
+  pub few : {i : ℕ} → i < nodeCount bs → i < 2048
+  few h = omega (arith, h, sizes (s .headed) .nodes)
+
+  pub few-nodes : nodeCount bs ≤ 4294967296
+  few-nodes = omega (arith, sizes (s .headed) .nodes)
+
+-- the node was read
+pub inner-as : {bs : List ℕ} {i d : ℕ} {m n : Node} → m ≡ n → Inner bs i d n → Inner bs i d m
+inner-as p o = rw p o
+
+pub kind-of : {m n : Node} {k : ℕ} → m ≡ n → n .kind ≡ k → m .kind ≡ k
+kind-of p e = ap (λ y. y .kind) p ∙ e
+
+pub no-binary : {m n : Node} → m ≡ n → (m .kind ≡ 23 → ⊥) → n .kind ≡ 23 → ⊥
+no-binary p z e = z (kind-of p e)

@@ -16,7 +16,7 @@ use Rattle.meaning.specs.Frames.{Frames}
 use Rattle.meaning.specs.Operators.{Checked, ok, _>>=_}
 use Rattle.meaning.specs.Rules.{Children, check, child}
 use Rattle.meaning.proofs.Decoding.{past-down}
-use Rattle.types.specs.Table.{Tab, denote, Made}
+use Rattle.types.specs.Table.{Tab, tab, Wf, denote, Made}
 use Rattle.types.proofs.Laws.{grown-refl}
 use Rattle.frames.specs.Env.{Rows, framesOf}
 use Rattle.frames.proofs.Laws.{frames-grown}
@@ -26,6 +26,8 @@ use Rattle.rules.specs.Leaves.{OfNumber, callableRule, secondRule, Streams, Ask
 use Rattle.rules.proofs.Outcomes.{was-ok}
 use Rattle.rules.proofs.Calls.{map-two, filter-two, names-map, names-filter}
 use Rattle.nodes.specs.Giving.{Told}
+use Rattle.nodes.specs.Notes.{typesIn, elementsIn, tabIn, Counted}
+use Rattle.nodes.proofs.Noting.{counts-small}
 use Rattle.nodes.proofs.Calling.{numbered-map, numbered-filter}
 use Rattle.expr.specs.Contract.{Ready, Row, Fine, Done, Values, checks, firstCode, streamOf}
 use Rattle.expr.proofs.Rows.{row-at, row-next, row-take, row-drop, row-long, past-past, ends-after}
@@ -179,7 +181,7 @@ module _ {bs : List ℕ} {nodes : ℕ} {fs : Rows} {top : ℕ} {t : Tab} {st : L
         pub stream-asks : code₂ ≡ 0 → Asks v′ (getD sv sp 0)
         stream-asks y =
             let e : sp + 0 ≡ sp = omega arith in
-            record { wf = wide₂ .grown .wf; room = omega (arith, wide₂ .types-spent, r .types-room, some); below = rw e at (w₂ .known y 0 (omega arith)) }
+            record { wf = wide₂ .grown .wf; room = omega (arith, wide₂ .types-spent, wide₂ .grown .as-wide, r .types-room, some); below = rw e at (w₂ .known y 0 (omega arith)) }
 
         pub stream-done : {x′ : Tab} {code₃ number₃ a₃ b₃ : ℕ} → code₂ ≡ 0 → Streams v′ x′ filters (getD sv sp 0) code₃ number₃ a₃ b₃
             → Done (namesOf bs) (streamOf filters (checks bs (framesOf t fs top) d n from)) t x′ st sv sp (from - 1) (past (nodesOf bs) n from) (nodeCount bs) code₃ second number₃ a₃ b₃
@@ -191,6 +193,15 @@ module _ {bs : List ℕ} {nodes : ℕ} {fs : Rows} {top : ℕ} {t : Tab} {st : L
             | no e ↦ rw (m .kept e) (fine-up (from - 1) (omega (arith, some)) wide₂)
           ];
         }
+
+-- ---- the counts that are noted
+
+pub streams-small : {t u : Tab} {filters : Bool} {i code number a b : ℕ} → Wf t → Streams t u filters i code number a b → (u.n < 4294967296) × (u.m < 4294967296)
+streams-small {code = code} w m = elim (ℕ-discrete code 0) [ yes e ↦ counts-small (m .made e .grown .wf) | no z ↦ rw (m .kept z) (counts-small w) ]
+
+pub streams-noted : {cs ds ns ms : List ℕ} {p q x y : ℕ} {filters : Bool} {i code number a b : ℕ} → p ≡ typesIn ns → q ≡ elementsIn ns → Counted ns ms x y
+    → Streams (tab cs p q) (tab ds x y) filters i code number a b → Streams (tabIn cs ns) (tabIn ds ms) filters i code number a b
+streams-noted e g k m = rw (k .types-are, k .elements-are) (rw (e, g) at m)
 
 -- rule 10 is map's and 11 filter's
 pub streams-either : (at rule : ℕ) (bs : List ℕ) (Γ : Frames) (d n from : ℕ) → 10 ≤ rule → rule ≤ 11

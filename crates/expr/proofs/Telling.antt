@@ -18,6 +18,8 @@ use Rattle.types.proofs.Laws.{grown-refl}
 use Rattle.rules.specs.Outcome.{typesNamed, Decides}
 use Rattle.rules.proofs.Outcomes.{names-none, was-ok, was-refused}
 use Rattle.nodes.specs.Giving.{Told, Given}
+use Rattle.nodes.specs.Notes.{placeIn, firstIn, secondIn, tabIn, verdict, Answered}
+use Rattle.nodes.proofs.Noting.{answered-types, answered-elements, answered-number, told-answered}
 use Rattle.expr.specs.Contract.{Fine, Done, Values, checks}
 use Rattle.expr.proofs.Leaving.{fine-node}
 
@@ -107,6 +109,23 @@ module _ {ws : List Name} {t u v : Tab} {st su : List ℕ} {sp j e n M code plac
 pub done-as : {ws : List Name} {r s : Checked} {t u : Tab} {st su : List ℕ} {sp i e M code place number a b : ℕ} → s ≡ r
     → Done ws r t u st su sp i e M code place number a b → Done ws s t u st su sp i e M code place number a b
 done-as e d = record { told = told-as e (d .told); below = d .below; fine = d .fine }
+
+-- ---- a decision is noted
+
+pub done-small : {ws : List Name} {r : Checked} {t u : Tab} {st su : List ℕ} {sp i e M code place number a b : ℕ}
+    → Done ws r t u st su sp i e M code place number a b → code ≡ 0 → number < 65535
+done-small d z = omega (arith, d .below z, d .fine .grown .wf .room, d .fine .grown .wf .most)
+
+pub done-answered : {ws : List Name} {r : Checked} {t : Tab} {cells ns ms : List ℕ} {st su : List ℕ} {sp i e M code place number a b q : ℕ} → M ≤ 4294967296
+    → Done ws r t (tabIn cells ns) st su sp i e M code place number a b → Answered ns ms q code place number a b
+    → Done ws r t (tabIn cells ms) st su sp i e M (verdict q ms) (placeIn ms) q (firstIn ms) (secondIn ms)
+done-answered l d f =
+    let w = d .fine .grown .wf in
+    rw (answered-types f, answered-elements f) record {
+      told = told-answered f w (λ z. omega (arith, d .told .placed z)) (d .below) (d .told);
+      below = answered-number f (d .below) (omega (arith, w .room, w .most));
+      fine = d .fine;
+    }
 
 -- ---- a row of children
 

@@ -119,7 +119,7 @@ module _ {bs : List ℕ} {nodes : ℕ} {fs : Rows} {top : ℕ} {t : Tab} {st : L
     }
 
     pub valuing-number : code ≡ 0 → number < 2056
-    valuing-number z = omega (arith, done .below z, done .fine .grown .wf .room)
+    valuing-number z = omega (arith, done .below z, done .fine .grown .wf .room, done .fine .grown .wf .most)
 
     pub valuing-next : {j : ℕ} → code ≡ 0 → j ≡ stopOf (nodesOf bs) i
         → Valuing bs nodes fs top t st sp from n d v (set sv up number) j (left - 1) (up + 1)

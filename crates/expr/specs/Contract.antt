@@ -14,7 +14,7 @@ use Rattle.meaning.specs.Operators.{Checked, ok}
 use Rattle.meaning.specs.Rules.{Children, each, checkAll, checkForm, streamRule}
 use Rattle.meaning.proofs.Faults.{Sound}
 use Rattle.meaning.proofs.Nesting.{Children as ChildrenOf}
-use Rattle.types.specs.Table.{Tab, Wf, Grown, denote}
+use Rattle.types.specs.Table.{Tab, capacity, Wf, Grown, denote}
 use Rattle.frames.specs.Env.{Rows, framesOf, Fit}
 use Rattle.nodes.specs.Giving.{Told}
 use Rattle.nodes.specs.Operands.{operandRule}
@@ -28,8 +28,8 @@ pub record Ready (bs : List ℕ) (nodes : ℕ) (fs : Rows) (top : ℕ) (t : Tab)
   pub wf : Wf t
   pub fit : Fit t fs top
   pub stack : length st ≡ 2048
-  pub types-room : t.n + e ≤ 2056 + i
-  pub elements-room : t.m + e ≤ 2048 + i
+  pub types-room : t.n + e ≤ capacity t.cells + i
+  pub elements-room : t.m + e ≤ capacity t.cells + i
   pub stack-room : sp + e ≤ 2048 + i
 
 -- node i is there, and d levels from it on are enough

@@ -3,27 +3,26 @@
 ghost use mathlib.Core.Path.{_≡_};
 ghost use Prim.Native.Nat.{suc, _-_, _<_};
 ghost use lib.ListN.{getD, set};
-ghost use Rattle.meaning.specs.Image.{nodeCount, nodesOf, namesOf};
+ghost use Rattle.meaning.specs.Image.{nodeCount, nodesOf, nodeOf, namesOf};
 ghost use Rattle.meaning.specs.Decode.{exprAt, formAt, stopOf, past};
 ghost use Rattle.meaning.specs.Rules.{check, checkForm, rangeRule};
-ghost use Rattle.types.specs.Table.{tab};
 ghost use Rattle.frames.specs.Env.{framesOf};
 ghost use Rattle.rules.specs.Builtins.{numberedRule};
-ghost use Rattle.image.specs.Parts.{nodeMeans};
+ghost use Rattle.nodes.specs.Notes.{placeIn, firstIn, secondIn, tabIn, verdict, Noting, Kept};
 ghost use Rattle.expr.specs.Contract.{Ready, At, Inner, Row, Done, Values, checks, Operand, Enough, firstCode, streamOf};
-use image::Node;
 use image::node_at;
-use nodes::Value;
 use nodes::argued;
+use nodes::counts_of;
 use nodes::decide;
 use nodes::decided;
 use nodes::dict_of;
-use nodes::given;
+use nodes::keep;
 use nodes::list_of;
 use nodes::literal;
 use nodes::looked;
 use nodes::operated;
 use nodes::plan;
+use nodes::refused;
 use nodes::stop_of;
 use nodes::variable;
 use rules::bound;
@@ -31,7 +30,6 @@ use rules::callable;
 use rules::dict_step;
 use rules::list_step;
 use rules::stream;
-use types::Counts;
 
 fn wide(x: u16) -> usize
     ensures { λ r. ⌜ r ≡ x ⌝ }
@@ -60,38 +58,39 @@ pub fn expr(
     nodes: usize,
     frames: &[[u16; 128]; 8],
     top: usize,
-    table: &mut [u16; 10272],
-    counts: Counts,
+    table: &mut [u16],
+    notes: &mut [u32; 8],
     stack: &mut [u16; 2048],
     sp: usize,
     at: usize,
     depth: usize,
-) -> Value
-    requires { ⌜ Ready (now image) nodes (now frames) top (tab (now table) (counts .types) (counts .elements)) (now stack) sp at (stopOf (nodesOf (now image)) at) ⌝ }
+) -> usize
+    requires { ⌜ Noting (now notes) ⌝ }
+    requires { ⌜ Ready (now image) nodes (now frames) top (tabIn (now table) (now notes)) (now stack) sp at (stopOf (nodesOf (now image)) at) ⌝ }
     requires { ⌜ At (now image) at depth ⌝ }
     ensures { λ r. ⌜ Done (namesOf (now (image .entry)))
-        (check (namesOf (now (image .entry))) (framesOf (tab (now (table .entry)) (counts .types) (counts .elements)) (now (frames .entry)) top) (exprAt (nodesOf (now (image .entry))) depth at))
-        (tab (now (table .entry)) (counts .types) (counts .elements))
-        (tab (now (table .exit)) (r .counts .types) (r .counts .elements))
-        (now (stack .entry)) (now (stack .exit)) sp at (stopOf (nodesOf (now (image .entry))) at) (nodeCount (now (image .entry))) (r .code) (r .place) (r .number) (r .a) (r .b) ⌝ }
+        (check (namesOf (now (image .entry))) (framesOf (tabIn (now (table .entry)) (now (notes .entry))) (now (frames .entry)) top) (exprAt (nodesOf (now (image .entry))) depth at))
+        (tabIn (now (table .entry)) (now (notes .entry)))
+        (tabIn (now (table .exit)) (now (notes .exit)))
+        (now (stack .entry)) (now (stack .exit)) sp at (stopOf (nodesOf (now (image .entry))) at) (nodeCount (now (image .entry))) (verdict r (now (notes .exit))) (placeIn (now (notes .exit))) r (firstIn (now (notes .exit))) (secondIn (now (notes .exit))) ⌝ }
+    ensures { λ r. ⌜ Kept (now (notes .entry)) (now (notes .exit)) r ⌝ }
 {
     let node = node_at(image, nodes, at);
     let kind = node.kind;
     match kind {
-        20 => given(literal(node.arg), counts),
-        21 => given(variable(frames, top, node.arg as usize), counts),
+        20 => literal(node.arg),
+        21 => variable(frames, top, node.arg as usize),
         22 => operands(
             image,
             nodes,
             frames,
             top,
             table,
-            counts,
+            notes,
             stack,
             sp,
             at,
             depth - 1,
-            node,
         ),
         23 => pair(
             image,
@@ -99,12 +98,11 @@ pub fn expr(
             frames,
             top,
             table,
-            counts,
+            notes,
             stack,
             sp,
             at,
             depth - 1,
-            node,
         ),
         24 => call(
             image,
@@ -112,12 +110,11 @@ pub fn expr(
             frames,
             top,
             table,
-            counts,
+            notes,
             stack,
             sp,
             at,
             depth - 1,
-            node,
         ),
         25 => operands(
             image,
@@ -125,12 +122,11 @@ pub fn expr(
             frames,
             top,
             table,
-            counts,
+            notes,
             stack,
             sp,
             at,
             depth - 1,
-            node,
         ),
         26 => list(
             image,
@@ -138,12 +134,11 @@ pub fn expr(
             frames,
             top,
             table,
-            counts,
+            notes,
             stack,
             sp,
             at,
             depth - 1,
-            node,
         ),
         27 => dict(
             image,
@@ -151,12 +146,11 @@ pub fn expr(
             frames,
             top,
             table,
-            counts,
+            notes,
             stack,
             sp,
             at,
             depth - 1,
-            node,
         ),
         28..=31 => operands(
             image,
@@ -164,14 +158,13 @@ pub fn expr(
             frames,
             top,
             table,
-            counts,
+            notes,
             stack,
             sp,
             at,
             depth - 1,
-            node,
         ),
-        _ => given(7, counts),
+        _ => 7,
     }
 }
 
@@ -181,27 +174,29 @@ fn child(
     nodes: usize,
     frames: &[[u16; 128]; 8],
     top: usize,
-    table: &mut [u16; 10272],
-    counts: Counts,
+    table: &mut [u16],
+    notes: &mut [u32; 8],
     stack: &mut [u16; 2048],
     sp: usize,
     at: usize,
     depth: usize,
-) -> Value
-    requires { ⌜ Ready (now image) nodes (now frames) top (tab (now table) (counts .types) (counts .elements)) (now stack) sp at (stopOf (nodesOf (now image)) at) ⌝ }
+) -> usize
+    requires { ⌜ Noting (now notes) ⌝ }
+    requires { ⌜ Ready (now image) nodes (now frames) top (tabIn (now table) (now notes)) (now stack) sp at (stopOf (nodesOf (now image)) at) ⌝ }
     requires { ⌜ At (now image) at depth ⌝ }
     ensures { λ r. ⌜ Done (namesOf (now (image .entry)))
-        (check (namesOf (now (image .entry))) (framesOf (tab (now (table .entry)) (counts .types) (counts .elements)) (now (frames .entry)) top) (exprAt (nodesOf (now (image .entry))) depth at))
-        (tab (now (table .entry)) (counts .types) (counts .elements))
-        (tab (now (table .exit)) (r .counts .types) (r .counts .elements))
-        (now (stack .entry)) (now (stack .exit)) sp at (stopOf (nodesOf (now (image .entry))) at) (nodeCount (now (image .entry))) (r .code) (r .place) (r .number) (r .a) (r .b) ⌝ }
+        (check (namesOf (now (image .entry))) (framesOf (tabIn (now (table .entry)) (now (notes .entry))) (now (frames .entry)) top) (exprAt (nodesOf (now (image .entry))) depth at))
+        (tabIn (now (table .entry)) (now (notes .entry)))
+        (tabIn (now (table .exit)) (now (notes .exit)))
+        (now (stack .entry)) (now (stack .exit)) sp at (stopOf (nodesOf (now (image .entry))) at) (nodeCount (now (image .entry))) (verdict r (now (notes .exit))) (placeIn (now (notes .exit))) r (firstIn (now (notes .exit))) (secondIn (now (notes .exit))) ⌝ }
+    ensures { λ r. ⌜ Kept (now (notes .entry)) (now (notes .exit)) r ⌝ }
 {
     let node = node_at(image, nodes, at);
     if node.kind == 20 {
-        return given(literal(node.arg), counts);
+        return literal(node.arg);
     }
     if node.kind == 21 {
-        return given(variable(frames, top, node.arg as usize), counts);
+        return variable(frames, top, node.arg as usize);
     }
     expr(
         image,
@@ -209,7 +204,7 @@ fn child(
         frames,
         top,
         table,
-        counts,
+        notes,
         stack,
         sp,
         at,
@@ -223,38 +218,49 @@ fn values(
     nodes: usize,
     frames: &[[u16; 128]; 8],
     top: usize,
-    table: &mut [u16; 10272],
-    counts: Counts,
+    table: &mut [u16],
+    notes: &mut [u32; 8],
     stack: &mut [u16; 2048],
     sp: usize,
     from: usize,
     n: usize,
     depth: usize,
-) -> Value
-    requires { ⌜ Ready (now image) nodes (now frames) top (tab (now table) (counts .types) (counts .elements)) (now stack) sp from (past (nodesOf (now image)) n from) ⌝ }
+) -> usize
+    requires { ⌜ Noting (now notes) ⌝ }
+    requires { ⌜ Ready (now image) nodes (now frames) top (tabIn (now table) (now notes)) (now stack) sp from (past (nodesOf (now image)) n from) ⌝ }
     requires { ⌜ Row (now image) from n depth ⌝ }
     ensures { λ r. ⌜ Values (namesOf (now (image .entry)))
-        (checks (now (image .entry)) (framesOf (tab (now (table .entry)) (counts .types) (counts .elements)) (now (frames .entry)) top) depth n from)
-        (tab (now (table .entry)) (counts .types) (counts .elements))
-        (tab (now (table .exit)) (r .counts .types) (r .counts .elements))
-        (now (stack .entry)) (now (stack .exit)) sp n from (past (nodesOf (now (image .entry))) n from) (nodeCount (now (image .entry))) (r .code) (r .place) (r .a) (r .b) ⌝ }
+        (checks (now (image .entry)) (framesOf (tabIn (now (table .entry)) (now (notes .entry))) (now (frames .entry)) top) depth n from)
+        (tabIn (now (table .entry)) (now (notes .entry)))
+        (tabIn (now (table .exit)) (now (notes .exit)))
+        (now (stack .entry)) (now (stack .exit)) sp n from (past (nodesOf (now (image .entry))) n from) (nodeCount (now (image .entry))) (verdict r (now (notes .exit))) (placeIn (now (notes .exit))) (firstIn (now (notes .exit))) (secondIn (now (notes .exit))) ⌝ }
+    ensures { λ r. ⌜ Kept (now (notes .entry)) (now (notes .exit)) r ⌝ }
 {
-    let mut c = counts;
     let mut at = from;
     let mut left = n;
     let mut up = sp;
     while 0 < left {
-        let r = child(image, nodes, frames, top, table, c, stack, up, at, depth);
-        if r.code != 0 {
+        let r = child(
+            image,
+            nodes,
+            frames,
+            top,
+            table,
+            notes,
+            stack,
+            up,
+            at,
+            depth,
+        );
+        if r == 65535 {
             return r;
         }
-        push(stack, up, r.number);
-        c = r.counts;
+        push(stack, up, r);
         up += 1;
         at = stop_of(image, nodes, at);
         left -= 1;
     }
-    given(0, c)
+    0
 }
 
 // A node whose children are all checked before its rule looks at them.
@@ -263,23 +269,26 @@ fn operands(
     nodes: usize,
     frames: &[[u16; 128]; 8],
     top: usize,
-    table: &mut [u16; 10272],
-    counts: Counts,
+    table: &mut [u16],
+    notes: &mut [u32; 8],
     stack: &mut [u16; 2048],
     sp: usize,
     at: usize,
     depth: usize,
-    node: Node,
-) -> Value
-    requires { ⌜ Ready (now image) nodes (now frames) top (tab (now table) (counts .types) (counts .elements)) (now stack) sp at (stopOf (nodesOf (now image)) at) ⌝ }
-    requires { ⌜ Inner (now image) at depth (nodeMeans node) ⌝ }
+) -> usize
+    requires { ⌜ Noting (now notes) ⌝ }
+    requires { ⌜ Ready (now image) nodes (now frames) top (tabIn (now table) (now notes)) (now stack) sp at (stopOf (nodesOf (now image)) at) ⌝ }
+    requires { ⌜ Inner (now image) at depth (nodeOf (nodesOf (now image)) at) ⌝ }
     requires { ⌜ Operand (now image) at depth ⌝ }
+    requires { ⌜ (nodeOf (nodesOf (now image)) at .kind ≡ 23 → ⊥) ⌝ }
     ensures { λ r. ⌜ Done (namesOf (now (image .entry)))
-        (checkForm (namesOf (now (image .entry))) (framesOf (tab (now (table .entry)) (counts .types) (counts .elements)) (now (frames .entry)) top) at (formAt (nodesOf (now (image .entry))) (λ j. exprAt (nodesOf (now (image .entry))) depth j) at))
-        (tab (now (table .entry)) (counts .types) (counts .elements))
-        (tab (now (table .exit)) (r .counts .types) (r .counts .elements))
-        (now (stack .entry)) (now (stack .exit)) sp at (stopOf (nodesOf (now (image .entry))) at) (nodeCount (now (image .entry))) (r .code) (r .place) (r .number) (r .a) (r .b) ⌝ }
+        (checkForm (namesOf (now (image .entry))) (framesOf (tabIn (now (table .entry)) (now (notes .entry))) (now (frames .entry)) top) at (formAt (nodesOf (now (image .entry))) (λ j. exprAt (nodesOf (now (image .entry))) depth j) at))
+        (tabIn (now (table .entry)) (now (notes .entry)))
+        (tabIn (now (table .exit)) (now (notes .exit)))
+        (now (stack .entry)) (now (stack .exit)) sp at (stopOf (nodesOf (now (image .entry))) at) (nodeCount (now (image .entry))) (verdict r (now (notes .exit))) (placeIn (now (notes .exit))) r (firstIn (now (notes .exit))) (secondIn (now (notes .exit))) ⌝ }
+    ensures { λ r. ⌜ Kept (now (notes .entry)) (now (notes .exit)) r ⌝ }
 {
+    let node = node_at(image, nodes, at);
     let n = node.children as usize;
     let r = values(
         image,
@@ -287,17 +296,17 @@ fn operands(
         frames,
         top,
         table,
-        counts,
+        notes,
         stack,
         sp,
         at + 1,
         n,
         depth,
     );
-    if r.code != 0 {
+    if r == 65535 {
         return r;
     }
-    decide(image, nodes, table, r.counts, stack, sp, at, node)
+    decide(image, nodes, table, notes, stack, sp, at)
 }
 
 // A Binary: its operands without the turns of a loop.
@@ -306,23 +315,25 @@ fn pair(
     nodes: usize,
     frames: &[[u16; 128]; 8],
     top: usize,
-    table: &mut [u16; 10272],
-    counts: Counts,
+    table: &mut [u16],
+    notes: &mut [u32; 8],
     stack: &mut [u16; 2048],
     sp: usize,
     at: usize,
     depth: usize,
-    node: Node,
-) -> Value
-    requires { ⌜ Ready (now image) nodes (now frames) top (tab (now table) (counts .types) (counts .elements)) (now stack) sp at (stopOf (nodesOf (now image)) at) ⌝ }
-    requires { ⌜ Inner (now image) at depth (nodeMeans node) ⌝ }
-    requires { ⌜ node .kind ≡ 23 ⌝ }
+) -> usize
+    requires { ⌜ Noting (now notes) ⌝ }
+    requires { ⌜ Ready (now image) nodes (now frames) top (tabIn (now table) (now notes)) (now stack) sp at (stopOf (nodesOf (now image)) at) ⌝ }
+    requires { ⌜ Inner (now image) at depth (nodeOf (nodesOf (now image)) at) ⌝ }
+    requires { ⌜ nodeOf (nodesOf (now image)) at .kind ≡ 23 ⌝ }
     ensures { λ r. ⌜ Done (namesOf (now (image .entry)))
-        (checkForm (namesOf (now (image .entry))) (framesOf (tab (now (table .entry)) (counts .types) (counts .elements)) (now (frames .entry)) top) at (formAt (nodesOf (now (image .entry))) (λ j. exprAt (nodesOf (now (image .entry))) depth j) at))
-        (tab (now (table .entry)) (counts .types) (counts .elements))
-        (tab (now (table .exit)) (r .counts .types) (r .counts .elements))
-        (now (stack .entry)) (now (stack .exit)) sp at (stopOf (nodesOf (now (image .entry))) at) (nodeCount (now (image .entry))) (r .code) (r .place) (r .number) (r .a) (r .b) ⌝ }
+        (checkForm (namesOf (now (image .entry))) (framesOf (tabIn (now (table .entry)) (now (notes .entry))) (now (frames .entry)) top) at (formAt (nodesOf (now (image .entry))) (λ j. exprAt (nodesOf (now (image .entry))) depth j) at))
+        (tabIn (now (table .entry)) (now (notes .entry)))
+        (tabIn (now (table .exit)) (now (notes .exit)))
+        (now (stack .entry)) (now (stack .exit)) sp at (stopOf (nodesOf (now (image .entry))) at) (nodeCount (now (image .entry))) (verdict r (now (notes .exit))) (placeIn (now (notes .exit))) r (firstIn (now (notes .exit))) (secondIn (now (notes .exit))) ⌝ }
+    ensures { λ r. ⌜ Kept (now (notes .entry)) (now (notes .exit)) r ⌝ }
 {
+    let node = node_at(image, nodes, at);
     let left = at + 1;
     let l = child(
         image,
@@ -330,16 +341,16 @@ fn pair(
         frames,
         top,
         table,
-        counts,
+        notes,
         stack,
         sp,
         left,
         depth,
     );
-    if l.code != 0 {
+    if l == 65535 {
         return l;
     }
-    push(stack, sp, l.number);
+    push(stack, sp, l);
     let right = stop_of(image, nodes, left);
     let r = child(
         image,
@@ -347,17 +358,16 @@ fn pair(
         frames,
         top,
         table,
-        l.counts,
+        notes,
         stack,
         sp + 1,
         right,
         depth,
     );
-    if r.code != 0 {
+    if r == 65535 {
         return r;
     }
-    push(stack, sp + 1, r.number);
-    operated(image, nodes, table, r.counts, stack, sp, at, node)
+    operated(table, notes, l, r, at, node.arg)
 }
 
 // A List: "List stops at the first mismatch".
@@ -366,24 +376,25 @@ fn list(
     nodes: usize,
     frames: &[[u16; 128]; 8],
     top: usize,
-    table: &mut [u16; 10272],
-    counts: Counts,
+    table: &mut [u16],
+    notes: &mut [u32; 8],
     stack: &mut [u16; 2048],
     sp: usize,
     at: usize,
     depth: usize,
-    node: Node,
-) -> Value
-    requires { ⌜ Ready (now image) nodes (now frames) top (tab (now table) (counts .types) (counts .elements)) (now stack) sp at (stopOf (nodesOf (now image)) at) ⌝ }
-    requires { ⌜ Inner (now image) at depth (nodeMeans node) ⌝ }
-    requires { ⌜ node .kind ≡ 26 ⌝ }
+) -> usize
+    requires { ⌜ Noting (now notes) ⌝ }
+    requires { ⌜ Ready (now image) nodes (now frames) top (tabIn (now table) (now notes)) (now stack) sp at (stopOf (nodesOf (now image)) at) ⌝ }
+    requires { ⌜ Inner (now image) at depth (nodeOf (nodesOf (now image)) at) ⌝ }
+    requires { ⌜ nodeOf (nodesOf (now image)) at .kind ≡ 26 ⌝ }
     ensures { λ r. ⌜ Done (namesOf (now (image .entry)))
-        (checkForm (namesOf (now (image .entry))) (framesOf (tab (now (table .entry)) (counts .types) (counts .elements)) (now (frames .entry)) top) at (formAt (nodesOf (now (image .entry))) (λ j. exprAt (nodesOf (now (image .entry))) depth j) at))
-        (tab (now (table .entry)) (counts .types) (counts .elements))
-        (tab (now (table .exit)) (r .counts .types) (r .counts .elements))
-        (now (stack .entry)) (now (stack .exit)) sp at (stopOf (nodesOf (now (image .entry))) at) (nodeCount (now (image .entry))) (r .code) (r .place) (r .number) (r .a) (r .b) ⌝ }
+        (checkForm (namesOf (now (image .entry))) (framesOf (tabIn (now (table .entry)) (now (notes .entry))) (now (frames .entry)) top) at (formAt (nodesOf (now (image .entry))) (λ j. exprAt (nodesOf (now (image .entry))) depth j) at))
+        (tabIn (now (table .entry)) (now (notes .entry)))
+        (tabIn (now (table .exit)) (now (notes .exit)))
+        (now (stack .entry)) (now (stack .exit)) sp at (stopOf (nodesOf (now (image .entry))) at) (nodeCount (now (image .entry))) (verdict r (now (notes .exit))) (placeIn (now (notes .exit))) r (firstIn (now (notes .exit))) (secondIn (now (notes .exit))) ⌝ }
+    ensures { λ r. ⌜ Kept (now (notes .entry)) (now (notes .exit)) r ⌝ }
 {
-    let mut c = counts;
+    let node = node_at(image, nodes, at);
     let mut from = at + 1;
     let mut left = node.children as usize;
     let mut element: usize = 0;
@@ -394,26 +405,25 @@ fn list(
             frames,
             top,
             table,
-            c,
+            notes,
             stack,
             sp,
             from,
             1,
             depth,
         );
-        if r.code != 0 {
+        if r == 65535 {
             return r;
         }
-        c = r.counts;
         let step = list_step(element, number_at(stack, sp));
         element = step.number;
         if step.stop {
-            return list_of(table, c, element);
+            return list_of(table, notes, element);
         }
         from = stop_of(image, nodes, from);
         left -= 1;
     }
-    list_of(table, c, element)
+    list_of(table, notes, element)
 }
 
 // A Dict: "Dict stops only when key and value are both Unknown after a pair".
@@ -422,24 +432,25 @@ fn dict(
     nodes: usize,
     frames: &[[u16; 128]; 8],
     top: usize,
-    table: &mut [u16; 10272],
-    counts: Counts,
+    table: &mut [u16],
+    notes: &mut [u32; 8],
     stack: &mut [u16; 2048],
     sp: usize,
     at: usize,
     depth: usize,
-    node: Node,
-) -> Value
-    requires { ⌜ Ready (now image) nodes (now frames) top (tab (now table) (counts .types) (counts .elements)) (now stack) sp at (stopOf (nodesOf (now image)) at) ⌝ }
-    requires { ⌜ Inner (now image) at depth (nodeMeans node) ⌝ }
-    requires { ⌜ node .kind ≡ 27 ⌝ }
+) -> usize
+    requires { ⌜ Noting (now notes) ⌝ }
+    requires { ⌜ Ready (now image) nodes (now frames) top (tabIn (now table) (now notes)) (now stack) sp at (stopOf (nodesOf (now image)) at) ⌝ }
+    requires { ⌜ Inner (now image) at depth (nodeOf (nodesOf (now image)) at) ⌝ }
+    requires { ⌜ nodeOf (nodesOf (now image)) at .kind ≡ 27 ⌝ }
     ensures { λ r. ⌜ Done (namesOf (now (image .entry)))
-        (checkForm (namesOf (now (image .entry))) (framesOf (tab (now (table .entry)) (counts .types) (counts .elements)) (now (frames .entry)) top) at (formAt (nodesOf (now (image .entry))) (λ j. exprAt (nodesOf (now (image .entry))) depth j) at))
-        (tab (now (table .entry)) (counts .types) (counts .elements))
-        (tab (now (table .exit)) (r .counts .types) (r .counts .elements))
-        (now (stack .entry)) (now (stack .exit)) sp at (stopOf (nodesOf (now (image .entry))) at) (nodeCount (now (image .entry))) (r .code) (r .place) (r .number) (r .a) (r .b) ⌝ }
+        (checkForm (namesOf (now (image .entry))) (framesOf (tabIn (now (table .entry)) (now (notes .entry))) (now (frames .entry)) top) at (formAt (nodesOf (now (image .entry))) (λ j. exprAt (nodesOf (now (image .entry))) depth j) at))
+        (tabIn (now (table .entry)) (now (notes .entry)))
+        (tabIn (now (table .exit)) (now (notes .exit)))
+        (now (stack .entry)) (now (stack .exit)) sp at (stopOf (nodesOf (now (image .entry))) at) (nodeCount (now (image .entry))) (verdict r (now (notes .exit))) (placeIn (now (notes .exit))) r (firstIn (now (notes .exit))) (secondIn (now (notes .exit))) ⌝ }
+    ensures { λ r. ⌜ Kept (now (notes .entry)) (now (notes .exit)) r ⌝ }
 {
-    let mut c = counts;
+    let node = node_at(image, nodes, at);
     let mut from = at + 1;
     let mut left = node.children as usize;
     let mut key: usize = 0;
@@ -451,27 +462,26 @@ fn dict(
             frames,
             top,
             table,
-            c,
+            notes,
             stack,
             sp,
             from,
             2,
             depth,
         );
-        if r.code != 0 {
+        if r == 65535 {
             return r;
         }
-        c = r.counts;
         let pair = dict_step(key, value, number_at(stack, sp), number_at(stack, sp + 1));
         key = pair.key;
         value = pair.value;
         if pair.stop {
-            return dict_of(table, c, key, value);
+            return dict_of(table, notes, key, value);
         }
         from = stop_of(image, nodes, stop_of(image, nodes, from));
         left -= 2;
     }
-    dict_of(table, c, key, value)
+    dict_of(table, notes, key, value)
 }
 
 // A Call: a Variable that is called goes by its name's role and is not looked up; any other callee is checked first.
@@ -480,23 +490,25 @@ fn call(
     nodes: usize,
     frames: &[[u16; 128]; 8],
     top: usize,
-    table: &mut [u16; 10272],
-    counts: Counts,
+    table: &mut [u16],
+    notes: &mut [u32; 8],
     stack: &mut [u16; 2048],
     sp: usize,
     at: usize,
     depth: usize,
-    node: Node,
-) -> Value
-    requires { ⌜ Ready (now image) nodes (now frames) top (tab (now table) (counts .types) (counts .elements)) (now stack) sp at (stopOf (nodesOf (now image)) at) ⌝ }
-    requires { ⌜ Inner (now image) at depth (nodeMeans node) ⌝ }
-    requires { ⌜ node .kind ≡ 24 ⌝ }
+) -> usize
+    requires { ⌜ Noting (now notes) ⌝ }
+    requires { ⌜ Ready (now image) nodes (now frames) top (tabIn (now table) (now notes)) (now stack) sp at (stopOf (nodesOf (now image)) at) ⌝ }
+    requires { ⌜ Inner (now image) at depth (nodeOf (nodesOf (now image)) at) ⌝ }
+    requires { ⌜ nodeOf (nodesOf (now image)) at .kind ≡ 24 ⌝ }
     ensures { λ r. ⌜ Done (namesOf (now (image .entry)))
-        (checkForm (namesOf (now (image .entry))) (framesOf (tab (now (table .entry)) (counts .types) (counts .elements)) (now (frames .entry)) top) at (formAt (nodesOf (now (image .entry))) (λ j. exprAt (nodesOf (now (image .entry))) depth j) at))
-        (tab (now (table .entry)) (counts .types) (counts .elements))
-        (tab (now (table .exit)) (r .counts .types) (r .counts .elements))
-        (now (stack .entry)) (now (stack .exit)) sp at (stopOf (nodesOf (now (image .entry))) at) (nodeCount (now (image .entry))) (r .code) (r .place) (r .number) (r .a) (r .b) ⌝ }
+        (checkForm (namesOf (now (image .entry))) (framesOf (tabIn (now (table .entry)) (now (notes .entry))) (now (frames .entry)) top) at (formAt (nodesOf (now (image .entry))) (λ j. exprAt (nodesOf (now (image .entry))) depth j) at))
+        (tabIn (now (table .entry)) (now (notes .entry)))
+        (tabIn (now (table .exit)) (now (notes .exit)))
+        (now (stack .entry)) (now (stack .exit)) sp at (stopOf (nodesOf (now (image .entry))) at) (nodeCount (now (image .entry))) (verdict r (now (notes .exit))) (placeIn (now (notes .exit))) r (firstIn (now (notes .exit))) (secondIn (now (notes .exit))) ⌝ }
+    ensures { λ r. ⌜ Kept (now (notes .entry)) (now (notes .exit)) r ⌝ }
 {
+    let node = node_at(image, nodes, at);
     let callee = node_at(image, nodes, at + 1);
     if callee.kind != 21 {
         return operands(
@@ -505,26 +517,18 @@ fn call(
             frames,
             top,
             table,
-            counts,
+            notes,
             stack,
             sp,
             at,
             depth,
-            node,
         );
     }
     let name = callee.arg as usize;
     let count = node.children - 1;
     let choice = plan(image, name, count);
     if choice.code != 0 {
-        return Value {
-            code: choice.code,
-            place: at,
-            number: 0,
-            a: name,
-            b: count as usize,
-            counts,
-        };
+        return refused(notes, choice.code, at, name, count as usize);
     }
     arguments(
         image,
@@ -532,7 +536,7 @@ fn call(
         frames,
         top,
         table,
-        counts,
+        notes,
         stack,
         sp,
         at,
@@ -549,8 +553,8 @@ fn arguments(
     nodes: usize,
     frames: &[[u16; 128]; 8],
     top: usize,
-    table: &mut [u16; 10272],
-    counts: Counts,
+    table: &mut [u16],
+    notes: &mut [u32; 8],
     stack: &mut [u16; 2048],
     sp: usize,
     at: usize,
@@ -558,15 +562,17 @@ fn arguments(
     n: usize,
     rule: u32,
     depth: usize,
-) -> Value
-    requires { ⌜ Ready (now image) nodes (now frames) top (tab (now table) (counts .types) (counts .elements)) (now stack) sp (from - 1) (past (nodesOf (now image)) n from) ⌝ }
+) -> usize
+    requires { ⌜ Noting (now notes) ⌝ }
+    requires { ⌜ Ready (now image) nodes (now frames) top (tabIn (now table) (now notes)) (now stack) sp (from - 1) (past (nodesOf (now image)) n from) ⌝ }
     requires { ⌜ Row (now image) from n depth ⌝ }
     requires { ⌜ Enough (now image) at rule n ⌝ }
     ensures { λ r. ⌜ Done (namesOf (now (image .entry)))
-        (numberedRule at rule (checks (now (image .entry)) (framesOf (tab (now (table .entry)) (counts .types) (counts .elements)) (now (frames .entry)) top) depth n from))
-        (tab (now (table .entry)) (counts .types) (counts .elements))
-        (tab (now (table .exit)) (r .counts .types) (r .counts .elements))
-        (now (stack .entry)) (now (stack .exit)) sp (from - 1) (past (nodesOf (now (image .entry))) n from) (nodeCount (now (image .entry))) (r .code) (r .place) (r .number) (r .a) (r .b) ⌝ }
+        (numberedRule at rule (checks (now (image .entry)) (framesOf (tabIn (now (table .entry)) (now (notes .entry))) (now (frames .entry)) top) depth n from))
+        (tabIn (now (table .entry)) (now (notes .entry)))
+        (tabIn (now (table .exit)) (now (notes .exit)))
+        (now (stack .entry)) (now (stack .exit)) sp (from - 1) (past (nodesOf (now (image .entry))) n from) (nodeCount (now (image .entry))) (verdict r (now (notes .exit))) (placeIn (now (notes .exit))) r (firstIn (now (notes .exit))) (secondIn (now (notes .exit))) ⌝ }
+    ensures { λ r. ⌜ Kept (now (notes .entry)) (now (notes .exit)) r ⌝ }
 {
     match rule {
         8 => bounds(
@@ -575,7 +581,7 @@ fn arguments(
             frames,
             top,
             table,
-            counts,
+            notes,
             stack,
             sp,
             at,
@@ -589,7 +595,7 @@ fn arguments(
             frames,
             top,
             table,
-            counts,
+            notes,
             stack,
             sp,
             from,
@@ -605,17 +611,17 @@ fn arguments(
                 frames,
                 top,
                 table,
-                counts,
+                notes,
                 stack,
                 sp,
                 from,
                 look,
                 depth,
             );
-            if r.code != 0 {
+            if r == 65535 {
                 return r;
             }
-            argued(table, r.counts, stack, sp, rule, look, at)
+            argued(table, notes, stack, sp, rule, look, at)
         }
     }
 }
@@ -626,25 +632,26 @@ fn bounds(
     nodes: usize,
     frames: &[[u16; 128]; 8],
     top: usize,
-    table: &mut [u16; 10272],
-    counts: Counts,
+    table: &mut [u16],
+    notes: &mut [u32; 8],
     stack: &mut [u16; 2048],
     sp: usize,
     at: usize,
     from: usize,
     n: usize,
     depth: usize,
-) -> Value
-    requires { ⌜ Ready (now image) nodes (now frames) top (tab (now table) (counts .types) (counts .elements)) (now stack) sp (from - 1) (past (nodesOf (now image)) n from) ⌝ }
+) -> usize
+    requires { ⌜ Noting (now notes) ⌝ }
+    requires { ⌜ Ready (now image) nodes (now frames) top (tabIn (now table) (now notes)) (now stack) sp (from - 1) (past (nodesOf (now image)) n from) ⌝ }
     requires { ⌜ Row (now image) from n depth ⌝ }
     requires { ⌜ at < nodeCount (now image) ⌝ }
     ensures { λ r. ⌜ Done (namesOf (now (image .entry)))
-        (rangeRule at (checks (now (image .entry)) (framesOf (tab (now (table .entry)) (counts .types) (counts .elements)) (now (frames .entry)) top) depth n from))
-        (tab (now (table .entry)) (counts .types) (counts .elements))
-        (tab (now (table .exit)) (r .counts .types) (r .counts .elements))
-        (now (stack .entry)) (now (stack .exit)) sp (from - 1) (past (nodesOf (now (image .entry))) n from) (nodeCount (now (image .entry))) (r .code) (r .place) (r .number) (r .a) (r .b) ⌝ }
+        (rangeRule at (checks (now (image .entry)) (framesOf (tabIn (now (table .entry)) (now (notes .entry))) (now (frames .entry)) top) depth n from))
+        (tabIn (now (table .entry)) (now (notes .entry)))
+        (tabIn (now (table .exit)) (now (notes .exit)))
+        (now (stack .entry)) (now (stack .exit)) sp (from - 1) (past (nodesOf (now (image .entry))) n from) (nodeCount (now (image .entry))) (verdict r (now (notes .exit))) (placeIn (now (notes .exit))) r (firstIn (now (notes .exit))) (secondIn (now (notes .exit))) ⌝ }
+    ensures { λ r. ⌜ Kept (now (notes .entry)) (now (notes .exit)) r ⌝ }
 {
-    let mut c = counts;
     let mut next = from;
     let mut left = n;
     while 0 < left {
@@ -654,25 +661,24 @@ fn bounds(
             frames,
             top,
             table,
-            c,
+            notes,
             stack,
             sp,
             next,
             1,
             depth,
         );
-        if r.code != 0 {
+        if r == 65535 {
             return r;
         }
-        c = r.counts;
         let d = bound(number_at(stack, sp));
         if d.code != 0 {
-            return decided(d, at, c);
+            return decided(notes, d, at);
         }
         next = stop_of(image, nodes, next);
         left -= 1;
     }
-    given(6, c)
+    6
 }
 
 // 42 for `map`, 44 for `filter`.
@@ -691,23 +697,25 @@ fn streams(
     nodes: usize,
     frames: &[[u16; 128]; 8],
     top: usize,
-    table: &mut [u16; 10272],
-    counts: Counts,
+    table: &mut [u16],
+    notes: &mut [u32; 8],
     stack: &mut [u16; 2048],
     sp: usize,
     from: usize,
     n: usize,
     filters: bool,
     depth: usize,
-) -> Value
-    requires { ⌜ Ready (now image) nodes (now frames) top (tab (now table) (counts .types) (counts .elements)) (now stack) sp (from - 1) (past (nodesOf (now image)) n from) ⌝ }
+) -> usize
+    requires { ⌜ Noting (now notes) ⌝ }
+    requires { ⌜ Ready (now image) nodes (now frames) top (tabIn (now table) (now notes)) (now stack) sp (from - 1) (past (nodesOf (now image)) n from) ⌝ }
     requires { ⌜ Row (now image) from n depth ⌝ }
     requires { ⌜ 1 < n ⌝ }
     ensures { λ r. ⌜ Done (namesOf (now (image .entry)))
-        (streamOf filters (checks (now (image .entry)) (framesOf (tab (now (table .entry)) (counts .types) (counts .elements)) (now (frames .entry)) top) depth n from))
-        (tab (now (table .entry)) (counts .types) (counts .elements))
-        (tab (now (table .exit)) (r .counts .types) (r .counts .elements))
-        (now (stack .entry)) (now (stack .exit)) sp (from - 1) (past (nodesOf (now (image .entry))) n from) (nodeCount (now (image .entry))) (r .code) (r .place) (r .number) (r .a) (r .b) ⌝ }
+        (streamOf filters (checks (now (image .entry)) (framesOf (tabIn (now (table .entry)) (now (notes .entry))) (now (frames .entry)) top) depth n from))
+        (tabIn (now (table .entry)) (now (notes .entry)))
+        (tabIn (now (table .exit)) (now (notes .exit)))
+        (now (stack .entry)) (now (stack .exit)) sp (from - 1) (past (nodesOf (now (image .entry))) n from) (nodeCount (now (image .entry))) (verdict r (now (notes .exit))) (placeIn (now (notes .exit))) r (firstIn (now (notes .exit))) (secondIn (now (notes .exit))) ⌝ }
+    ensures { λ r. ⌜ Kept (now (notes .entry)) (now (notes .exit)) r ⌝ }
 {
     let r = values(
         image,
@@ -715,19 +723,19 @@ fn streams(
         frames,
         top,
         table,
-        counts,
+        notes,
         stack,
         sp,
         from,
         1, // the first alone
         depth,
     );
-    if r.code != 0 {
+    if r == 65535 {
         return r;
     }
     let d = callable(number_at(stack, sp), first_code(filters));
     if d.code != 0 {
-        return decided(d, from, r.counts);
+        return decided(notes, d, from);
     }
     let second = stop_of(image, nodes, from);
     let s = values(
@@ -736,16 +744,17 @@ fn streams(
         frames,
         top,
         table,
-        r.counts,
+        notes,
         stack,
         sp,
         second,
         1,
         depth,
     );
-    if s.code != 0 {
+    if s == 65535 {
         return s;
     }
-    let f = stream(table, s.counts, filters, number_at(stack, sp));
-    decided(f.decision, second, f.counts)
+    let f = stream(table, counts_of(notes), filters, number_at(stack, sp));
+    keep(notes, f.counts);
+    decided(notes, f.decision, second)
 }

@@ -9,7 +9,8 @@ use Rattle.meaning.specs.Rules.{described}
 use Rattle.meaning.specs.Types.{text}
 use Rattle.types.specs.Table.{Tab, denote}
 use Rattle.rules.specs.Outcome.{typesNamed, taken, pieces}
-use Rattle.message.proofs.Telling.{Form, gaps}
+use Rattle.message.specs.Pieces.{gaps}
+use Rattle.message.proofs.Telling.{Form}
 
 module _ (bs : List ℕ) (t : Tab) (a b : ℕ) where
   pub says-20 : Form bs t 20 a b ([])

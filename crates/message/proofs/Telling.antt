@@ -4,15 +4,13 @@ use mathlib.Core.List.{List, [], _∷_, _++_, map}
 use Prim.Native.Nat.{ℕ, zero, suc, _+_, _<_, _≤_, max}
 use native.Mathlib.Omega.{arith}
 use native.Mathlib.Decide.{ℕ-discrete}
-use borrow.Author.Tests.{eq-eqb, ne-eqb, leb-true}
+use borrow.Author.Tests.{eq-eqb, ne-eqb, le-leb, leb-true}
 use mathlib.Core.Bool.{Bool, true, false}
 use Prim.Native.String.{String}
 use lib.Dec.{eqb, leb}
-use lib.ListN.{length, take, drop, length-append}
+use lib.ListN.{length, length-map}
 use Rattle.meaning.specs.Base.{_and_, if_then_else_, bytes, choose, decimal}
 use Rattle.meaning.proofs.Choices.{and-left, and-right}
-use Rattle.words.specs.Words.{putAt}
-use Rattle.words.proofs.Laws.{put-front, put-nil, put-part}
 use Rattle.meaning.specs.Answer.{fitting, overlaid}
 use Rattle.meaning.specs.Image.{namesOf}
 use Rattle.meaning.specs.Message.{Piece as Named, refusal, said, fill, template, message}
@@ -20,7 +18,7 @@ use Rattle.meaning.specs.Types.{text}
 use Rattle.types.specs.Table.{Tab, denote, Wf}
 use Rattle.rules.specs.Outcome.{typesNamed, pieces}
 use Rattle.message.specs.Texts.{typeAt, Known, AllKnown}
-use Rattle.message.specs.Pieces.{one, meant, Stands, Says, nth, Ready, noTypes, oneType, twoTypes, after, filled, put-in, Spoken, Given, GivenAll}
+use Rattle.message.specs.Pieces.{one, meant, Stands, Says, nth, Ready, noTypes, oneType, twoTypes, after, filled, gaps, put-in, Spoken, Given, GivenAll}
 use Rattle.message.specs.Told.{told, Tells, Chosen}
 use Rattle.message.specs.declared.Piece.{Piece}
 use Rattle.message.specs.declared.Piece.the-variants.{Nothing, OfType, OfNumber}
@@ -33,10 +31,6 @@ unfolding message
 any-node code n m ps = refl
 
 -- ---- a format string with as many gaps as there are pieces
-
-unfoldable pub gaps : List ℕ → ℕ
-gaps [] = 0
-gaps (c ∷ cs) = if eqb c 95 then gaps cs + 1 else gaps cs
 
 pub fill-is : (T : List ℕ) (k : ℕ) (ps : List Named) (f : ℕ → List ℕ) → gaps T ≡ length ps → Spoken f k (map said ps) → fill T ps ≡ filled T k f
 unfolding gaps fill filled Spoken one after if_then_else_
@@ -68,24 +62,16 @@ pub chosen : {bs : List ℕ} {t : Tab} {code a b : ℕ} {ps : Pieces} {xs : List
 unfolding put-in
 chosen {bs} {t} {code} {a} {b} {ps} {xs} f g = record {
   ready = g .ready;
+  many = f .many ∙ sym (length-map (f .names) said) ∙ ap length (f .texts) ∙ sym (g .many);
   says = f .says ∙ fill-is (bytes (template code)) 0 (f .names) _ (f .many) (rw (f .texts) (g .says));
 }
 
 -- for a number that is no code
 pub chosen-none : {bs : List ℕ} {t : Tab} {code a b : ℕ} {ps : Pieces} → template code ≡ "" → Given bs (t .cells) ps [] → Chosen bs t code a b ps
-unfolding put-in message fill filled bytes
-chosen-none e g = record { ready = g .ready; says = rw e }
+unfolding put-in message fill filled bytes gaps
+chosen-none e g = record { ready = g .ready; many = rw e (sym (g .many)); says = rw e }
 
--- ---- the buffer for the format string
-
-pub format-fits : (d e : List ℕ) (code len : ℕ) → e ≡ putAt d 0 (bytes (template code)) → len ≡ length (bytes (template code)) → 0 + len ≤ length e
-format-fits d e code len w p =
-    let s = bytes (template code) in
-    let long : length e ≡ length (s ++ drop (length s) d) = ap length (w ∙ put-front d s) in
-    omega (arith, length-append s (drop (length s) d))
-
-pub format-is : (d e : List ℕ) (code len : ℕ) → e ≡ putAt d 0 (bytes (template code)) → len ≡ length (bytes (template code)) → take len (drop 0 e) ≡ bytes (template code)
-format-is d e code len w p = rw (w, p) (put-part d 0 (bytes (template code)) (omega arith))
+-- ---- a number that is no code has no format string
 
 -- all rows have keys from n on, or up to n
 unfoldable from : ℕ → List (ℕ × String) → Bool
@@ -118,9 +104,10 @@ pub template-high : (code : ℕ) → 50 < code → template code ≡ ""
 unfolding template upto _and_
 template-high code h = choose-high code 50 _ h refl
 
-pub no-format : (d : List ℕ) (code : ℕ) → template code ≡ "" → (d ≡ putAt d 0 (bytes (template code))) × (0 ≡ length (bytes (template code)))
-unfolding bytes
-no-format d code e = rw e (sym (put-nil d 0), refl)
+pub no-format : (bs cs d : List ℕ) (ps : Pieces) (code : ℕ) → template code ≡ ""
+    → (0 ≡ length (fitting (length d) (put-in bs cs ps (bytes (template code))))) × (d ≡ overlaid (fitting (length d) (put-in bs cs ps (bytes (template code)))) d)
+unfolding bytes put-in filled fitting overlaid if_then_else_
+no-format bs cs d ps code e = rw (e, le-leb 0 (length d) (omega arith)) (refl, refl)
 
 -- what is delivered is what is told
 pub delivered : (bs d e : List ℕ) (t : Tab) (code a b r : ℕ) (ps : Pieces) → Chosen bs t code a b ps
@@ -145,16 +132,16 @@ none-known cs = record { most = omega arith; each = λ i h. absurd (omega arith)
 -- all numbers up to one of the table
 all-known : {t : Tab} (w : Wf t) (i : ℕ) → i < t.n → AllKnown (t .cells) (i + 1)
 all-known {t} w i h = record {
-  most = omega (arith, w .room);
+  most = omega (arith, w .room, w .most);
   each = λ j l. record { table = t; cells-are = refl; wf = w; below = omega arith };
 }
 
 module _ {t : Tab} {code a b : ℕ} (k : Tells t code a b) where
   pub first-below : typesNamed code ≡ 1 → a < 2056
-  first-below h = omega (arith, k .first (omega arith), k .wf .room)
+  first-below h = omega (arith, k .first (omega arith), k .wf .room, k .wf .most)
 
   pub both-below : typesNamed code ≡ 2 → (a < 2056) × (b < 2056)
-  both-below e = (omega (arith, k .first (omega arith), k .wf .room), omega (arith, k .second (omega arith), k .wf .room))
+  both-below e = (omega (arith, k .first (omega arith), k .wf .room, k .wf .most), omega (arith, k .second (omega arith), k .wf .room, k .wf .most))
 
   stands-one : (bs : List ℕ) (j : ℕ) → Stands bs (a + 1) (nth (oneType a) j)
   unfolding Stands nth
@@ -166,6 +153,7 @@ module _ {t : Tab} {code a b : ℕ} (k : Tells t code a b) where
   unfolding Spoken meant nth
   one-given bs h e = rw e (record {
     ready = record { each = stands-one bs; known = all-known (k .wf) a (k .first (omega arith)) };
+    many = refl;
     says = (ap text (type-is t (t .cells) refl a (k .first (omega arith))), tt);
   })
 
@@ -182,12 +170,13 @@ module _ {t : Tab} {code a b : ℕ} (k : Tells t code a b) where
       let second = k .second (omega arith) in
       rw e (record {
         ready = record { each = stands-two bs; known = all-known (k .wf) (max a b) (omega arith) };
+        many = refl;
         says = (ap text (type-is t (t .cells) refl a first), (ap text (type-is t (t .cells) refl b second), tt));
       })
 
 -- pieces that name no type
-module _ {bs x y z : List ℕ} {p q r : Piece} {ps : Pieces} (e : ps ≡ noTypes p q r) (u : Says bs x p) (v : Says bs y q) (w : Says bs z r) where
-  stands-all : (j : ℕ) → Stands bs 0 (nth (noTypes p q r) j)
+module _ {bs x y z : List ℕ} {m : ℕ} {p q r : Piece} {ps : Pieces} (e : ps ≡ noTypes m p q r) (u : Says bs x p) (v : Says bs y q) (w : Says bs z r) where
+  stands-all : (j : ℕ) → Stands bs 0 (nth (noTypes m p q r) j)
   unfolding nth
   stands-all zero = u .stands 0
   stands-all (suc zero) = v .stands 0
@@ -196,21 +185,21 @@ module _ {bs x y z : List ℕ} {p q r : Piece} {ps : Pieces} (e : ps ≡ noTypes
   all-ready : (cs : List ℕ) → Ready bs cs ps
   all-ready cs = rw e (record { each = stands-all; known = none-known cs })
 
-  pub given-three : GivenAll bs ps (x ∷ y ∷ z ∷ [])
+  pub given-three : m ≡ 3 → GivenAll bs ps (x ∷ y ∷ z ∷ [])
   unfolding Spoken nth
-  given-three = record { all = λ cs. record { ready = all-ready cs; says = rw e (u .means cs, (v .means cs, (w .means cs, tt))) } }
+  given-three c = record { all = λ cs. record { ready = all-ready cs; many = rw e c; says = rw e (u .means cs, (v .means cs, (w .means cs, tt))) } }
 
-  pub given-two : GivenAll bs ps (x ∷ y ∷ [])
+  pub given-two : m ≡ 2 → GivenAll bs ps (x ∷ y ∷ [])
   unfolding Spoken nth
-  given-two = record { all = λ cs. record { ready = all-ready cs; says = rw e (u .means cs, (v .means cs, tt)) } }
+  given-two c = record { all = λ cs. record { ready = all-ready cs; many = rw e c; says = rw e (u .means cs, (v .means cs, tt)) } }
 
-  pub given-one : GivenAll bs ps (x ∷ [])
+  pub given-one : m ≡ 1 → GivenAll bs ps (x ∷ [])
   unfolding Spoken nth
-  given-one = record { all = λ cs. record { ready = all-ready cs; says = rw e (u .means cs, tt) } }
+  given-one c = record { all = λ cs. record { ready = all-ready cs; many = rw e c; says = rw e (u .means cs, tt) } }
 
-  pub given-none : GivenAll bs ps []
+  pub given-none : m ≡ 0 → GivenAll bs ps []
   unfolding Spoken
-  given-none = record { all = λ cs. record { ready = all-ready cs; says = tt } }
+  given-none c = record { all = λ cs. record { ready = all-ready cs; many = rw e c; says = tt } }
 
 pub says-nothing : (bs : List ℕ) → Says bs [] Nothing
 unfolding Stands meant

@@ -7,10 +7,10 @@ use native.Mathlib.Omega.{arith}
 use native.Mathlib.Decide.{decLt, ℕ-discrete}
 use lib.ListN.{length, getD, length-append, List·getD-append}
 use Rattle.meaning.specs.Types.{Ty, unknown, int, bool, string, float, nonetype, range, function, list, dict, tuple, mapIter, filterIter, kind, parts, part}
-use Rattle.types.specs.Table.{Tab, tab, kindAt, firstAt, secondAt, shape, trees, denote, Wf, Means}
+use Rattle.types.specs.Table.{Tab, tab, capacity, kindAt, firstAt, secondAt, shape, trees, denote, Wf, Means}
 use Rattle.types.specs.Reading.{KindOf, PartOf, CountOf, ElementAt, IsElement}
 use Rattle.types.proofs.Laws.{kind-of, record-kind, parts-many, first-part, second-part, element-part}
-use Rattle.types.proofs.Readers.{is-element}
+use Rattle.types.proofs.Readers.{in-room, is-element}
 use Rattle.message.specs.Texts.{typeAt, Known, PartAt}
 
 -- ---- the counts tell nothing of a type
@@ -108,7 +108,11 @@ module _ {cs : List ℕ} {i : ℕ} (k : Known cs i) where
   own-type = type-is (k .table) cs (k .cells-are) i (k .below)
 
   pub known-number : i < 2056
-  known-number = omega (arith, k .below, k .wf .room)
+  known-number = omega (arith, k .below, k .wf .room, k .wf .most)
+
+  -- what a reader of its record asks
+  pub known-room : i < capacity cs
+  known-room = rw (k .cells-are) at (in-room (k .wf) i (k .below))
 
   pub known-lower : {j : ℕ} → j < i → Known cs j
   known-lower h = record { table = k .table; cells-are = k .cells-are; wf = k .wf; below = omega (arith, k .below) }
@@ -121,8 +125,8 @@ module _ {cs : List ℕ} {i : ℕ} (k : Known cs i) where
       h .says (k .table) (k .cells-are) (k .wf) (k .below) (ap kind (sym own-type) ∙ e) ∙ ap (λ ty. length (parts ty)) (sym own-type)
 
   -- a number that means the same as a lower one is that one
-  lower-part : {r j : ℕ} (x : ℕ) → x < i → Means (k .table) x (part j (denote (k .table) i)) → Means (k .table) r (part j (denote (k .table) i)) → PartAt cs i j r
-  lower-part {r} {j} x l m h =
+  lower-part : {r j x : ℕ} → x < i → Means (k .table) x (part j (denote (k .table) i)) → Means (k .table) r (part j (denote (k .table) i)) → PartAt cs i j r
+  lower-part {r} {j} {x} l m h =
       let same : r ≡ x = k .wf .inj r x (h .below) (m .below) (h .means ∙ sym (m .means)) in
       record {
         lower = omega arith;
@@ -139,7 +143,7 @@ module _ {cs : List ℕ} {i : ℕ} (k : Known cs i) where
       let there : 0 < length (parts (typeAt cs i)) = omega arith in
       let some : 8 ≤ kind (denote t i) = some-parts _ (rw own-type at there) in
       let lower : firstAt t i < i = k .wf .low i (k .below) .first (omega arith) (λ z. m (record-kind-is ∙ z)) in
-      rw e (lower-part (firstAt t i) lower (first-part (k .wf) i (k .below) (λ z. m (record-kind-is ∙ z))) (h .says t (k .cells-are) (k .wf) (k .below) m))
+      rw e (lower-part lower (first-part (k .wf) i (k .below) (λ z. m (record-kind-is ∙ z))) (h .says t (k .cells-are) (k .wf) (k .below) m))
 
   pub part-second : {j r : ℕ} → (j ≡ 0 → ⊥) → (kind (typeAt cs i) ≡ 10 → ⊥) → j < length (parts (typeAt cs i)) → PartOf cs 1 i r → PartAt cs i j r
   part-second {j} {r} e n l h =
@@ -149,7 +153,7 @@ module _ {cs : List ℕ} {i : ℕ} (k : Known cs i) where
       let nine : kind (typeAt cs i) ≡ 9 = more-parts _ (omega arith) n in
       let one : j ≡ 1 = omega (arith, two-parts (typeAt cs i) nine) in
       let lower : secondAt t i < i = k .wf .low i (k .below) .second (sym record-kind-is ∙ ap kind (sym own-type) ∙ nine) in
-      rw one (lower-part (secondAt t i) lower (second-part (k .wf) i (k .below) (λ z. m (record-kind-is ∙ z))) (h .says t (k .cells-are) (k .wf) (k .below) m))
+      rw one (lower-part lower (second-part (k .wf) i (k .below) (λ z. m (record-kind-is ∙ z))) (h .says t (k .cells-are) (k .wf) (k .below) m))
 
   pub known-element : {j : ℕ} → kind (typeAt cs i) ≡ 10 → j < length (parts (typeAt cs i)) → IsElement cs i j
   known-element e l = rw (k .cells-are) at (is-element (k .wf) i (k .below) (rw own-type at e) (rw own-type at l))
@@ -160,7 +164,7 @@ module _ {cs : List ℕ} {i : ℕ} (k : Known cs i) where
       let ten : kind (denote t i) ≡ 10 = rw own-type at e in
       let is = record-kind (k .wf) i (k .below) ten in
       let within : j < secondAt t i = omega (arith, parts-many (k .wf) i (k .below) is, rw own-type at l) in
-      lower-part (getD (t .cells) (8224 + firstAt t i + j) 0) (k .wf .low i (k .below) .elements is j within)
+      lower-part (k .wf .low i (k .below) .elements is j within)
       (element-part (k .wf) i (k .below) j is within) (h .says t (k .cells-are) (k .wf) (k .below) ten)
 
   -- how many there are, by the kind that was read

@@ -159,14 +159,14 @@ pub written : {d d₁ d₂ e s₁ s₂ s : List ℕ} {at at₁ at₂ end : ℕ} 
 written a b w p = let l = left-last _ b w p in left-last _ a (l .0) (l .1)
 
 -- one more length
-pub sized-none : {cs lens : List ℕ} {cap : ℕ} → length lens ≡ 2056 → Sized cs cap lens 0
-sized-none h = record { long = h; each = λ i l. absurd (omega arith) }
+pub sized-none : {cs lens : List ℕ} {cap : ℕ} → Sized cs cap lens 0
+sized-none = record { long = omega arith; each = λ i l. absurd (omega arith) }
 
-pub sized-more : {cs lens : List ℕ} {cap i x : ℕ} → Sized cs cap lens i → i < 2056 → x ≡ sizeAt cs cap i → Sized cs cap (set lens i x) (i + 1)
+pub sized-more : {cs lens : List ℕ} {cap i x : ℕ} → Sized cs cap lens i → i < length lens → x ≡ sizeAt cs cap i → Sized cs cap (set lens i x) (i + 1)
 sized-more {cs} {lens} {cap} {i} {x} s h e = record {
-  long = length-set lens i x ∙ s .long;
+  long = omega (arith, length-set lens i x);
   each = λ j l. elim (ℕ-discrete j i) [
-    | yes a ↦ rw (a, getD-set-same lens i x 0 (omega (arith, s .long))) e
+    | yes a ↦ rw (a, getD-set-same lens i x 0 h) e
     | no a ↦ rw (getD-set-other lens i j x 0 a) (s .each j (omega arith))
   ];
 }

@@ -36,14 +36,14 @@ Stands bs n (OfNumber m) = Unit {0}
 Stands bs n (OfRange p q) = Unit {0}
 Stands bs n OfAny = Unit {0}
 
--- the number of a type that is named fits an array of lengths
-unfoldable pub Small : Piece → Type 0
-Small Nothing = Unit {0}
-Small (OfType i) = i < 2056
-Small (OfText s l) = Unit {0}
-Small (OfNumber m) = Unit {0}
-Small (OfRange p q) = Unit {0}
-Small OfAny = Unit {0}
+-- a type that is named is one of the n numbers whose lengths there is room for
+unfoldable pub Small : ℕ → Piece → Type 0
+Small n Nothing = Unit {0}
+Small n (OfType i) = i < n
+Small n (OfText s l) = Unit {0}
+Small n (OfNumber m) = Unit {0}
+Small n (OfRange p q) = Unit {0}
+Small n OfAny = Unit {0}
 
 -- r counts as the length of s
 pub record CountsAs (cap r : ℕ) (s : List ℕ) : Type 0 where
@@ -52,10 +52,6 @@ pub record CountsAs (cap r : ℕ) (s : List ℕ) : Type 0 where
 -- by the lengths of all types that may be named, r counts as the length of the piece
 pub record CountsPiece (lens : List ℕ) (p : Piece) (r : ℕ) : Type 0 where
   pub says : (bs cs : List ℕ) (cap n : ℕ) → Stands bs n p → Sized cs cap lens n → CountsAs cap r (meant bs cs p)
-
--- and of what stands for byte c, where the piece is the next one
-pub record CountsOne (lens : List ℕ) (c : ℕ) (p : Piece) (r : ℕ) : Type 0 where
-  pub says : (bs cs : List ℕ) (cap n : ℕ) → Stands bs n p → Sized cs cap lens n → CountsAs cap r (one c (meant bs cs p))
 
 -- what the piece names is known
 pub record Shown (bs cs : List ℕ) (p : Piece) : Type 0 where
@@ -80,14 +76,14 @@ pub record Ready (bs cs : List ℕ) (ps : Pieces) : Type 0 where
   pub each : (k : ℕ) → Stands bs (ps .types) (nth ps k)
   pub known : AllKnown cs (ps .types)
 
-abbrev pub noTypes : Piece → Piece → Piece → Pieces
-noTypes p q r = record { first = p; second = q; third = r; types = 0 }
+abbrev pub noTypes : ℕ → Piece → Piece → Piece → Pieces
+noTypes m p q r = record { first = p; second = q; third = r; many = m; types = 0 }
 
 abbrev pub oneType : ℕ → Pieces
-oneType a = record { first = OfType a; second = Nothing; third = Nothing; types = a + 1 }
+oneType a = record { first = OfType a; second = Nothing; third = Nothing; many = 1; types = a + 1 }
 
 abbrev pub twoTypes : ℕ → ℕ → Pieces
-twoTypes a b = record { first = OfType a; second = OfType b; third = Nothing; types = max a b + 1 }
+twoTypes a b = record { first = OfType a; second = OfType b; third = Nothing; many = 2; types = max a b + 1 }
 
 -- ---- a format string with its pieces put in
 
@@ -102,6 +98,16 @@ filled (c ∷ cs) k f = one c (f k) ++ filled cs (after c k) f
 unfoldable pub put-in : List ℕ → List ℕ → Pieces → List ℕ → List ℕ
 put-in bs cs ps format = filled format 0 (λ k. meant bs cs (nth ps k))
 
+-- how many pieces a format string takes
+unfoldable pub gaps : List ℕ → ℕ
+gaps [] = 0
+gaps (c ∷ cs) = if eqb c 95 then gaps cs + 1 else gaps cs
+
+-- its plain bytes before the first of them
+unfoldable pub run : List ℕ → List ℕ
+run [] = []
+run (c ∷ cs) = if eqb c 95 then [] else c ∷ run cs
+
 -- ---- what the pieces say, in order
 
 unfoldable pub Spoken : (ℕ → List ℕ) → ℕ → List (List ℕ) → Type 0
@@ -110,6 +116,7 @@ Spoken f k (x ∷ xs) = (f k ≡ x) × Spoken f (k + 1) xs
 
 pub record Given (bs cs : List ℕ) (ps : Pieces) (xs : List (List ℕ)) : Type 0 where
   pub ready : Ready bs cs ps
+  pub many : ps .many ≡ length xs
   pub says : Spoken (λ k. meant bs cs (nth ps k)) 0 xs
 
 -- pieces that name no type

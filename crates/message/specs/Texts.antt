@@ -72,7 +72,7 @@ sizeAt cs cap i = clipped cap (length (text (typeAt cs i)))
 
 -- the lengths of the texts of all numbers below n
 pub record Sized (cs : List ℕ) (cap : ℕ) (lens : List ℕ) (n : ℕ) : Type 0 where
-  pub long : length lens ≡ 2056
+  pub long : n ≤ length lens
   pub each : (i : ℕ) → i < n → getD lens i 0 ≡ sizeAt cs cap i
 
 -- all numbers below n are known

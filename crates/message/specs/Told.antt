@@ -8,7 +8,7 @@ use Rattle.meaning.specs.Base.{bytes}
 use Rattle.meaning.specs.Message.{refusal, template, message}
 use Rattle.types.specs.Table.{Tab, Wf}
 use Rattle.rules.specs.Outcome.{typesNamed, pieces}
-use Rattle.message.specs.Pieces.{Ready, put-in}
+use Rattle.message.specs.Pieces.{Ready, gaps, put-in}
 use Rattle.message.specs.declared.Pieces.{Pieces}
 
 -- a message does not look at the refusal's node
@@ -25,4 +25,5 @@ pub record Tells (t : Tab) (code a b : ℕ) : Type 0 where
 -- the pieces are what the code's format string takes
 pub record Chosen (bs : List ℕ) (t : Tab) (code a b : ℕ) (ps : Pieces) : Type 0 where
   pub ready : Ready bs (t .cells) ps
+  pub many : gaps (bytes (template code)) ≡ ps .many
   pub says : message (refusal code 0 (pieces (namesOf bs) t code a b)) ≡ put-in bs (t .cells) ps (bytes (template code))

@@ -2,7 +2,7 @@
 ghost use mathlib.Core.Path.{_≡_};
 ghost use mathlib.Core.List.{[], _∷_, _++_};
 ghost use Prim.Native.Nat.{_+_, _<_, _≤_, max};
-ghost use lib.ListN.{length, getD};
+ghost use lib.ListN.{length, getD, drop};
 ghost use mathlib.Core.Option.{none};
 ghost use Rattle.meaning.specs.Answer.{fitting, overlaid};
 ghost use Rattle.meaning.specs.Base.{decimal, bytes};
@@ -18,7 +18,7 @@ ghost use Rattle.message.specs.Told.{told, Tells, Chosen};
 ghost use Rattle.words.specs.Words.{putAt};
 ghost use Rattle.message.specs.declared.Piece.the-variants.{Nothing, OfNumber};
 ghost use Rattle.message.specs.Texts.{typeAt, Known, PartAt, opening, closing, comma, clipped, sizeAt, Sized, AllKnown};
-ghost use Rattle.message.specs.Pieces.{meant, Small, CountsPiece, CountsOne, Shown, Says, GivenAll, nth, Ready, noTypes, oneType, twoTypes, one, after, put-in};
+ghost use Rattle.message.specs.Pieces.{meant, Small, CountsPiece, Shown, Says, GivenAll, nth, Ready, noTypes, oneType, twoTypes, gaps, run, put-in};
 
 mod formats;
 
@@ -77,18 +77,19 @@ enum Piece {
     OfAny,
 }
 
-// What a message names, in order; `types` is how many of the first types must be measured for it.
+// What a message names, in order, and how many they are; `types` is how many of the first types must be measured for it.
 struct Pieces {
     first: Piece,
     second: Piece,
     third: Piece,
+    many: usize,
     types: usize,
 }
 
 // ---- the parts of a type, by number
 
 // How many parts type i has: a plain type has none.
-fn parts_of(table: &[u16; 10272], i: usize) -> usize
+fn parts_of(table: &[u16], i: usize) -> usize
     requires { ⌜ Known (now table) i ⌝ }
     ensures { λ r. ⌜ r ≡ length (parts (typeAt (now (table .entry)) i)) ⌝ }
 {
@@ -104,7 +105,7 @@ fn parts_of(table: &[u16; 10272], i: usize) -> usize
 }
 
 // Part j of type i. Its number is lower than i: this is what all recursion over types rests on.
-fn part_at(table: &[u16; 10272], i: usize, j: usize) -> usize
+fn part_at(table: &[u16], i: usize, j: usize) -> usize
     requires { ⌜ Known (now table) i ⌝ }
     requires { ⌜ j < length (parts (typeAt (now table) i)) ⌝ }
     ensures { λ r. ⌜ PartAt (now (table .entry)) i j r ⌝ }
@@ -225,7 +226,7 @@ fn clip(x: usize, y: usize, cap: usize) -> usize
 }
 
 // Counted from the lengths of its parts, which have lower numbers.
-fn size_of(table: &[u16; 10272], i: usize, lens: &[usize; 2056], cap: usize) -> usize
+fn size_of(table: &[u16], i: usize, lens: &[usize], cap: usize) -> usize
     requires { ⌜ Known (now table) i ⌝ }
     requires { ⌜ Sized (now table) cap (now lens) i ⌝ }
     ensures { λ r. ⌜ r ≡ sizeAt (now (table .entry)) cap i ⌝ }
@@ -243,9 +244,9 @@ fn size_of(table: &[u16; 10272], i: usize, lens: &[usize; 2056], cap: usize) -> 
 }
 
 // The lengths of the texts of the first `types` numbers, each worked out once.
-fn measure(table: &[u16; 10272], types: usize, cap: usize, lens: &mut [usize; 2056])
+fn measure(table: &[u16], types: usize, cap: usize, lens: &mut [usize])
     requires { ⌜ AllKnown (now table) types ⌝ }
-    requires { ⌜ length (now lens) ≡ 2056 ⌝ }
+    requires { ⌜ types ≤ length (now lens) ⌝ }
     ensures { λ _. ⌜ Sized (now (table .entry)) cap (now (lens .exit)) types ⌝ }
 {
     let mut i = 0;
@@ -258,7 +259,7 @@ fn measure(table: &[u16; 10272], types: usize, cap: usize, lens: &mut [usize; 20
 // ---- a type's text
 
 // Recurs by the type's number, which falls; one frame for each type that lies around another.
-fn put_type(table: &[u16; 10272], i: usize, out: &mut [u8], at: usize) -> usize
+fn put_type(table: &[u16], i: usize, out: &mut [u8], at: usize) -> usize
     requires { ⌜ Known (now table) i ⌝ }
     requires { ⌜ at + length (text (typeAt (now table) i)) ≤ length (now out) ⌝ }
     ensures { λ _. ⌜ now (out .exit) ≡ putAt (now (out .entry)) at (text (typeAt (now (table .entry)) i)) ⌝ }
@@ -285,6 +286,7 @@ fn one_type(a: usize) -> Pieces
         first: Piece::OfType(a),
         second: Piece::Nothing,
         third: Piece::Nothing,
+        many: 1,
         types: a + 1,
     }
 }
@@ -307,17 +309,19 @@ fn two_types(a: usize, b: usize) -> Pieces
         first: Piece::OfType(a),
         second: Piece::OfType(b),
         third: Piece::Nothing,
+        many: 2,
         types: most + 1,
     }
 }
 
-fn no_types(first: Piece, second: Piece, third: Piece) -> Pieces
-    ensures { λ r. ⌜ r ≡ noTypes first second third ⌝ }
+fn no_types(many: usize, first: Piece, second: Piece, third: Piece) -> Pieces
+    ensures { λ r. ⌜ r ≡ noTypes many first second third ⌝ }
 {
     Pieces {
         first,
         second,
         third,
+        many,
         types: 0,
     }
 }
@@ -383,16 +387,17 @@ fn taken_by(image: &[u8], a: usize) -> Piece
 }
 
 fn nothing() -> Pieces
-    ensures { λ r. ⌜ r ≡ noTypes Nothing Nothing Nothing ⌝ }
+    ensures { λ r. ⌜ r ≡ noTypes 0 Nothing Nothing Nothing ⌝ }
 {
-    no_types(Piece::Nothing, Piece::Nothing, Piece::Nothing)
+    no_types(0, Piece::Nothing, Piece::Nothing, Piece::Nothing)
 }
 
 fn counted(a: usize, b: usize) -> Pieces
     requires { ⌜ (a < 4294967296) × (b < 4294967296) ⌝ }
-    ensures { λ r. ⌜ r ≡ noTypes (OfNumber a) (OfNumber b) Nothing ⌝ }
+    ensures { λ r. ⌜ r ≡ noTypes 2 (OfNumber a) (OfNumber b) Nothing ⌝ }
 {
     no_types(
+        2,
         Piece::OfNumber(a as u32),
         Piece::OfNumber(b as u32),
         Piece::Nothing,
@@ -404,7 +409,7 @@ fn named(image: &[u8], a: usize) -> Pieces
     requires { ⌜ brokenName (now image) ≡ none ⌝ }
     ensures { λ r. ⌜ GivenAll (now (image .entry)) r (nameOf (namesOf (now (image .entry))) a .spelling ∷ []) ⌝ }
 {
-    no_types(spelled(image, a), Piece::Nothing, Piece::Nothing)
+    no_types(1, spelled(image, a), Piece::Nothing, Piece::Nothing)
 }
 
 // A builtin with b arguments.
@@ -419,6 +424,7 @@ fn called(image: &[u8], a: usize, b: usize) -> Pieces
         ∷ []) ⌝ }
 {
     no_types(
+        3,
         spelled(image, a),
         arity(image, a),
         Piece::OfNumber(b as u32),
@@ -437,6 +443,7 @@ fn passed(image: &[u8], a: usize, b: usize) -> Pieces
         ∷ []) ⌝ }
 {
     no_types(
+        3,
         spelled(image, a),
         taken_by(image, a),
         Piece::OfNumber(b as u32),
@@ -444,14 +451,7 @@ fn passed(image: &[u8], a: usize, b: usize) -> Pieces
 }
 
 // What the message of a code names.
-fn pieces_of(
-    image: &[u8],
-    table: &[u16; 10272],
-    counts: Counts,
-    code: u32,
-    a: usize,
-    b: usize,
-) -> Pieces
+fn pieces_of(image: &[u8], table: &[u16], counts: Counts, code: u32, a: usize, b: usize) -> Pieces
     requires { ⌜ Headed (now image) ⌝ }
     requires { ⌜ brokenName (now image) ≡ none ⌝ }
     requires { ⌜ Tells (tab (now table) (counts .types) (counts .elements)) code a b ⌝ }
@@ -509,19 +509,9 @@ fn nth_of(pieces: Pieces, k: usize) -> Piece
 
 const GAP: u8 = b'_';
 
-fn next(c: u8, k: usize) -> usize
-    requires { ⌜ k < 9223372036854775808 ⌝ }
-    ensures { λ r. ⌜ r ≡ after c k ⌝ }
-{
-    if c == GAP {
-        return k + 1;
-    }
-    k
-}
-
 // Not clipped: only a type's text can be long, and that length is.
-fn piece_size(piece: Piece, lens: &[usize; 2056]) -> usize
-    requires { ⌜ Small piece ⌝ }
+fn piece_size(piece: Piece, lens: &[usize]) -> usize
+    requires { ⌜ Small (length (now lens)) piece ⌝ }
     ensures { λ r. ⌜ CountsPiece (now (lens .entry)) piece r ⌝ }
 {
     match piece {
@@ -534,48 +524,61 @@ fn piece_size(piece: Piece, lens: &[usize; 2056]) -> usize
     }
 }
 
-fn size_one(c: u8, piece: Piece, lens: &[usize; 2056]) -> usize
-    requires { ⌜ Small piece ⌝ }
-    ensures { λ r. ⌜ CountsOne (now (lens .entry)) c piece r ⌝ }
-{
-    if c == GAP {
-        return piece_size(piece, lens);
-    }
-    1
-}
-
-// The length of the message, up to the cap.
+// The length of the message, up to the cap: the plain bytes of the format are known by its length and its gaps.
 fn total(
     image: &[u8],
-    table: &[u16; 10272],
+    table: &[u16],
     format: &[u8],
     pieces: Pieces,
-    lens: &[usize; 2056],
+    lens: &[usize],
     cap: usize,
 ) -> usize
     requires { ⌜ Ready (now image) (now table) pieces ⌝ }
+    requires { ⌜ gaps (now format) ≡ pieces .many ⌝ }
     requires { ⌜ Sized (now table) cap (now lens) (pieces .types) ⌝ }
     ensures { λ r. ⌜ r ≡ clipped cap (length (put-in (now (image .entry)) (now (table .entry)) pieces (now (format .entry)))) ⌝ }
 {
-    let mut size = 0;
+    let many = pieces.many;
+    let mut size = clip(0, format.len() - many, cap);
     let mut k = 0;
-    let mut i = 0;
-    while i < format.len() {
-        let c = format[i];
-        size = clip(size, size_one(c, nth_of(pieces, k), lens), cap);
-        k = next(c, k);
-        i += 1;
+    while k < many {
+        size = clip(size, piece_size(nth_of(pieces, k), lens), cap);
+        k += 1;
     }
     size
 }
 
-fn measured(image: &[u8], table: &[u16; 10272], format: &[u8], pieces: Pieces, cap: usize) -> usize
+// A function of its own for each size of the array: a small one is soon filled.
+fn measured_few(image: &[u8], table: &[u16], format: &[u8], pieces: Pieces, cap: usize) -> usize
     requires { ⌜ Ready (now image) (now table) pieces ⌝ }
+    requires { ⌜ gaps (now format) ≡ pieces .many ⌝ }
+    requires { ⌜ pieces .types ≤ 64 ⌝ }
+    ensures { λ r. ⌜ r ≡ clipped cap (length (put-in (now (image .entry)) (now (table .entry)) pieces (now (format .entry)))) ⌝ }
+{
+    let mut lens = [1usize; 64];
+    measure(table, pieces.types, cap, &mut lens);
+    total(image, table, format, pieces, &lens, cap)
+}
+
+fn measured_many(image: &[u8], table: &[u16], format: &[u8], pieces: Pieces, cap: usize) -> usize
+    requires { ⌜ Ready (now image) (now table) pieces ⌝ }
+    requires { ⌜ gaps (now format) ≡ pieces .many ⌝ }
     ensures { λ r. ⌜ r ≡ clipped cap (length (put-in (now (image .entry)) (now (table .entry)) pieces (now (format .entry)))) ⌝ }
 {
     let mut lens = [1usize; 2056];
     measure(table, pieces.types, cap, &mut lens);
     total(image, table, format, pieces, &lens, cap)
+}
+
+fn measured(image: &[u8], table: &[u16], format: &[u8], pieces: Pieces, cap: usize) -> usize
+    requires { ⌜ Ready (now image) (now table) pieces ⌝ }
+    requires { ⌜ gaps (now format) ≡ pieces .many ⌝ }
+    ensures { λ r. ⌜ r ≡ clipped cap (length (put-in (now (image .entry)) (now (table .entry)) pieces (now (format .entry)))) ⌝ }
+{
+    if pieces.types <= 64 {
+        return measured_few(image, table, format, pieces, cap);
+    }
+    measured_many(image, table, format, pieces, cap)
 }
 
 fn put_range(p: u32, q: u32, out: &mut [u8], at: usize) -> usize
@@ -588,7 +591,7 @@ fn put_range(p: u32, q: u32, out: &mut [u8], at: usize) -> usize
     put_decimal(out, second, q)
 }
 
-fn put_piece(image: &[u8], table: &[u16; 10272], piece: Piece, out: &mut [u8], at: usize) -> usize
+fn put_piece(image: &[u8], table: &[u16], piece: Piece, out: &mut [u8], at: usize) -> usize
     requires { ⌜ Shown (now image) (now table) piece ⌝ }
     requires { ⌜ at + length (meant (now image) (now table) piece) ≤ length (now out) ⌝ }
     ensures { λ _. ⌜ now (out .exit) ≡ putAt (now (out .entry)) at (meant (now (image .entry)) (now (table .entry)) piece) ⌝ }
@@ -604,59 +607,50 @@ fn put_piece(image: &[u8], table: &[u16; 10272], piece: Piece, out: &mut [u8], a
     }
 }
 
-fn put_one(
-    image: &[u8],
-    table: &[u16; 10272],
-    c: u8,
-    piece: Piece,
-    out: &mut [u8],
-    at: usize,
-) -> usize
-    requires { ⌜ Shown (now image) (now table) piece ⌝ }
-    requires { ⌜ at + length (one c (meant (now image) (now table) piece)) ≤ length (now out) ⌝ }
-    ensures { λ _. ⌜ now (out .exit) ≡ putAt (now (out .entry)) at (one c (meant (now (image .entry)) (now (table .entry)) piece)) ⌝ }
-    ensures { λ r. ⌜ r ≡ at + length (one c (meant (now (image .entry)) (now (table .entry)) piece)) ⌝ }
+// Copies the plain bytes of the format from i on, up to the next gap or the end: returns where that is.
+fn put_plain(format: &[u8], i: usize, out: &mut [u8], at: usize) -> usize
+    requires { ⌜ i ≤ length (now format) ⌝ }
+    requires { ⌜ at + length (run (drop i (now format))) ≤ length (now out) ⌝ }
+    ensures { λ _. ⌜ now (out .exit) ≡ putAt (now (out .entry)) at (run (drop i (now (format .entry)))) ⌝ }
+    ensures { λ r. ⌜ r ≡ i + length (run (drop i (now (format .entry)))) ⌝ }
 {
-    if c == GAP {
-        return put_piece(image, table, piece, out, at);
+    let mut j = i;
+    while j < format.len() {
+        let c = format[j];
+        if c == GAP {
+            return j;
+        }
+        out[at + (j - i)] = c;
+        j += 1;
     }
-    out[at] = c;
-    at + 1
+    j
 }
 
-fn fill_in(
-    image: &[u8],
-    table: &[u16; 10272],
-    format: &[u8],
-    pieces: Pieces,
-    out: &mut [u8],
-) -> usize
+fn fill_in(image: &[u8], table: &[u16], format: &[u8], pieces: Pieces, out: &mut [u8]) -> usize
     requires { ⌜ Ready (now image) (now table) pieces ⌝ }
+    requires { ⌜ gaps (now format) ≡ pieces .many ⌝ }
     requires { ⌜ length (put-in (now image) (now table) pieces (now format)) ≤ length (now out) ⌝ }
     ensures { λ _. ⌜ now (out .exit) ≡ putAt (now (out .entry)) 0 (put-in (now (image .entry)) (now (table .entry)) pieces (now (format .entry))) ⌝ }
     ensures { λ r. ⌜ r ≡ length (put-in (now (image .entry)) (now (table .entry)) pieces (now (format .entry))) ⌝ }
 {
+    let many = pieces.many;
     let mut at = 0;
     let mut k = 0;
     let mut i = 0;
-    while i < format.len() {
-        let c = format[i];
-        at = put_one(image, table, c, nth_of(pieces, k), out, at);
-        k = next(c, k);
-        i += 1;
+    while k < many {
+        let gap = put_plain(format, i, out, at);
+        at = put_piece(image, table, nth_of(pieces, k), out, at + (gap - i));
+        i = gap + 1;
+        k += 1;
     }
-    at
+    let end = put_plain(format, i, out, at);
+    at + (end - i)
 }
 
 // One more than the room is the cap: it stands for every length that does not fit.
-fn deliver(
-    image: &[u8],
-    table: &[u16; 10272],
-    format: &[u8],
-    pieces: Pieces,
-    out: &mut [u8],
-) -> usize
+fn deliver(image: &[u8], table: &[u16], format: &[u8], pieces: Pieces, out: &mut [u8]) -> usize
     requires { ⌜ Ready (now image) (now table) pieces ⌝ }
+    requires { ⌜ gaps (now format) ≡ pieces .many ⌝ }
     ensures { λ r. ⌜ r ≡ length (fitting (length (now (out .entry))) (put-in (now (image .entry)) (now (table .entry)) pieces (now (format .entry)))) ⌝ }
     ensures { λ _. ⌜ now (out .exit) ≡ overlaid (fitting (length (now (out .entry))) (put-in (now (image .entry)) (now (table .entry)) pieces (now (format .entry)))) (now (out .entry)) ⌝ }
 {
@@ -668,87 +662,96 @@ fn deliver(
 }
 
 // 20 to 28: statements.
-fn statement_format(code: u32, buf: &mut [u8]) -> usize
-    requires { ⌜ (length (now buf) ≡ 80) × (20 ≤ code) × (code ≤ 28) ⌝ }
-    ensures { λ _. ⌜ now (buf .exit) ≡ putAt (now (buf .entry)) 0 (bytes (template code)) ⌝ }
-    ensures { λ r. ⌜ r ≡ length (bytes (template code)) ⌝ }
+fn tell_statement(image: &[u8], table: &[u16], code: u32, pieces: Pieces, out: &mut [u8]) -> usize
+    requires { ⌜ Ready (now image) (now table) pieces ⌝ }
+    requires { ⌜ gaps (bytes (template code)) ≡ pieces .many ⌝ }
+    requires { ⌜ (20 ≤ code) × (code ≤ 28) ⌝ }
+    ensures { λ r. ⌜ r ≡ length (fitting (length (now (out .entry))) (put-in (now (image .entry)) (now (table .entry)) pieces (bytes (template code)))) ⌝ }
+    ensures { λ _. ⌜ now (out .exit) ≡ overlaid (fitting (length (now (out .entry))) (put-in (now (image .entry)) (now (table .entry)) pieces (bytes (template code)))) (now (out .entry)) ⌝ }
 {
     match code {
-        20 => put(buf, 0, &STRAY_BREAK),
-        21 => put(buf, 0, &STRAY_CONTINUE),
-        22 => put(buf, 0, &RETURNS_DIFFER),
-        23 => put(buf, 0, &BRANCHES_DIFFER),
-        24 => put(buf, 0, &NOT_ITERABLE),
-        25 => put(buf, 0, &WRONG_VALUE),
-        26 => put(buf, 0, &WRONG_COUNT),
-        27 => put(buf, 0, &NOT_UNPACKABLE),
-        _ => put(buf, 0, &NO_TARGET),
+        20 => deliver(image, table, &STRAY_BREAK, pieces, out),
+        21 => deliver(image, table, &STRAY_CONTINUE, pieces, out),
+        22 => deliver(image, table, &RETURNS_DIFFER, pieces, out),
+        23 => deliver(image, table, &BRANCHES_DIFFER, pieces, out),
+        24 => deliver(image, table, &NOT_ITERABLE, pieces, out),
+        25 => deliver(image, table, &WRONG_VALUE, pieces, out),
+        26 => deliver(image, table, &WRONG_COUNT, pieces, out),
+        27 => deliver(image, table, &NOT_UNPACKABLE, pieces, out),
+        _ => deliver(image, table, &NO_TARGET, pieces, out),
     }
 }
 
 // 29 to 36: operators and conditions.
-fn operator_format(code: u32, buf: &mut [u8]) -> usize
-    requires { ⌜ (length (now buf) ≡ 80) × (29 ≤ code) × (code ≤ 36) ⌝ }
-    ensures { λ _. ⌜ now (buf .exit) ≡ putAt (now (buf .entry)) 0 (bytes (template code)) ⌝ }
-    ensures { λ r. ⌜ r ≡ length (bytes (template code)) ⌝ }
+fn tell_operator(image: &[u8], table: &[u16], code: u32, pieces: Pieces, out: &mut [u8]) -> usize
+    requires { ⌜ Ready (now image) (now table) pieces ⌝ }
+    requires { ⌜ gaps (bytes (template code)) ≡ pieces .many ⌝ }
+    requires { ⌜ (29 ≤ code) × (code ≤ 36) ⌝ }
+    ensures { λ r. ⌜ r ≡ length (fitting (length (now (out .entry))) (put-in (now (image .entry)) (now (table .entry)) pieces (bytes (template code)))) ⌝ }
+    ensures { λ _. ⌜ now (out .exit) ≡ overlaid (fitting (length (now (out .entry))) (put-in (now (image .entry)) (now (table .entry)) pieces (bytes (template code)))) (now (out .entry)) ⌝ }
 {
     match code {
-        29 => put(buf, 0, &NO_SUM),
-        30 => put(buf, 0, &NO_PRODUCT),
-        31 => put(buf, 0, &NO_ORDER),
-        32 => put(buf, 0, &NO_EQUALITY),
-        33 => put(buf, 0, &NOT_NUMBERS),
-        34 => put(buf, 0, &NOT_NUMBER),
-        35 => put(buf, 0, &NOT_BOOL),
-        _ => put(buf, 0, &NO_CONDITION),
+        29 => deliver(image, table, &NO_SUM, pieces, out),
+        30 => deliver(image, table, &NO_PRODUCT, pieces, out),
+        31 => deliver(image, table, &NO_ORDER, pieces, out),
+        32 => deliver(image, table, &NO_EQUALITY, pieces, out),
+        33 => deliver(image, table, &NOT_NUMBERS, pieces, out),
+        34 => deliver(image, table, &NOT_NUMBER, pieces, out),
+        35 => deliver(image, table, &NOT_BOOL, pieces, out),
+        _ => deliver(image, table, &NO_CONDITION, pieces, out),
     }
 }
 
 // 37 to 45: calls.
-fn call_format(code: u32, buf: &mut [u8]) -> usize
-    requires { ⌜ (length (now buf) ≡ 80) × (37 ≤ code) × (code ≤ 45) ⌝ }
-    ensures { λ _. ⌜ now (buf .exit) ≡ putAt (now (buf .entry)) 0 (bytes (template code)) ⌝ }
-    ensures { λ r. ⌜ r ≡ length (bytes (template code)) ⌝ }
+fn tell_call(image: &[u8], table: &[u16], code: u32, pieces: Pieces, out: &mut [u8]) -> usize
+    requires { ⌜ Ready (now image) (now table) pieces ⌝ }
+    requires { ⌜ gaps (bytes (template code)) ≡ pieces .many ⌝ }
+    requires { ⌜ (37 ≤ code) × (code ≤ 45) ⌝ }
+    ensures { λ r. ⌜ r ≡ length (fitting (length (now (out .entry))) (put-in (now (image .entry)) (now (table .entry)) pieces (bytes (template code)))) ⌝ }
+    ensures { λ _. ⌜ now (out .exit) ≡ overlaid (fitting (length (now (out .entry))) (put-in (now (image .entry)) (now (table .entry)) pieces (bytes (template code)))) (now (out .entry)) ⌝ }
 {
     match code {
-        37 => put(buf, 0, &BUILTIN_ARITY),
-        38 => put(buf, 0, &FUNCTION_ARITY),
-        39 => put(buf, 0, &PROMPT),
-        40 => put(buf, 0, &NO_LENGTH),
-        41 => put(buf, 0, &RANGE_BOUND),
-        42 => put(buf, 0, &MAP_FIRST),
-        43 => put(buf, 0, &MAP_SECOND),
-        44 => put(buf, 0, &FILTER_FIRST),
-        _ => put(buf, 0, &FILTER_SECOND),
+        37 => deliver(image, table, &BUILTIN_ARITY, pieces, out),
+        38 => deliver(image, table, &FUNCTION_ARITY, pieces, out),
+        39 => deliver(image, table, &PROMPT, pieces, out),
+        40 => deliver(image, table, &NO_LENGTH, pieces, out),
+        41 => deliver(image, table, &RANGE_BOUND, pieces, out),
+        42 => deliver(image, table, &MAP_FIRST, pieces, out),
+        43 => deliver(image, table, &MAP_SECOND, pieces, out),
+        44 => deliver(image, table, &FILTER_FIRST, pieces, out),
+        _ => deliver(image, table, &FILTER_SECOND, pieces, out),
     }
 }
 
 // 46 to 50: indexes.
-fn index_format(code: u32, buf: &mut [u8]) -> usize
-    requires { ⌜ (length (now buf) ≡ 80) × (46 ≤ code) × (code ≤ 50) ⌝ }
-    ensures { λ _. ⌜ now (buf .exit) ≡ putAt (now (buf .entry)) 0 (bytes (template code)) ⌝ }
-    ensures { λ r. ⌜ r ≡ length (bytes (template code)) ⌝ }
+fn tell_index(image: &[u8], table: &[u16], code: u32, pieces: Pieces, out: &mut [u8]) -> usize
+    requires { ⌜ Ready (now image) (now table) pieces ⌝ }
+    requires { ⌜ gaps (bytes (template code)) ≡ pieces .many ⌝ }
+    requires { ⌜ (46 ≤ code) × (code ≤ 50) ⌝ }
+    ensures { λ r. ⌜ r ≡ length (fitting (length (now (out .entry))) (put-in (now (image .entry)) (now (table .entry)) pieces (bytes (template code)))) ⌝ }
+    ensures { λ _. ⌜ now (out .exit) ≡ overlaid (fitting (length (now (out .entry))) (put-in (now (image .entry)) (now (table .entry)) pieces (bytes (template code)))) (now (out .entry)) ⌝ }
 {
     match code {
-        46 => put(buf, 0, &LIST_INDEX),
-        47 => put(buf, 0, &DICT_KEY),
-        48 => put(buf, 0, &TUPLE_INDEX),
-        49 => put(buf, 0, &STRING_INDEX),
-        _ => put(buf, 0, &NO_SUBSCRIPT),
+        46 => deliver(image, table, &LIST_INDEX, pieces, out),
+        47 => deliver(image, table, &DICT_KEY, pieces, out),
+        48 => deliver(image, table, &TUPLE_INDEX, pieces, out),
+        49 => deliver(image, table, &STRING_INDEX, pieces, out),
+        _ => deliver(image, table, &NO_SUBSCRIPT, pieces, out),
     }
 }
 
-// T's format string of a code, and nothing for a number that is no code of a message.
-fn put_format(code: u32, buf: &mut [u8]) -> usize
-    requires { ⌜ length (now buf) ≡ 80 ⌝ }
-    ensures { λ _. ⌜ now (buf .exit) ≡ putAt (now (buf .entry)) 0 (bytes (template code)) ⌝ }
-    ensures { λ r. ⌜ r ≡ length (bytes (template code)) ⌝ }
+// By T's format string of the code: nothing for a number that is no code of a message.
+fn tell(image: &[u8], table: &[u16], code: u32, pieces: Pieces, out: &mut [u8]) -> usize
+    requires { ⌜ Ready (now image) (now table) pieces ⌝ }
+    requires { ⌜ gaps (bytes (template code)) ≡ pieces .many ⌝ }
+    ensures { λ r. ⌜ r ≡ length (fitting (length (now (out .entry))) (put-in (now (image .entry)) (now (table .entry)) pieces (bytes (template code)))) ⌝ }
+    ensures { λ _. ⌜ now (out .exit) ≡ overlaid (fitting (length (now (out .entry))) (put-in (now (image .entry)) (now (table .entry)) pieces (bytes (template code)))) (now (out .entry)) ⌝ }
 {
     match code {
-        20..=28 => statement_format(code, buf),
-        29..=36 => operator_format(code, buf),
-        37..=45 => call_format(code, buf),
-        46..=50 => index_format(code, buf),
+        20..=28 => tell_statement(image, table, code, pieces, out),
+        29..=36 => tell_operator(image, table, code, pieces, out),
+        37..=45 => tell_call(image, table, code, pieces, out),
+        46..=50 => tell_index(image, table, code, pieces, out),
         _ => 0,
     }
 }
@@ -757,7 +760,7 @@ fn put_format(code: u32, buf: &mut [u8]) -> usize
 // numbers of the types that it names; for 26 its two counts; for 23, 37 and 38 a name's number and a count.
 pub fn write(
     image: &[u8],
-    table: &[u16; 10272],
+    table: &[u16],
     counts: Counts,
     code: u32,
     a: usize,
@@ -773,7 +776,5 @@ pub fn write(
         code a b (length (now (out .entry)))) (now (out .entry)) ⌝ }
 {
     let pieces = pieces_of(image, table, counts, code, a, b);
-    let mut format = [0u8; 80];
-    let len = put_format(code, &mut format);
-    deliver(image, table, part_of_text(&format, 0, len), pieces, out)
+    tell(image, table, code, pieces, out)
 }

@@ -1,7 +1,7 @@
 -- What the rules of builtins give for the types of the arguments that they look at.
 use mathlib.Core.Path.{_≡_, refl, sym, ap, _∙_}
-use mathlib.Core.List.{List}
-use Prim.Native.Nat.{ℕ, _<_}
+use mathlib.Core.List.{List, []}
+use Prim.Native.Nat.{ℕ, suc, _<_}
 use native.Mathlib.Nat.{add-zero}
 use native.Mathlib.Omega.{arith}
 use borrow.Author.Tests.{eq-eqb, ne-eqb}
@@ -15,7 +15,9 @@ use Rattle.types.specs.Steps.{Listed}
 use Rattle.rules.specs.Outcome.{Decides}
 use Rattle.rules.specs.Leaves.{OfOne, OfNumber, promptRule, sizedRule}
 use Rattle.nodes.specs.Planning.{argumentRule, Argued}
+use Rattle.nodes.specs.Notes.{placeIn, firstIn, secondIn, tabIn, verdict, Noting, Kept, Answered}
 use Rattle.nodes.proofs.Laws.{decides-given, means-given, plain-means, types-many, first-type}
+use Rattle.nodes.proofs.Noting.{answered-kept, given-answered, given-small}
 
 -- ---- each number's rule
 
@@ -74,13 +76,13 @@ module _ {t : Tab} {st : List ℕ} {sp look : ℕ} (x : Listed t st sp look) whe
 
   -- a rule that gives a plain type
   pub argued-plain : {k n code place number a b : ℕ} (p : ℕ) → p < 8 → code ≡ 0 → number ≡ p
-      → ((ts : List Ty) → length ts ≡ look → argumentRule k n ts ≡ ok (plain p)) → Argued t st sp k look n code place number a b
+      → ((ts : List Ty) → length ts ≡ look → argumentRule k n ts ≡ ok (plain p)) → Argued t t st sp k look n code place number a b
   argued-plain {place = place} {number = number} {a = a} {b = b} p h e s r = record {
     says = λ ws M l. means-given 0 M place a b e (r _ (types-many x)) (x .wf) (rw s (plain-means (x .wf) p h));
   }
 
   pub argued-prompt : {k n i code number a b : ℕ} → k ≡ 2 → look ≡ 1 → i ≡ getD st sp 0 → OfNumber promptRule i code number a b
-      → Argued t st sp k look n code n number a b
+      → Argued t t st sp k look n code n number a b
   argued-prompt {k} {n} {i} e l v o = record {
     says = λ ws M h.
         let y = first-type x (omega arith) in
@@ -90,7 +92,7 @@ module _ {t : Tab} {st : List ℕ} {sp look : ℕ} (x : Listed t st sp look) whe
   }
 
   pub argued-len : {k n i code number a b : ℕ} → k ≡ 7 → look ≡ 1 → i ≡ getD st sp 0 → OfOne t.cells sizedRule i code number a b
-      → Argued t st sp k look n code n number a b
+      → Argued t t st sp k look n code n number a b
   argued-len {k} {n} {i} e l v o = record {
     says = λ ws M h.
         let y = first-type x (omega arith) in
@@ -98,3 +100,13 @@ module _ {t : Tab} {st : List ℕ} {sp look : ℕ} (x : Listed t st sp look) whe
         (decides-as (rule-len k n _ _ e (y ∙ ap (denote t) (sym v)))
         (o .says ws t n refl (x .wf) (omega (arith, first-below (omega arith)))));
   }
+
+-- ---- a decision is noted
+
+module _ {cells ns ms : List ℕ} {st : List ℕ} {sp k look n q code number a b : ℕ} (h : n < 2048) (g : Argued (tabIn cells ns) (tabIn cells ns) st sp k look n code n number a b)
+    (f : Answered ns ms q code n number a b) where
+  pub argued-answered : Argued (tabIn cells ns) (tabIn cells ms) st sp k look n (verdict q ms) (placeIn ms) q (firstIn ms) (secondIn ms)
+  argued-answered = record { says = λ ws M l. given-answered f (λ z. omega arith) (g .says ws M l) }
+
+  pub argued-kept : Noting ns → Kept ns ms q
+  argued-kept o = answered-kept f o (given-small (g .says [] (suc n) (omega arith)))

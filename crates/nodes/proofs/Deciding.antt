@@ -1,6 +1,6 @@
 -- What a node gives whose children's types stand on the stack.
 use mathlib.Core.Path.{_≡_, refl, sym, ap, _∙_}
-use mathlib.Core.List.{List, map}
+use mathlib.Core.List.{List, [], map}
 use Prim.Native.Nat.{ℕ, suc, _+_, _<_}
 use native.Mathlib.Nat.{add-zero}
 use native.Mathlib.Omega.{arith}
@@ -20,7 +20,9 @@ use Rattle.rules.specs.Outcome.{Decides}
 use Rattle.rules.specs.Leaves.{Known, OfOne, OfTwo, Indexed, indexPlace}
 use Rattle.rules.proofs.Outcomes.{known}
 use Rattle.nodes.specs.Giving.{Given}
-use Rattle.nodes.specs.Operands.{operandRule, Decidable}
+use Rattle.nodes.specs.Notes.{placeIn, firstIn, secondIn, tabIn, verdict, Noting, Kept, Answered}
+use Rattle.nodes.specs.Operands.{operandRule, Decidable, IndexedAt, Operable, Operated}
+use Rattle.nodes.proofs.Noting.{given-answered, given-small, answered-kept}
 use Rattle.nodes.proofs.Laws.{decides-given, made-given, means-given, plain-means, types-at, first-type}
 
 -- ---- each kind's rule
@@ -50,9 +52,52 @@ decides-as : {ws : List Name} {t : Tab} {r s : Checked} {code place number a b :
     → Decides ws t r code place number a b
 decides-as e d = rw e d
 
+given-wider : {ws : List Name} {t u : Tab} {r s : Checked} {M code place number a b : ℕ} (spent : ℕ) → r ≡ s → Given ws s t u 0 M code place number a b
+    → Given ws r t u spent M code place number a b
+given-wider spent e g =
+    rw e record { told = g .told; below = g .below; grown = g .grown; room = g .room; space = omega (arith, g .space) }
+
 index-place-below : (c m n M : ℕ) → m < M → n < M → indexPlace c m n < M
 unfolding indexPlace if_then_else_
 index-place-below c m n M h l = elim (ℕ-discrete c 50) [ yes e ↦ rw (eq-eqb c 50 e) h | no d ↦ rw (ne-eqb c 50 d) l ]
+
+-- the node was read
+pub decidable-as : {bs : List ℕ} {nodes : ℕ} {t : Tab} {st : List ℕ} {sp i : ℕ} {d e : ImageNode} → d ≡ e → Decidable bs nodes t st sp i e
+    → Decidable bs nodes t st sp i d
+decidable-as p x = rw p x
+
+pub kind-as : {d e : ImageNode} {k : ℕ} → d ≡ e → d .kind ≡ k → e .kind ≡ k
+kind-as p h = sym (ap (λ y. y .kind) p) ∙ h
+
+pub given-node : {ws : List Name} {t u : Tab} {M code place number a b : ℕ} (i m o : ℕ) (f : ℕ → Ty) (xs : List ℕ) {d e : ImageNode} → d ≡ e
+    → Given ws (operandRule (d .kind) (d .arg) i m o (map f (take (d .children) xs))) t u (d .children) M code place number a b
+    → Given ws (operandRule (e .kind) (e .arg) i m o (map f (take (e .children) xs))) t u (e .children) M code place number a b
+given-node i m o f xs p g = rw (← p) g
+
+pub indexed-at : {cs ns ms : List ℕ} {object key m n r p code number a b : ℕ} → Indexed cs object key code number a b → p ≡ indexPlace code m n
+    → Answered ns ms r code p number a b → IndexedAt cs object key m n ns ms r
+indexed-at {code = code} {number} {a} {b} d e f = record {
+  code = code;
+  number = number;
+  a = a;
+  b = b;
+  says = d;
+  answered = rw e at f;
+}
+
+-- ---- a Binary
+
+module _ {cells ns ms : List ℕ} {left right n arg q code number a b : ℕ} (x : Operable (tabIn cells ns) left right n arg)
+    (d : OfTwo cells (λ n. binaryRule n (binaryOf arg)) left right code number a b) (f : Answered ns ms q code n number a b) where
+  decision : (ws : List Name) (M : ℕ) → n < M
+      → Given ws (binaryRule n (binaryOf arg) (denote (tabIn cells ns) left) (denote (tabIn cells ns) right)) (tabIn cells ns) (tabIn cells ns) 0 M code n number a b
+  decision ws M l = decides-given 0 M (x .wf) l (d .says ws (tabIn cells ns) n refl (x .wf) (x .first) (x .second))
+
+  pub operated-answered : Operated (tabIn cells ns) (tabIn cells ms) left right n arg (verdict q ms) (placeIn ms) q (firstIn ms) (secondIn ms)
+  operated-answered = record { says = λ ws M l. given-answered f (λ z. omega (arith, x .node)) (decision ws M l) }
+
+  pub operated-kept : Noting ns → Kept ns ms q
+  operated-kept o = answered-kept f o (given-small (decision [] (suc n) (omega arith)))
 
 -- ---- the node at hand
 
@@ -71,27 +116,26 @@ module _ {bs : List ℕ} {nodes : ℕ} {t : Tab} {st : List ℕ} {sp i : ℕ} {d
 
   -- what stands on the stack
   pub unary-room : d .kind ≡ 22 → sp < 2048
-  unary-room k = omega (arith, x .unary k .1, x .listed .inside)
+  unary-room k = omega (arith, x .unary k .1, x .listed .inside, x .stack)
 
   pub binary-room : d .kind ≡ 23 → sp + 1 < 2048
-  binary-room k = omega (arith, x .binary k .1, x .listed .inside)
+  binary-room k = omega (arith, x .binary k .1, x .listed .inside, x .stack)
 
   pub index-room : d .kind ≡ 31 → sp + 1 < 2048
-  index-room k = omega (arith, x .index k .0, x .listed .inside)
+  index-room k = omega (arith, x .index k .0, x .listed .inside, x .stack)
 
   -- what the callees ask
   pub unary-asks : {v : ℕ} → d .kind ≡ 22 → v ≡ getD st sp 0 → (d .arg < 3) × Known t.cells v
   unary-asks k e = (x .unary k .0, known (x .listed .wf) (first-known (omega (arith, x .unary k .1)) e))
 
-  pub binary-asks : {v w : ℕ} → d .kind ≡ 23 → v ≡ getD st sp 0 → w ≡ getD st (sp + 1) 0
-      → (d .arg < 14) × (Known t.cells v × Known t.cells w)
-  binary-asks k e f = (
-    x .binary k .0,
-    (
-      known (x .listed .wf) (first-known (omega (arith, x .binary k .1)) e),
-      known (x .listed .wf) (second-known (omega (arith, x .binary k .1)) f),
-    ),
-  )
+  pub binary-operable : {v w : ℕ} → d .kind ≡ 23 → v ≡ getD st sp 0 → w ≡ getD st (sp + 1) 0 → Operable t v w i (d .arg)
+  binary-operable k e f = record {
+    wf = x .listed .wf;
+    first = first-known (omega (arith, x .binary k .1)) e;
+    second = second-known (omega (arith, x .binary k .1)) f;
+    node = omega (arith, x .there, sizes (x .headed));
+    operator = x .binary k .0;
+  }
 
   pub index-asks : {v : ℕ} → d .kind ≡ 31 → v ≡ getD st sp 0 → Known t.cells v
   index-asks k e = known (x .listed .wf) (first-known (omega (arith, x .index k .0)) e)
@@ -101,6 +145,13 @@ module _ {bs : List ℕ} {nodes : ℕ} {t : Tab} {st : List ℕ} {sp i : ℕ} {d
 
   pub index-fits : d .kind ≡ 31 → i + 1 < 2048
   index-fits k = omega (arith, x .index k .1, sizes (x .headed))
+
+  pub decidable-place : i < 4294967296
+  decidable-place = omega (arith, x .there, sizes (x .headed))
+
+  pub decidable-placed : {ws : List Name} {r : Checked} {u : Tab} {spent code place number a b : ℕ} → Given ws r t u spent (nodeCount bs) code place number a b
+      → (code ≡ 0 → ⊥) → place < 4294967296
+  decidable-placed g z = omega (arith, g .told .placed z, sizes (x .headed))
 
   -- what the node gives
   pub unary-given : {v code number a b : ℕ} → d .kind ≡ 22 → v ≡ getD st sp 0
@@ -112,16 +163,14 @@ module _ {bs : List ℕ} {nodes : ℕ} {t : Tab} {st : List ℕ} {sp i : ℕ} {d
       decides-given (d .children) (nodeCount bs) (x .listed .wf) (x .there)
       (decides-as (unary-rule _ _ _ _ _ _ _ k (first-is h e)) (f .says (namesOf bs) t i refl (x .listed .wf) (first-known h e)))
 
-  pub binary-given : {v w code number a b : ℕ} → d .kind ≡ 23 → v ≡ getD st sp 0 → w ≡ getD st (sp + 1) 0
-      → OfTwo t.cells (λ n. binaryRule n (binaryOf (d .arg))) v w code number a b
-      → Given (namesOf bs) (operandRule (d .kind) (d .arg) i (suc i) (stopOf (nodesOf bs) (suc i)) (map (denote t) (take (d .children) (drop sp st)))) t t (d .children)
-      (nodeCount bs) code i number a b
+  pub binary-given : {v w code place number a b : ℕ} {u : Tab} → d .kind ≡ 23 → v ≡ getD st sp 0 → w ≡ getD st (sp + 1) 0
+      → Operated t u v w i (d .arg) code place number a b
+      → Given (namesOf bs) (operandRule (d .kind) (d .arg) i (suc i) (stopOf (nodesOf bs) (suc i)) (map (denote t) (take (d .children) (drop sp st)))) t u (d .children)
+      (nodeCount bs) code place number a b
   binary-given k e g f =
       let h : 0 < d .children = omega (arith, x .binary k .1) in
       let l : 1 < d .children = omega (arith, x .binary k .1) in
-      decides-given (d .children) (nodeCount bs) (x .listed .wf) (x .there)
-      (decides-as (binary-rule _ _ _ _ _ _ _ _ k (first-is h e) (second-is l g))
-      (f .says (namesOf bs) t i refl (x .listed .wf) (first-known h e) (second-known l g)))
+      given-wider (d .children) (binary-rule _ _ _ _ _ _ _ _ k (first-is h e) (second-is l g)) (f .says (namesOf bs) (nodeCount bs) (x .there))
 
   pub tuple-given : {code number : ℕ} {u : Tab} (place a b : ℕ) → d .kind ≡ 28 → code ≡ 0
       → Made t u number (tuple (tys (map (denote t) (take (d .children) (drop sp st))))) (d .children)

@@ -119,7 +119,7 @@ variable-of {fs} {top} {x} {cell} {r} e z s = record {
 
 module _ {t : Tab} {st : List ℕ} {sp q : ℕ} (x : Listed t st sp q) where
   pub types-many : length (map (denote t) (take q (drop sp st))) ≡ q
-  types-many = simp (length-map, length-take, length-drop) (omega (arith, x .inside, x .long))
+  types-many = simp (length-map, length-take, length-drop) (omega (arith, x .inside))
 
   pub types-at : (j : ℕ) → j < q → getD (map (denote t) (take q (drop sp st))) j unknown ≡ denote t (getD st (sp + j) 0)
   types-at j h =

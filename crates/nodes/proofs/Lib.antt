@@ -1,7 +1,8 @@
--- Laws, Operating and Calling are what callers cite.
+-- Laws, Operating, Deciding, Calling and Noting are what callers cite.
 pub mod Laws
 pub mod Operating
+pub mod Deciding
 pub mod Calling
+pub mod Noting
 mod Arguing
 mod Choosing
-mod Deciding

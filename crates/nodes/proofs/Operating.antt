@@ -78,8 +78,8 @@ module _ {N : ℕ} {ds : List Node} (s : Nested N ds) (i : ℕ) (h : i < length 
 
 -- what `decide` asks of a node of a sound image
 pub decidable : {bs : List ℕ} {nodes : ℕ} {t : Tab} {st : List ℕ} {sp i : ℕ} {d : Node} → Sound bs → nodes ≡ nodesFrom bs → i < nodeCount bs
-    → d ≡ nodeOf (nodesOf bs) i → Listed t st sp (d .children) → Decidable bs nodes t st sp i d
-decidable {bs} {i = i} {d = d} s n h e l =
+    → d ≡ nodeOf (nodesOf bs) i → Listed t st sp (d .children) → length st ≡ 2048 → Decidable bs nodes t st sp i d
+decidable {bs} {i = i} {d = d} s n h e l m =
     let nested = sound-nested s in
     let many = nodes-many bs in
     let inside : i < length (nodesOf bs) = omega arith in
@@ -89,6 +89,7 @@ decidable {bs} {i = i} {d = d} s n h e l =
       there = h;
       node = e;
       listed = l;
+      stack = m;
       unary = λ k. rw (← e) at (unary-node nested i inside (rw (← e) k));
       binary = λ k. rw (← e) at (binary-node nested i inside (rw (← e) k));
       index = λ k. rw (← e, many) at (index-node nested i inside (rw (← e) k));

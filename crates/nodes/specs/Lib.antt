@@ -1,3 +1,4 @@
 pub mod Giving
+pub mod Notes
 pub mod Operands
 pub mod Planning

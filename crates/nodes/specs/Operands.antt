@@ -2,19 +2,22 @@
 use mathlib.Core.Path.{_≡_}
 use mathlib.Core.List.{List, [], _∷_}
 use Prim.Native.Nat.{ℕ, suc, _<_}
-use lib.ListN.{getD}
+use lib.ListN.{length, getD}
 use Rattle.meaning.specs.Base.{choose}
 use Rattle.meaning.specs.Types.{Ty, unknown, tuple, tys}
-use Rattle.meaning.specs.Image.{nodeCount, nodesFrom, nodesOf, nodeOf}
+use Rattle.meaning.specs.Image.{Name, nodeCount, nodesFrom, nodesOf, nodeOf}
 use Rattle.meaning.specs.Image.{Node as ImageNode}
 use Rattle.meaning.specs.Decode.{unaryOf, binaryOf, stopOf}
 use Rattle.meaning.specs.Frames.{lookup}
 use Rattle.meaning.specs.Operators.{Checked, ok, unaryRule, binaryRule}
 use Rattle.meaning.specs.Rules.{indexRule}
 use Rattle.meaning.proofs.Faults.{Headed}
-use Rattle.types.specs.Table.{Tab, Wf, Means}
+use Rattle.types.specs.Table.{Tab, Wf, Means, denote}
 use Rattle.types.specs.Steps.{Listed}
 use Rattle.frames.specs.Env.{Rows, framesOf, Fit}
+use Rattle.rules.specs.Leaves.{Indexed, indexPlace}
+use Rattle.nodes.specs.Giving.{Given}
+use Rattle.nodes.specs.Notes.{Answered}
 
 -- the number of a Literal's type
 unfoldable pub literalNumber : ℕ → ℕ
@@ -42,6 +45,30 @@ pub record Decidable (bs : List ℕ) (nodes : ℕ) (t : Tab) (st : List ℕ) (sp
   pub there : i < nodeCount bs
   pub node : d ≡ nodeOf (nodesOf bs) i
   pub listed : Listed t st sp (d .children)
+  pub stack : length st ≡ 2048
   pub unary : d .kind ≡ 22 → (d .arg < 3) × (d .children ≡ 1)
   pub binary : d .kind ≡ 23 → (d .arg < 14) × (d .children ≡ 2)
   pub index : d .kind ≡ 31 → (d .children ≡ 2) × (suc i < nodeCount bs) × (stopOf (nodesOf bs) (suc i) < nodeCount bs)
+
+-- an Index whose object is at m and whose index is at n: what the rule decides is what was answered
+pub record IndexedAt (cs : List ℕ) (object key m n : ℕ) (ns ms : List ℕ) (r : ℕ) : Type 0 where
+  pub code : ℕ
+  pub number : ℕ
+  pub a : ℕ
+  pub b : ℕ
+  pub says : Indexed cs object key code number a b
+  pub answered : Answered ns ms r code (indexPlace code m n) number a b
+
+-- ---- a Binary at node n, by the types of its operands
+
+pub record Operable (t : Tab) (left right n arg : ℕ) : Type 0 where
+  pub wf : Wf t
+  pub first : left < t.n
+  pub second : right < t.n
+  pub node : n < 2048
+  pub operator : arg < 14
+
+-- whatever the names and the number of nodes
+pub record Operated (t u : Tab) (left right n arg code place number a b : ℕ) : Type 0 where
+  pub says : (ws : List Name) (M : ℕ) → n < M
+      → Given ws (binaryRule n (binaryOf arg) (denote t left) (denote t right)) t u 0 M code place number a b

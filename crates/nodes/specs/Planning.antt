@@ -54,6 +54,6 @@ argumentRule k n ts =
     ∷ [])
 
 -- the types of the arguments that rule k looks at stand on the stack from sp on; whatever the names and the number of nodes
-pub record Argued (t : Tab) (st : List ℕ) (sp k look n code place number a b : ℕ) : Type 0 where
+pub record Argued (t u : Tab) (st : List ℕ) (sp k look n code place number a b : ℕ) : Type 0 where
   pub says : (ws : List Name) (M : ℕ) → n < M
-      → Given ws (argumentRule k n (map (denote t) (take look (drop sp st)))) t t 0 M code place number a b
+      → Given ws (argumentRule k n (map (denote t) (take look (drop sp st)))) t u 0 M code place number a b

@@ -4,15 +4,15 @@ ghost use mathlib.Core.List.{map};
 ghost use Prim.Native.Nat.{suc, _<_, _≤_};
 ghost use lib.ListN.{length, getD, take, drop};
 ghost use Rattle.meaning.specs.Types.{list, dict, tuple, tys};
-ghost use Rattle.meaning.specs.Image.{nameCount, nodeCount, nodesFrom, nodesOf, namesOf};
+ghost use Rattle.meaning.specs.Image.{nameCount, nodeCount, nodesFrom, nodesOf, nodeOf, namesOf};
 ghost use Rattle.meaning.specs.Decode.{stopOf};
 ghost use Rattle.meaning.proofs.Faults.{Headed, Sound};
-ghost use Rattle.types.specs.Table.{tab, denote, Made};
+ghost use Rattle.types.specs.Table.{denote, Made};
 ghost use Rattle.types.specs.Steps.{Listed};
-ghost use Rattle.rules.specs.Leaves.{Known, Asks, Indexed, indexPlace};
-ghost use Rattle.image.specs.Parts.{nodeMeans};
+ghost use Rattle.rules.specs.Leaves.{Known, Asks, indexPlace};
 ghost use Rattle.nodes.specs.Giving.{Given};
-ghost use Rattle.nodes.specs.Operands.{literalNumber, Variable, operandRule, Decidable};
+ghost use Rattle.nodes.specs.Notes.{typesIn, elementsIn, codeIn, placeIn, firstIn, secondIn, tabIn, verdict, Noting, Kept, Counted, Refused, Answered};
+ghost use Rattle.nodes.specs.Operands.{literalNumber, Variable, operandRule, Decidable, IndexedAt, Operable, Operated};
 ghost use Rattle.nodes.specs.Planning.{countCode, Planned, lookedAt, Argued};
 use frames::lookup;
 use image::Node;
@@ -32,45 +32,80 @@ use types::Counts;
 use types::form;
 use types::tuple_of;
 
-// Code 0 and the number of the type, or the code of a refusal, its node, and the numbers that its message needs; and the counts of the
-// table that has the types.
-pub struct Value {
-    pub code: u32,
-    pub place: usize,
-    pub number: usize,
-    pub a: usize,
-    pub b: usize,
-    pub counts: Counts,
+// ---- what is noted while a program is walked: specs/Notes
+
+// A cell of the notes.
+pub fn noted(notes: &[u32; 8], at: usize) -> usize
+    requires { ⌜ at < 8 ⌝ }
+    ensures { λ r. ⌜ r ≡ getD (now (notes .entry)) at 0 ⌝ }
+{
+    full(notes[at])
 }
 
-// ---- what a node gives
-
-// A type that a table has.
-pub fn given(number: usize, counts: Counts) -> Value
-    ensures { λ r. ⌜ (r .code ≡ 0) × (r .number ≡ number) × (r .counts ≡ counts) ⌝ }
+fn full(x: u32) -> usize
+    ensures { λ r. ⌜ r ≡ x ⌝ }
 {
-    Value {
-        code: 0,
-        place: 0,
-        number,
-        a: 0,
-        b: 0,
-        counts,
+    x as usize
+}
+
+// A number as a cell has it.
+pub fn small(n: usize) -> u32
+    requires { ⌜ n < 4294967296 ⌝ }
+    ensures { λ r. ⌜ r ≡ n ⌝ }
+{
+    n as u32
+}
+
+// The same where it fits: what no message names may be any number.
+fn fitted(n: usize) -> u32
+    ensures { λ r. ⌜ (n < 4294967296 → r ≡ n) ⌝ }
+{
+    if n < 4294967296 {
+        return n as u32;
     }
+    0
+}
+
+// The counts of the table.
+pub fn counts_of(notes: &[u32; 8]) -> Counts
+    ensures { λ r. ⌜ (r .types ≡ typesIn (now (notes .entry))) × (r .elements ≡ elementsIn (now (notes .entry))) ⌝ }
+{
+    Counts {
+        types: full(notes[0]),
+        elements: full(notes[1]),
+    }
+}
+
+pub fn keep(notes: &mut [u32; 8], counts: Counts)
+    requires { ⌜ Noting (now notes) ⌝ }
+    requires { ⌜ (counts .types < 4294967296) × (counts .elements < 4294967296) ⌝ }
+    ensures { λ _. ⌜ Counted (now (notes .entry)) (now (notes .exit)) (counts .types) (counts .elements) ⌝ }
+{
+    notes[0] = small(counts.types);
+    notes[1] = small(counts.elements);
+}
+
+// A refusal.
+pub fn refused(notes: &mut [u32; 8], code: u32, place: usize, a: usize, b: usize) -> usize
+    requires { ⌜ Noting (now notes) ⌝ }
+    ensures { λ r. ⌜ Refused (now (notes .entry)) (now (notes .exit)) r code place a b ⌝ }
+{
+    notes[2] = code;
+    notes[3] = fitted(place);
+    notes[4] = fitted(a);
+    notes[5] = fitted(b);
+    65535
 }
 
 // What a decision gives at a node.
-pub fn decided(d: Decision, place: usize, counts: Counts) -> Value
-    ensures { λ r. ⌜ (r .code ≡ d .code) × (r .place ≡ place) × (r .number ≡ d .number) × (r .a ≡ d .a) × (r .b ≡ d .b) × (r .counts ≡ counts) ⌝ }
+pub fn decided(notes: &mut [u32; 8], d: Decision, place: usize) -> usize
+    requires { ⌜ Noting (now notes) ⌝ }
+    ensures { λ r. ⌜ Answered (now (notes .entry)) (now (notes .exit)) r (d .code) place (d .number) (d .a) (d .b) ⌝ }
 {
-    Value {
-        code: d.code,
-        place,
-        number: d.number,
-        a: d.a,
-        b: d.b,
-        counts,
+    if d.code != 0 {
+        return refused(notes, d.code, place, d.a, d.b);
     }
+    d.number
 }
 
 // ---- the stack
@@ -129,48 +164,36 @@ pub fn stop_of(image: &[u8], nodes: usize, at: usize) -> usize
 
 // ---- List and Dict
 
-pub fn list_of(table: &mut [u16; 10272], counts: Counts, element: usize) -> Value
-    requires { ⌜ Asks (tab (now table) (counts .types) (counts .elements)) element ⌝ }
-    ensures { λ r. ⌜ r .code ≡ 0 ⌝ }
-    ensures { λ r. ⌜ Made (tab (now (table .entry)) (counts .types) (counts .elements))
-        (tab (now (table .exit)) (r .counts .types) (r .counts .elements))
-        (r .number)
-        (list (denote (tab (now (table .entry)) (counts .types) (counts .elements)) element))
+pub fn list_of(table: &mut [u16], notes: &mut [u32; 8], element: usize) -> usize
+    requires { ⌜ Noting (now notes) ⌝ }
+    requires { ⌜ Asks (tabIn (now table) (now notes)) element ⌝ }
+    ensures { λ r. ⌜ Made (tabIn (now (table .entry)) (now (notes .entry)))
+        (tabIn (now (table .exit)) (now (notes .exit)))
+        r
+        (list (denote (tabIn (now (table .entry)) (now (notes .entry))) element))
         0 ⌝ }
+    ensures { λ r. ⌜ Kept (now (notes .entry)) (now (notes .exit)) r ⌝ }
 {
-    let formed = form(table, counts, 8, element, 0);
-    let after = formed.counts;
-    Value {
-        code: 0,
-        place: 0,
-        number: formed.number,
-        a: 0,
-        b: 0,
-        counts: after,
-    }
+    let formed = form(table, counts_of(notes), 8, element, 0);
+    keep(notes, formed.counts);
+    formed.number
 }
 
-pub fn dict_of(table: &mut [u16; 10272], counts: Counts, key: usize, value: usize) -> Value
-    requires { ⌜ Asks (tab (now table) (counts .types) (counts .elements)) key ⌝ }
-    requires { ⌜ Asks (tab (now table) (counts .types) (counts .elements)) value ⌝ }
-    ensures { λ r. ⌜ r .code ≡ 0 ⌝ }
-    ensures { λ r. ⌜ Made (tab (now (table .entry)) (counts .types) (counts .elements))
-        (tab (now (table .exit)) (r .counts .types) (r .counts .elements))
-        (r .number)
-        (dict (denote (tab (now (table .entry)) (counts .types) (counts .elements)) key)
-        (denote (tab (now (table .entry)) (counts .types) (counts .elements)) value))
+pub fn dict_of(table: &mut [u16], notes: &mut [u32; 8], key: usize, value: usize) -> usize
+    requires { ⌜ Noting (now notes) ⌝ }
+    requires { ⌜ Asks (tabIn (now table) (now notes)) key ⌝ }
+    requires { ⌜ Asks (tabIn (now table) (now notes)) value ⌝ }
+    ensures { λ r. ⌜ Made (tabIn (now (table .entry)) (now (notes .entry)))
+        (tabIn (now (table .exit)) (now (notes .exit)))
+        r
+        (dict (denote (tabIn (now (table .entry)) (now (notes .entry))) key)
+        (denote (tabIn (now (table .entry)) (now (notes .entry))) value))
         0 ⌝ }
+    ensures { λ r. ⌜ Kept (now (notes .entry)) (now (notes .exit)) r ⌝ }
 {
-    let formed = form(table, counts, 9, key, value);
-    let after = formed.counts;
-    Value {
-        code: 0,
-        place: 0,
-        number: formed.number,
-        a: 0,
-        b: 0,
-        counts: after,
-    }
+    let formed = form(table, counts_of(notes), 9, key, value);
+    keep(notes, formed.counts);
+    formed.number
 }
 
 // ---- nodes whose children are all checked first
@@ -187,110 +210,100 @@ fn index_place(code: u32, object: usize, index: usize) -> usize
 
 // The Tuple of the n types on the stack from sp on.
 fn tupled(
-    table: &mut [u16; 10272],
-    counts: Counts,
+    table: &mut [u16],
+    notes: &mut [u32; 8],
     stack: &[u16; 2048],
     sp: usize,
     n: usize,
-) -> Value
-    requires { ⌜ Listed (tab (now table) (counts .types) (counts .elements)) (now stack) sp n ⌝ }
-    ensures { λ r. ⌜ r .code ≡ 0 ⌝ }
-    ensures { λ r. ⌜ Made (tab (now (table .entry)) (counts .types) (counts .elements))
-        (tab (now (table .exit)) (r .counts .types) (r .counts .elements))
-        (r .number)
-        (tuple (tys (map (denote (tab (now (table .entry)) (counts .types) (counts .elements)))
+) -> usize
+    requires { ⌜ Noting (now notes) ⌝ }
+    requires { ⌜ Listed (tabIn (now table) (now notes)) (now stack) sp n ⌝ }
+    ensures { λ r. ⌜ Made (tabIn (now (table .entry)) (now (notes .entry)))
+        (tabIn (now (table .exit)) (now (notes .exit)))
+        r
+        (tuple (tys (map (denote (tabIn (now (table .entry)) (now (notes .entry))))
         (take n (drop sp (now (stack .entry)))))))
         n ⌝ }
+    ensures { λ r. ⌜ Kept (now (notes .entry)) (now (notes .exit)) r ⌝ }
 {
-    let formed = tuple_of(table, counts, stack, sp, n);
-    let after = formed.counts;
-    Value {
-        code: 0,
-        place: 0,
-        number: formed.number,
-        a: 0,
-        b: 0,
-        counts: after,
-    }
+    let formed = tuple_of(table, counts_of(notes), stack, sp, n);
+    keep(notes, formed.counts);
+    formed.number
 }
 
 // What the types of an object and an index give, at their nodes m and n.
 fn indexed(
-    table: &[u16; 10272],
-    counts: Counts,
+    table: &[u16],
+    notes: &mut [u32; 8],
     object: usize,
     key: usize,
     m: usize,
     n: usize,
-) -> Value
+) -> usize
+    requires { ⌜ Noting (now notes) ⌝ }
     requires { ⌜ Known (now table) object ⌝ }
-    ensures { λ r. ⌜ r .counts ≡ counts ⌝ }
-    ensures { λ r. ⌜ Indexed (now (table .entry)) object key (r .code) (r .number) (r .a) (r .b) ⌝ }
-    ensures { λ r. ⌜ r .place ≡ indexPlace (r .code) m n ⌝ }
+    ensures { λ r. ⌜ IndexedAt (now (table .entry)) object key m n (now (notes .entry)) (now (notes .exit)) r ⌝ }
 {
     let d = index(table, object, key);
-    decided(d, index_place(d.code, m, n), counts)
+    decided(notes, d, index_place(d.code, m, n))
 }
 
-// What a Binary at node `at` gives, its operands' types on the stack from sp on.
+// What a Binary at node `at` gives for the types of its operands.
 pub fn operated(
-    image: &[u8],
-    nodes: usize,
-    table: &[u16; 10272],
-    counts: Counts,
-    stack: &[u16; 2048],
-    sp: usize,
+    table: &[u16],
+    notes: &mut [u32; 8],
+    left: usize,
+    right: usize,
     at: usize,
-    node: Node,
-) -> Value
-    requires { ⌜ Decidable (now image) nodes (tab (now table) (counts .types) (counts .elements)) (now stack) sp at (nodeMeans node) ⌝ }
-    requires { ⌜ node .kind ≡ 23 ⌝ }
-    ensures { λ r. ⌜ r .counts ≡ counts ⌝ }
-    ensures { λ r. ⌜ Given (namesOf (now (image .entry)))
-        (operandRule (node .kind) (node .arg) at (suc at) (stopOf (nodesOf (now (image .entry))) (suc at))
-        (map (denote (tab (now (table .entry)) (counts .types) (counts .elements))) (take (node .children) (drop sp (now (stack .entry))))))
-        (tab (now (table .entry)) (counts .types) (counts .elements))
-        (tab (now (table .entry)) (counts .types) (counts .elements))
-        (node .children) (nodeCount (now (image .entry))) (r .code) (r .place) (r .number) (r .a) (r .b) ⌝ }
+    arg: u32,
+) -> usize
+    requires { ⌜ Noting (now notes) ⌝ }
+    requires { ⌜ Operable (tabIn (now table) (now notes)) left right at arg ⌝ }
+    ensures { λ r. ⌜ Operated (tabIn (now (table .entry)) (now (notes .entry))) (tabIn (now (table .entry)) (now (notes .exit))) left right at arg
+        (verdict r (now (notes .exit))) (placeIn (now (notes .exit))) r (firstIn (now (notes .exit))) (secondIn (now (notes .exit))) ⌝ }
+    ensures { λ r. ⌜ Kept (now (notes .entry)) (now (notes .exit)) r ⌝ }
 {
-    let left = type_at(stack, sp);
-    let right = type_at(stack, sp + 1);
-    decided(binary(table, node.arg, left, right), at, counts)
+    decided(notes, binary(table, arg, left, right), at)
 }
 
 // What node `at` gives, its children's types on the stack from sp on.
 pub fn decide(
     image: &[u8],
     nodes: usize,
-    table: &mut [u16; 10272],
-    counts: Counts,
+    table: &mut [u16],
+    notes: &mut [u32; 8],
     stack: &[u16; 2048],
     sp: usize,
     at: usize,
-    node: Node,
-) -> Value
-    requires { ⌜ Decidable (now image) nodes (tab (now table) (counts .types) (counts .elements)) (now stack) sp at (nodeMeans node) ⌝ }
+) -> usize
+    requires { ⌜ Noting (now notes) ⌝ }
+    requires { ⌜ Decidable (now image) nodes (tabIn (now table) (now notes)) (now stack) sp at (nodeOf (nodesOf (now image)) at) ⌝ }
+    requires { ⌜ (nodeOf (nodesOf (now image)) at .kind ≡ 23 → ⊥) ⌝ }
     ensures { λ r. ⌜ Given (namesOf (now (image .entry)))
-        (operandRule (node .kind) (node .arg) at (suc at) (stopOf (nodesOf (now (image .entry))) (suc at))
-        (map (denote (tab (now (table .entry)) (counts .types) (counts .elements))) (take (node .children) (drop sp (now (stack .entry))))))
-        (tab (now (table .entry)) (counts .types) (counts .elements))
-        (tab (now (table .exit)) (r .counts .types) (r .counts .elements))
-        (node .children) (nodeCount (now (image .entry))) (r .code) (r .place) (r .number) (r .a) (r .b) ⌝ }
+        (operandRule (nodeOf (nodesOf (now (image .entry))) at .kind) (nodeOf (nodesOf (now (image .entry))) at .arg) at (suc at)
+        (stopOf (nodesOf (now (image .entry))) (suc at))
+        (map (denote (tabIn (now (table .entry)) (now (notes .entry))))
+        (take (nodeOf (nodesOf (now (image .entry))) at .children) (drop sp (now (stack .entry))))))
+        (tabIn (now (table .entry)) (now (notes .entry)))
+        (tabIn (now (table .exit)) (now (notes .exit)))
+        (nodeOf (nodesOf (now (image .entry))) at .children) (nodeCount (now (image .entry)))
+        (verdict r (now (notes .exit))) (placeIn (now (notes .exit))) r (firstIn (now (notes .exit))) (secondIn (now (notes .exit))) ⌝ }
+    ensures { λ r. ⌜ Kept (now (notes .entry)) (now (notes .exit)) r ⌝ }
 {
+    let node = node_at(image, nodes, at);
     let kind = node.kind;
     match kind {
-        22 => decided(unary(table, node.arg, type_at(stack, sp)), at, counts),
-        23 => operated(image, nodes, table, counts, stack, sp, at, node),
-        28 => tupled(table, counts, stack, sp, node.children as usize),
+        22 => decided(notes, unary(table, node.arg, type_at(stack, sp)), at),
+        28 => tupled(table, notes, stack, sp, node.children as usize),
         31 => indexed(
             table,
-            counts,
+            notes,
             type_at(stack, sp),
             type_at(stack, sp + 1),
             at + 1,
             stop_of(image, nodes, at + 1),
         ),
-        _ => given(0, counts),
+        _ => 0,
     }
 }
 
@@ -356,34 +369,35 @@ pub fn looked(rule: u32, count: usize) -> usize
 
 // What a rule gives at node `at`, the types of the arguments that it looks at on the stack from sp on.
 pub fn argued(
-    table: &[u16; 10272],
-    counts: Counts,
+    table: &[u16],
+    notes: &mut [u32; 8],
     stack: &[u16; 2048],
     sp: usize,
     rule: u32,
     look: usize,
     at: usize,
-) -> Value
-    requires { ⌜ Listed (tab (now table) (counts .types) (counts .elements)) (now stack) sp look ⌝ }
-    requires { ⌜ (rule ≡ 7 → look ≡ 1) ⌝ }
-    ensures { λ r. ⌜ r .counts ≡ counts ⌝ }
-    ensures { λ r. ⌜ Argued (tab (now (table .entry)) (counts .types) (counts .elements)) (now (stack .entry)) sp rule look at
-        (r .code) (r .place) (r .number) (r .a) (r .b) ⌝ }
+) -> usize
+    requires { ⌜ Noting (now notes) ⌝ }
+    requires { ⌜ Listed (tabIn (now table) (now notes)) (now stack) sp look ⌝ }
+    requires { ⌜ (rule ≡ 7 → look ≡ 1) × (length (now stack) ≡ 2048) × (at < 2048) ⌝ }
+    ensures { λ r. ⌜ Argued (tabIn (now (table .entry)) (now (notes .entry))) (tabIn (now (table .entry)) (now (notes .exit))) (now (stack .entry)) sp rule look at
+        (verdict r (now (notes .exit))) (placeIn (now (notes .exit))) r (firstIn (now (notes .exit))) (secondIn (now (notes .exit))) ⌝ }
+    ensures { λ r. ⌜ Kept (now (notes .entry)) (now (notes .exit)) r ⌝ }
 {
     match rule {
-        1 => given(5, counts),
+        1 => 5,
         2 => {
             if look == 1 {
-                return decided(prompt(type_at(stack, sp)), at, counts);
+                return decided(notes, prompt(type_at(stack, sp)), at);
             }
-            given(3, counts)
+            3
         }
-        3 => given(1, counts),
-        4 => given(4, counts),
-        5 => given(2, counts),
-        6 => given(3, counts),
-        7 => decided(len(table, type_at(stack, sp)), at, counts),
-        9 => given(5, counts),
-        _ => given(0, counts),
+        3 => 1,
+        4 => 4,
+        5 => 2,
+        6 => 3,
+        7 => decided(notes, len(table, type_at(stack, sp)), at),
+        9 => 5,
+        _ => 0,
     }
 }

@@ -9,12 +9,16 @@ use Rattle.meaning.specs.Image.{Name, nameOf, takes}
 use Rattle.meaning.specs.Message.{aType, aText, aNumber, refusal}
 use Rattle.meaning.specs.Rules.{described}
 use Rattle.meaning.specs.Operators.{Checked, ok, refused}
-use Rattle.types.specs.Table.{Tab, Wf, denote}
+use Rattle.types.specs.Table.{Tab, capacity, Wf, denote}
 use Rattle.rules.specs.Outcome.{typesNamed, taken, pieces, decided, Decides}
 use Rattle.rules.specs.Leaves.{Known}
 
 pub known : {t : Tab} {i : ℕ} → Wf t → i < t.n → Known t.cells i
 known {t} w h = record { table = t; cells = refl; wf = w; below = h }
+
+-- what the readers ask of a number
+pub known-room : {cs : List ℕ} {i : ℕ} → Known cs i → i < capacity cs
+known-room {cs} {i} k = let h : i < capacity (k .table .cells) = omega (arith, k .below, k .wf .room) in rw (k .cells) at h
 
 -- ---- a decision's meaning, by its code
 

@@ -12,7 +12,7 @@ use Rattle.meaning.specs.Image.{Name}
 use Rattle.meaning.specs.Message.{aType, refusal}
 use Rattle.meaning.specs.Operators.{Checked, ok, refused, when}
 use Rattle.meaning.specs.Rules.{Children, listRule, joined, dictRule, streamed, indexRule}
-use Rattle.types.specs.Table.{Tab, Wf, denote, Made}
+use Rattle.types.specs.Table.{Tab, capacity, Wf, denote, Made}
 use Rattle.types.specs.Reading.{perhaps}
 use Rattle.rules.specs.Outcome.{typesNamed, Decides}
 
@@ -119,7 +119,7 @@ secondRule filters n b =
 -- type i is known, and there is room for one type more
 pub record Asks (t : Tab) (i : ℕ) : Type 0 where
   pub wf : Wf t
-  pub room : t.n < 2056
+  pub room : t.n < capacity t.cells
   pub below : i < t.n
 
 -- u is the table t with the type that the decision gives, or t itself where it gives none

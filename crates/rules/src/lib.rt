@@ -5,7 +5,7 @@ ghost use Prim.Native.Nat.{_<_};
 ghost use Rattle.meaning.specs.Base.{isIn};
 ghost use Rattle.meaning.specs.Decode.{unaryOf, binaryOf};
 ghost use Rattle.meaning.specs.Operators.{unaryRule, binaryRule};
-ghost use Rattle.types.specs.Table.{tab, denote, Made};
+ghost use Rattle.types.specs.Table.{tab, capacity, denote, Made};
 ghost use Rattle.types.specs.Reading.{IsNumber};
 ghost use Rattle.rules.specs.Outcome.{typesNamed};
 ghost use Rattle.rules.specs.Builtins.{builtinNumber};
@@ -34,7 +34,7 @@ pub struct Decision {
 
 // ---- operators
 
-pub fn unary(table: &[u16; 10272], op: u32, i: usize) -> Decision
+pub fn unary(table: &[u16], op: u32, i: usize) -> Decision
     requires { ⌜ op < 3 ⌝ }
     requires { ⌜ Known (now table) i ⌝ }
     ensures { λ r. ⌜ OfOne (now (table .entry)) (λ n. unaryRule n (unaryOf op)) i (r .code) (r .number) (r .a) (r .b) ⌝ }
@@ -58,7 +58,7 @@ pub fn unary(table: &[u16; 10272], op: u32, i: usize) -> Decision
 }
 
 // Answer 8 asks whether the whole types are equal: their numbers tell.
-pub fn binary(table: &[u16; 10272], op: u32, left: usize, right: usize) -> Decision
+pub fn binary(table: &[u16], op: u32, left: usize, right: usize) -> Decision
     requires { ⌜ op < 14 ⌝ }
     requires { ⌜ (Known (now table) left) × (Known (now table) right) ⌝ }
     ensures { λ r. ⌜ OfTwo (now (table .entry)) (λ n. binaryRule n (binaryOf op)) left right (r .code) (r .number) (r .a) (r .b) ⌝ }
@@ -242,8 +242,8 @@ fn has_length(kind: usize) -> bool
 }
 
 // The first argument of `len`.
-pub fn len(table: &[u16; 10272], a: usize) -> Decision
-    requires { ⌜ a < 2056 ⌝ }
+pub fn len(table: &[u16], a: usize) -> Decision
+    requires { ⌜ a < capacity (now table) ⌝ }
     ensures { λ r. ⌜ OfOne (now (table .entry)) sizedRule a (r .code) (r .number) (r .a) (r .b) ⌝ }
 {
     let kind = kind_of(table, a);
@@ -292,7 +292,7 @@ fn key(wanted: usize, i: usize, value: usize) -> Decision
     }
 }
 
-pub fn index(table: &[u16; 10272], object: usize, index: usize) -> Decision
+pub fn index(table: &[u16], object: usize, index: usize) -> Decision
     requires { ⌜ Known (now table) object ⌝ }
     ensures { λ r. ⌜ Indexed (now (table .entry)) object index (r .code) (r .number) (r .a) (r .b) ⌝ }
 {
@@ -320,7 +320,7 @@ pub fn index(table: &[u16; 10272], object: usize, index: usize) -> Decision
 // ---- the second argument of map and filter
 
 // What a walk over a value of type i gives: "map refuses Dict and Tuple", and filter does as map.
-fn streamed_of(table: &[u16; 10272], i: usize) -> Perhaps
+fn streamed_of(table: &[u16], i: usize) -> Perhaps
     requires { ⌜ IsNumber (now table) i ⌝ }
     ensures { λ r. ⌜ StreamedOf (now (table .entry)) i (r .there) (r .number) ⌝ }
 {
@@ -348,7 +348,7 @@ fn second_code(filters: bool) -> u32
 }
 
 // The FilterIter of an element type, or the MapIter of Unknown.
-fn iterator(table: &mut [u16; 10272], counts: Counts, filters: bool, element: usize) -> Formed
+fn iterator(table: &mut [u16], counts: Counts, filters: bool, element: usize) -> Formed
     requires { ⌜ Asks (tab (now table) (counts .types) (counts .elements)) element ⌝ }
     ensures { λ r. ⌜ Made (tab (now (table .entry)) (counts .types) (counts .elements))
         (tab (now (table .exit)) (r .counts .types) (r .counts .elements))
@@ -368,7 +368,7 @@ pub struct Streamed {
     pub counts: Counts,
 }
 
-pub fn stream(table: &mut [u16; 10272], counts: Counts, filters: bool, b: usize) -> Streamed
+pub fn stream(table: &mut [u16], counts: Counts, filters: bool, b: usize) -> Streamed
     requires { ⌜ Asks (tab (now table) (counts .types) (counts .elements)) b ⌝ }
     ensures { λ r. ⌜ Streams (tab (now (table .entry)) (counts .types) (counts .elements))
         (tab (now (table .exit)) (r .counts .types) (r .counts .elements))

@@ -15,9 +15,10 @@ use Rattle.meaning.proofs.SheetWords.{words-length, laid-length}
 use Rattle.meaning.proofs.SheetTypes.{Known, Ordered, number-plain, number-le}
 use Rattle.words.specs.Words.{putAt}
 use Rattle.words.proofs.Laws.{put-nil, put-put, put-length, words-append}
-use Rattle.types.specs.Table.{Tab, tab, kindAt, firstAt, secondAt, denote, Wf}
+use Rattle.types.specs.Table.{Tab, tab, capacity, kindAt, firstAt, secondAt, denote, Wf}
 use Rattle.types.specs.Reading.{PartOf}
 use Rattle.types.proofs.Laws.{kind-of, parts-many}
+use Rattle.types.proofs.Readers.{in-room, is-element}
 use Rattle.sheet.specs.Listing.{startAt, lengthAt, typeAt}
 use Rattle.sheet.specs.Marks.{PartAt, HasPart, countIn, tabOf, typesIn, Marked}
 use Rattle.sheet.specs.Writing.{listedSize, listedRecords, listedTexts, ElementsIn, Short, NumberOf, Put, Met, recordBytes, elementBytes, typesBytes, elementsBytes, namesBytes, Named, NamesFit, NamesPut, TextsFit}
@@ -75,7 +76,10 @@ module _ {cs ms : List ℕ} {i : ℕ} (m : Met cs ms i) where
   number-small ty = omega (arith, number-le (typesIn tt₀ ms) ty, types-length (m .marked), m .marked .few)
 
   pub met-small : i < 2056
-  met-small = omega (arith, m .below, m .marked .wf .room)
+  met-small = omega (arith, m .below, m .marked .wf .room, m .marked .wf .most)
+
+  pub met-room : i < capacity cs
+  met-room = in-room (m .marked .wf) i (m .below)
 
   -- the part r of type i is written by its number
   part-number : {r w : ℕ} (j : ℕ) → r < tt₀ .n → denote tt₀ r ≡ part j (denote tt₀ i) → NumberOf ms r w → w ≡ number (typesIn tt₀ ms) (part j (denote tt₀ i))
@@ -111,13 +115,13 @@ module _ {cs ms : List ℕ} {i : ℕ} (m : Met cs ms i) where
       rw (ne-eqb _ _ not-tuple, piece 0, piece 1, kind-of (m .marked .wf) i (m .below), ek, part-number 0 (ma .below) (ma .means) x, part-number 1 (mb .below) (mb .means) y)
 
   pub part-small : {k r s : ℕ} → k ≡ kindAt tt₀ i → (k ≡ 10 → ⊥) → PartOf cs s i r → r < 2056
-  part-small ek n a = omega (arith, a .says tt₀ refl (m .marked .wf) (m .below) (λ z. n (ek ∙ sym (kind-of (m .marked .wf) i (m .below)) ∙ z)) .below, m .marked .wf .room)
+  part-small ek n a = omega (arith, a .says tt₀ refl (m .marked .wf) (m .below) (λ z. n (ek ∙ sym (kind-of (m .marked .wf) i (m .below)) ∙ z)) .below, m .marked .wf .room, m .marked .wf .most)
 
   pub kind-small : {k : ℕ} → k ≡ kindAt tt₀ i → k < 4294967296
   kind-small e = omega (arith, m .marked .wf .low i (m .below) .known)
 
   pub count-small : {k q : ℕ} → k ≡ kindAt tt₀ i → k ≡ 10 → q ≡ secondAt tt₀ i → q < 4294967296
-  count-small ek h e = omega (arith, m .marked .wf .low i (m .below) .inside (sym ek ∙ h), m .marked .wf .space)
+  count-small ek h e = omega (arith, m .marked .wf .low i (m .below) .inside (sym ek ∙ h), m .marked .wf .space, m .marked .wf .most)
 
 pub put-as : {d e : List ℕ} {at : ℕ} {s r : List ℕ} → r ≡ s → Put d e at s → Put d e at r
 put-as e p = rw e p
@@ -135,7 +139,7 @@ pub record TypesLoop (t : Tab) (ms old : List ℕ) (n k from : ℕ) (out : List 
   pub marked : Marked t ms
   pub many : n ≡ countIn ms
   pub passed : k ≤ n
-  pub small : from ≤ 2048 * k
+  pub small : from ≤ 2056 * k
   pub room : 40 + 12 * n ≤ length old
   pub long : length out ≡ length old
   pub left : putAt out (40 + 12 * k) (words (laid (typeRecords (typesIn t ms) from (drop k (typesIn t ms))))) ≡ putAt old 40 (typesBytes t ms)
@@ -162,7 +166,7 @@ module _ {cs ms old : List ℕ} {n k from : ℕ} {out : List ℕ} (l : TypesLoop
   pub types-met : {i : ℕ} → k < n → i ≡ getD ms (2056 + k) 0 → Met cs ms i
   types-met h e = met-at (l .marked) (omega (arith, l .many)) e
 
-  pub types-room : k < n → (from ≤ 4194304) × (40 + 12 * k + 12 ≤ length out)
+  pub types-room : k < n → (from ≤ 4210688) × (40 + 12 * k + 12 ≤ length out)
   types-room h = (omega (arith, l .small, l .many, l .marked .few), omega (arith, l .room, l .long))
 
   pub types-next : {i r : ℕ} {new : List ℕ} → k < n → i ≡ getD ms (2056 + k) 0 → Put out new (40 + 12 * k) (recordBytes (tabOf cs ms) ms from i) → ElementsIn cs i r
@@ -187,7 +191,7 @@ module _ {cs ms old : List ℕ} {n k from : ℕ} {out : List ℕ} (l : TypesLoop
         left = left-next rest (omega (arith, types-room h .1)) p place ∙ ap (putAt out (40 + 12 * k)) (sym split) ∙ l .left;
       }
 
-  pub types-sum : {i r : ℕ} → k < n → i ≡ getD ms (2056 + k) 0 → ElementsIn cs i r → from + r ≤ 4196352
+  pub types-sum : {i r : ℕ} → k < n → i ≡ getD ms (2056 + k) 0 → ElementsIn cs i r → from + r ≤ 4212744
   types-sum h e s = omega (arith, types-room h .0, s .small (tabOf cs ms) refl (l .marked .wf) (types-met h e .below))
 
   pub types-end : (k < n → ⊥) → Put old out 40 (typesBytes (tabOf cs ms) ms)
@@ -225,16 +229,13 @@ module _ {cs ms : List ℕ} {i : ℕ} {old : List ℕ} {at n j : ℕ} {out : Lis
     | no a ↦ absurd (omega (arith, l .many, ap length (elements-none (denote t₁ i) a)))
   ]
 
-  tuple-record : j < n → kindAt t₁ i ≡ 10
-  tuple-record h = sym (kind-of (l .met .marked .wf) i (l .met .below)) ∙ is-tuple h
-
   within-parts : j < n → j < length (parts (denote t₁ i))
   within-parts h = omega (arith, l .many, ap length (elements-tuple (denote t₁ i) (is-tuple h)))
 
   pub parts-place : j < n → HasPart cs i j
   parts-place h = record {
-    number = met-small (l .met);
-    within = λ e. omega (arith, l .met .marked .wf .low i (l .met .below) .inside (tuple-record h), parts-many (l .met .marked .wf) i (l .met .below) (tuple-record h), within-parts h, l .met .marked .wf .space);
+    number = met-room (l .met);
+    within = λ e. is-element (l .met .marked .wf) i (l .met .below) (is-tuple h) (within-parts h);
   }
 
   pub parts-small : {r : ℕ} → j < n → PartAt cs i j r → r < 2056

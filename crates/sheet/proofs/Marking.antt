@@ -146,19 +146,20 @@ module _ (t : Tab) (ms : List ℕ) (i : ℕ) (m : Marked t ms) (below : i < t.n)
         length-map (count 8 (t.n - 8)) (denote t),
         length-count 8 (t.n - 8),
         m .wf .room,
+        m .wf .most,
         m .wf .base,
       )
 
   add-marked : getD ms i 0 ≡ 1 → Ordered [] (us ++ (ty ∷ [])) → Marked t (added ms i)
   add-marked z o =
       let room = room-of o in
-      let small : i < 2056 = omega (arith, m .wf .room) in
+      let small : i < 2056 = omega (arith, m .wf .room, m .wf .most) in
       let long = m .long in
       let e = added-types ms i long small room t in
       let new = m .fresh i below z in
       let c = added-count ms i long small room in
       let other = added-other ms i long small room in
-      let low : (x : ℕ) → x < t.n → (x ≡ i → ⊥) → getD (added ms i) x 0 ≡ getD ms x 0 = λ x h n. other x n (λ a. absurd (omega (arith, m .wf .room))) (λ a. absurd (omega (arith, m .wf .room))) in
+      let low : (x : ℕ) → x < t.n → (x ≡ i → ⊥) → getD (added ms i) x 0 ≡ getD ms x 0 = λ x h n. other x n (λ a. absurd (omega (arith, m .wf .room, m .wf .most))) (λ a. absurd (omega (arith, m .wf .room, m .wf .most))) in
       record {
         wf = m .wf;
         long = added-long ms i long small room;
@@ -200,7 +201,7 @@ module _ (t : Tab) (ms : List ℕ) (i : ℕ) (m : Marked t ms) (below : i < t.n)
 
     pub completing : Completing ms i
     completing = record {
-      number = omega (arith, m .wf .room);
+      number = omega (arith, m .wf .room, m .wf .most);
       long = m .long;
       few = m .few;
       room = λ z. room-of (fresh-ordered z);
@@ -216,6 +217,6 @@ module _ (t : Tab) (ms : List ℕ) (i : ℕ) (m : Marked t ms) (below : i < t.n)
     completed-types = elim (ℕ-discrete (getD ms i 0) 1) [
       | yes z ↦
           rw (completed-new z, add-fresh ty us (m .fresh i below z))
-          (added-types ms i (m .long) (omega (arith, m .wf .room)) (room-of (fresh-ordered z)) t)
+          (added-types ms i (m .long) (omega (arith, m .wf .room, m .wf .most)) (room-of (fresh-ordered z)) t)
       | no n ↦ rw (completed-old n) (sym (add-old ty us (m .known i below n)))
     ]

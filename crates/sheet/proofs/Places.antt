@@ -2,13 +2,14 @@
 use mathlib.Core.Path.{_≡_, refl, sym, ap, _∙_}
 use mathlib.Core.Logic.{_⊎_, inl, inr, ⊎-elim}
 use mathlib.Core.List.{List}
-use Prim.Native.Nat.{ℕ, _+_, _*_, _≤_, _<_}
+use Prim.Native.Nat.{ℕ, _+_, _*_, _%_, _≤_, _<_}
 use native.Mathlib.Omega.{arith}
 use native.Mathlib.Decide.{decLt, ℕ-discrete}
 use lib.ListN.{length, getD}
 use Rattle.meaning.specs.Types.{Ty, list, dict, mapIter, filterIter, kind, plain, parts, part}
 use Rattle.meaning.proofs.Choices.{plain-kind}
-use Rattle.types.specs.Table.{Tab, kindAt, firstAt, secondAt, denote, Wf}
+use Rattle.types.specs.Table.{Tab, kindAt, firstAt, secondAt, denote, Wf, Means}
+use Rattle.types.specs.Reading.{ElementAt}
 use Rattle.types.proofs.Laws.{kind-of, list-is, dict-is, map-is, filter-is, parts-many, plain-number, first-part, second-part, element-part}
 use Rattle.sheet.specs.Marks.{PartsOf, PartAt}
 
@@ -43,6 +44,10 @@ module _ {t : Tab} (w : Wf t) (i : ℕ) (h : i < t.n) where
     ]
   ]
 
+-- a number that means the same as a lower one is that one
+lower-same : {t : Tab} (w : Wf t) {x r i : ℕ} {ty : Ty} → x < i → Means t x ty → Means t r ty → r < i
+lower-same w {x} {r} l m h = omega (arith, w .inj r x (h .below) (m .below) (h .means ∙ sym (m .means)))
+
 -- a cell of the table is one of its cells by any name
 own : (t : Tab) (cs : List ℕ) (x r : ℕ) → t.cells ≡ cs → r ≡ getD cs x 0 → r ≡ getD t.cells x 0
 own t cs x r e h = h ∙ ap (λ (xs : List ℕ). getD xs x 0) (sym e)
@@ -65,28 +70,28 @@ module _ (cs : List ℕ) (i k : ℕ) (ek : k ≡ getD cs (4 * i) 0) where
   pub parts-one : (k ≡ 10 → ⊥) → (k ≡ 9 → ⊥) → PartsOf cs i 1
   parts-one n m = record { says = λ t e w b g. sym (one-part w i b g (own-not t 10 e n) (own-not t 9 e m)) }
 
-  pub part-tuple : (j p r : ℕ) → k ≡ 10 → p ≡ getD cs (4 * i + 1) 0 → r ≡ getD cs (8224 + p + j) 0 → PartAt cs i j r
-  part-tuple j p r h ep er = record {
-    lower = λ t e w b g l. rw (at t e) (w .low i b .elements (own-kind t 10 e h) j (within t e w b l));
-    means = λ t e w b g l. rw (at t e) (element-part w i b j (own-kind t 10 e h) (within t e w b l) .means);
+  pub part-tuple : (j r : ℕ) → k ≡ 10 → ElementAt cs i j r → PartAt cs i j r
+  part-tuple j r h s = record {
+    lower = λ t e w b g l. lower-same w (w .low i b .elements (own-kind t 10 e h) j (within t e w b l)) (element-part w i b j (own-kind t 10 e h) (within t e w b l)) (is t e w b);
+    means = λ t e w b g l. is t e w b .means;
   }
     where
-      at : (t : Tab) → t.cells ≡ cs → r ≡ getD t.cells (8224 + firstAt t i + j) 0
-      at t e = er ∙ rw ep (ap (λ (xs : List ℕ). getD xs (8224 + getD xs (4 * i + 1) 0 + j) 0) (sym e))
+      is : (t : Tab) → t.cells ≡ cs → Wf t → i < t.n → Means t r (part j (denote t i))
+      is t e w b = s .says t e w b (kind-of w i b ∙ own-kind t 10 e h)
 
       within : (t : Tab) (e : t.cells ≡ cs) (w : Wf t) (b : i < t.n) → j < length (parts (denote t i)) → j < secondAt t i
       within t e w b l = omega (arith, parts-many w i b (own-kind t 10 e h))
 
-  pub part-first : (j p : ℕ) → (k ≡ 10 → ⊥) → p ≡ getD cs (4 * i + 1) 0 → j ≡ 0 → PartAt cs i j p
+  part-first : (j p : ℕ) → (k ≡ 10 → ⊥) → p ≡ getD cs (4 * i + 1) 0 → j ≡ 0 → PartAt cs i j p
   part-first j p n ep z = record {
     lower = λ t e w b g l. rw (own t cs (4 * i + 1) p e ep) (w .low i b .first (record-structured w i b g) (own-not t 10 e n));
     means = λ t e w b g l. rw (own t cs (4 * i + 1) p e ep, z) (first-part w i b (own-not t 10 e n) .means);
   }
 
-  pub part-second : (j r : ℕ) → (k ≡ 10 → ⊥) → (j ≡ 0 → ⊥) → r ≡ getD cs (4 * i + 2) 0 → PartAt cs i j r
+  part-second : (j r : ℕ) → (k ≡ 10 → ⊥) → (j ≡ 0 → ⊥) → (j ≡ 1 → r ≡ getD cs (4 * i + 2) 0) → PartAt cs i j r
   part-second j r n z er = record {
-    lower = λ t e w b g l. rw (own t cs (4 * i + 2) r e er) (w .low i b .second (dict-only t e w b g l));
-    means = λ t e w b g l. rw (own t cs (4 * i + 2) r e er, one t e w b g l) (second-part w i b (own-not t 10 e n) .means);
+    lower = λ t e w b g l. rw (own t cs (4 * i + 2) r e (er (one t e w b g l))) (w .low i b .second (dict-only t e w b g l));
+    means = λ t e w b g l. rw (own t cs (4 * i + 2) r e (er (one t e w b g l)), one t e w b g l) (second-part w i b (own-not t 10 e n) .means);
   }
     where
       dict-only : (t : Tab) (e : t.cells ≡ cs) (w : Wf t) (b : i < t.n) → 8 ≤ i → j < length (parts (denote t i)) → kindAt t i ≡ 9
@@ -97,3 +102,10 @@ module _ (cs : List ℕ) (i k : ℕ) (ek : k ≡ getD cs (4 * i) 0) where
 
       one : (t : Tab) (e : t.cells ≡ cs) (w : Wf t) (b : i < t.n) → 8 ≤ i → j < length (parts (denote t i)) → j ≡ 1
       one t e w b g l = omega (arith, two-parts w i b (dict-only t e w b g l))
+
+  -- a type that is no Tuple has one part or two
+  pub part-other : (j r : ℕ) → (k ≡ 10 → ⊥) → r ≡ getD cs (4 * i + 1 + j % 2) 0 → PartAt cs i j r
+  part-other j r n er = elim (ℕ-discrete j 0) [
+    | yes z ↦ let e : 4 * i + 1 + j % 2 ≡ 4 * i + 1 = omega (arith, z) in part-first j r n (rw e at er) z
+    | no z ↦ part-second j r n z (λ o. let e : 4 * i + 1 + j % 2 ≡ 4 * i + 2 = omega (arith, o) in rw e at er)
+  ]

@@ -173,15 +173,14 @@ module _ {bs : List ℕ} {at : ℕ} {xs : List ℕ} {k q j : ℕ} {st : List ℕ
 
 module _ {bs : List ℕ} {at : ℕ} {xs : List ℕ} {k q : ℕ} {t : Tab} (p : Tupling bs at xs k q t) where
   pub tuple-gather : {st : List ℕ} → length st ≡ 2048 → Gathering bs at k q st
-  tuple-gather e = record { few = p .few; many = omega (arith, p .space); long = p .long; short = p .short; size = e }
+  tuple-gather e = record { few = p .few; many = p .many; long = p .long; short = p .short; size = e }
 
   pub tuple-listed : {st : List ℕ} → Gathered bs at (take k xs) q st → Listed t st 0 q
   tuple-listed {st} g = record {
     wf = p .below .wf;
     room = p .room;
     space = p .space;
-    long = g .size;
-    inside = omega (arith, p .space);
+    inside = omega (arith, g .size, p .many);
     known = λ j h.
         rw (zero-add j, ← getD-take q st j 0 h, g .are) (numbers-below (p .below) (wordsAt bs at q) j);
   }

@@ -13,7 +13,7 @@ use Rattle.meaning.specs.Base.{if_then_else_}
 use Rattle.meaning.specs.Types.{Ty, unknown, kind, parts}
 use Rattle.meaning.specs.Sheet.{number, elementsIn, elementsOf}
 use Rattle.meaning.proofs.SheetTypes.{number-plain, number-above}
-use Rattle.types.specs.Table.{Tab, kindAt, firstAt, secondAt, denote, Wf}
+use Rattle.types.specs.Table.{Tab, capacity, kindAt, firstAt, secondAt, denote, Wf}
 use Rattle.types.proofs.Laws.{kind-of, parts-many}
 use Rattle.sheet.specs.Marks.{countIn, tabOf, typesIn, Marked}
 use Rattle.sheet.specs.Writing.{ElementsIn, NumberOf}
@@ -37,7 +37,7 @@ module _ (cs : List ℕ) (i k : ℕ) (ek : k ≡ getD cs (4 * i) 0) where
   pub elements-some : (r : ℕ) → k ≡ 10 → r ≡ getD cs (4 * i + 2) 0 → ElementsIn cs i r
   elements-some r h er = record {
     says = λ t e w b. own t cs (4 * i + 2) r e er ∙ sym (parts-many w i b (is t e)) ∙ ap length (sym (elements-tuple (denote t i) (kind-of w i b ∙ is t e)));
-    small = λ t e w b. omega (arith, own t cs (4 * i + 2) r e er, w .low i b .inside (is t e), w .space);
+    small = λ t e w b. omega (arith, own t cs (4 * i + 2) r e er, w .low i b .inside (is t e), w .space, w .most);
   }
     where
       is : (t : Tab) → t.cells ≡ cs → kindAt t i ≡ 10
@@ -55,7 +55,7 @@ pub record SumLoop (t : Tab) (ms : List ℕ) (n k sum : ℕ) : Type 0 where
   pub marked : Marked t ms
   pub many : n ≡ countIn ms
   pub passed : k ≤ n
-  pub small : sum ≤ 2048 * k
+  pub small : sum ≤ 2056 * k
   pub left : sum + length (elementsOf (drop k (typesIn t ms))) ≡ length (elementsOf (typesIn t ms))
 
 pub sum-first : {t : Tab} {ms : List ℕ} {n : ℕ} → Marked t ms → n ≡ countIn ms → SumLoop t ms n 0 0
@@ -73,16 +73,16 @@ module _ {cs ms : List ℕ} {n k sum : ℕ} (l : SumLoop (tabOf cs ms) ms n k su
   abbrev t : Tab
   t = tabOf cs ms
 
-  pub sum-number : {i : ℕ} → k < n → i ≡ getD ms (2056 + k) 0 → i < 2056
+  pub sum-number : {i : ℕ} → k < n → i ≡ getD ms (2056 + k) 0 → i < capacity cs
   sum-number h e = omega (arith, l .marked .within k (omega (arith, l .many)) .1, l .marked .types, l .marked .wf .room)
 
-  sum-here : {i r : ℕ} → k < n → i ≡ getD ms (2056 + k) 0 → ElementsIn cs i r → (r ≡ length (elementsIn (denote t (getD ms (2056 + k) 0)))) × (r ≤ 2048)
+  sum-here : {i r : ℕ} → k < n → i ≡ getD ms (2056 + k) 0 → ElementsIn cs i r → (r ≡ length (elementsIn (denote t (getD ms (2056 + k) 0)))) × (r ≤ 2056)
   sum-here {i} h e s =
       let b = l .marked .within k (omega (arith, l .many)) .1 in
       let b₁ : i < t.n = rw e b in
       (s .says t refl (l .marked .wf) b₁ ∙ ap (λ x. length (elementsIn (denote t x))) e, s .small t refl (l .marked .wf) b₁)
 
-  pub sum-room : {i r : ℕ} → k < n → i ≡ getD ms (2056 + k) 0 → ElementsIn cs i r → sum + r ≤ 4194304
+  pub sum-room : {i r : ℕ} → k < n → i ≡ getD ms (2056 + k) 0 → ElementsIn cs i r → sum + r ≤ 4210688
   sum-room h e s = omega (arith, l .small, sum-here h e s .1, l .many, l .marked .few)
 
   pub sum-next : {i r : ℕ} → k < n → i ≡ getD ms (2056 + k) 0 → ElementsIn cs i r → SumLoop t ms n (k + 1) (sum + r)
@@ -96,7 +96,7 @@ module _ {cs ms : List ℕ} {n k sum : ℕ} (l : SumLoop (tabOf cs ms) ms n k su
         left = omega (arith, l .left, ap length step, length-append (elementsIn (denote t (getD ms (2056 + k) 0))) (elementsOf (drop (k + 1) (typesIn t ms))), sum-here h e s .0);
       }
 
-  pub sum-end : (k < n → ⊥) → (sum ≡ length (elementsOf (typesIn t ms))) × (sum ≤ 4194304)
+  pub sum-end : (k < n → ⊥) → (sum ≡ length (elementsOf (typesIn t ms))) × (sum ≤ 4210688)
   unfolding elementsOf
   sum-end h =
       let short : length (typesIn t ms) ≤ k = omega (arith, types-length (l .marked), l .many) in

@@ -19,7 +19,7 @@ use Rattle.meaning.proofs.Choices.{records-many}
 use Rattle.meaning.proofs.SheetForm.{sheet-is}
 use Rattle.meaning.proofs.SheetAreas.{Areas, sheet-areas}
 use Rattle.image.proofs.Records.{record-at}
-use Rattle.types.specs.Table.{Tab, tab, denote, Wf, Grown, Made}
+use Rattle.types.specs.Table.{Tab, tab, capacity, denote, Wf, Grown, Made}
 use Rattle.sheet.specs.Reading.{elementsAt, wordsAt, triplesAt, tupleSum, Bounds, Told, Below, Tupling, tupleAt, Forming, typesLeft, Typing, Typed, TypesRead}
 use Rattle.sheet.specs.Reading.{elementsIn as elementsRead}
 use Rattle.sheet.proofs.Sizes.{elements-tuple, elements-none}
@@ -163,7 +163,7 @@ module _ {bs xs : List ℕ} {k used : ℕ} {t : Tab} (y : Typing bs xs k used t)
     sum-tuple e = rw (triples-step bs 40 (word bs 4) k (y .here), here-is, eq-eqb a 10 e)
 
     pub typing-forming : (a ≡ 10 → ⊥) → Forming xs k a t
-    typing-forming n = record { below = y .below; few = typing-few; room = omega (arith, y .room, y .here, y .bounds .types); other = n }
+    typing-forming n = record { below = y .below; few = typing-few; room = omega (arith, y .room, y .here, y .bounds .types, y .wide); other = n }
 
     pub typed-other : {u : Tab} {r : ℕ} → (a ≡ 10 → ⊥) → Made t u r (typeFrom [] (map (denote t) (take k xs)) (a, b, c)) 0 → Typed bs xs k used t u used r
     typed-other {u} {r} n m = record {
@@ -187,8 +187,9 @@ module _ {bs xs : List ℕ} {k used : ℕ} {t : Tab} (y : Typing bs xs k used t)
       typing-tupling = record {
         below = y .below;
         few = typing-few;
-        room = omega (arith, y .room, y .here, y .bounds .types);
-        space = omega (arith, y .space, y .bounds .elements);
+        room = omega (arith, y .room, y .here, y .bounds .types, y .wide);
+        many = omega (arith, y .bounds .elements);
+        space = omega (arith, y .space, y .bounds .elements, y .wide);
         long = omega (arith, y .bounds .long);
         short = y .bounds .short;
       }
@@ -233,19 +234,21 @@ pub record TypesLoop (bs xs : List ℕ) (n k used : ℕ) (t : Tab) : Type 0 wher
   pub passed : k ≤ n
   pub size : length xs ≡ 2048
   pub below : Below t (take k xs)
+  pub wide : 2056 ≤ capacity t.cells
   pub room : t.n ≤ 8 + k
   pub space : t.m ≤ used
   pub within : used ≤ word bs 12
   pub sum : used + tupleSum (typesLeft bs k) ≡ tupleSum (typesLeft bs 0)
   pub left : typesFrom (elementsRead bs) (map (denote t) (take k xs)) (typesLeft bs k) ≡ typesFrom (elementsRead bs) [] (triplesAt bs 40 (word bs 4))
 
-pub loop-first : {bs xs cs : List ℕ} {n : ℕ} → Bounds bs → Wf (tab cs 8 0) → length xs ≡ 2048 → n ≡ word bs 4 → TypesLoop bs xs n 0 0 (tab cs 8 0)
-loop-first b w s e = record {
+pub loop-first : {bs xs cs : List ℕ} {n : ℕ} → Bounds bs → Wf (tab cs 8 0) → 2056 ≤ capacity cs → length xs ≡ 2048 → n ≡ word bs 4 → TypesLoop bs xs n 0 0 (tab cs 8 0)
+loop-first b w v s e = record {
   bounds = b;
   many = e;
   passed = omega arith;
   size = s;
   below = record { wf = w; each = λ j h. absurd (omega arith) };
+  wide = v;
   room = omega arith;
   space = omega arith;
   within = omega arith;
@@ -260,6 +263,7 @@ module _ {bs xs : List ℕ} {n k used : ℕ} {t : Tab} (l : TypesLoop bs xs n k 
     here = omega (arith, l .many);
     size = l .size;
     below = l .below;
+    wide = l .wide;
     room = l .room;
     space = l .space;
     within = l .within;
@@ -281,6 +285,7 @@ module _ {bs xs : List ℕ} {n k used : ℕ} {t : Tab} (l : TypesLoop bs xs n k 
         passed = omega arith;
         size = length-set xs k r ∙ l .size;
         below = subst (Below u) (sym more) (below-snoc (take k xs) (l .below) (d .grown) (d .below));
+        wide = omega (arith, l .wide, d .grown .as-wide);
         room = omega (arith, l .room, d .room);
         space = d .space;
         within = d .within;
@@ -292,7 +297,7 @@ module _ {bs xs : List ℕ} {n k used : ℕ} {t : Tab} (l : TypesLoop bs xs n k 
       }
 
   pub loop-small : {u : Tab} {after r : ℕ} → Typed bs xs k used t u after r → r < 65536
-  loop-small d = omega (arith, d .below, d .grown .wf .room)
+  loop-small d = omega (arith, d .below, d .grown .wf .room, d .grown .wf .most)
 
   pub loop-end : (k < n → ⊥) → TypesRead bs xs t
   unfolding typesFrom

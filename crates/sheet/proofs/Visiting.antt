@@ -10,8 +10,9 @@ use lib.Seq.{drop-cons}
 use Rattle.meaning.specs.Types.{Ty, unknown, parts, part}
 use Rattle.meaning.specs.Sheet.{addNew, met}
 use Rattle.meaning.proofs.SheetTypes.{Ordered}
-use Rattle.types.specs.Table.{Tab, tab, kindAt, firstAt, secondAt, denote, Wf}
-use Rattle.types.proofs.Laws.{kind-of, parts-many}
+use Rattle.types.specs.Table.{Tab, tab, capacity, kindAt, firstAt, secondAt, denote, Wf}
+use Rattle.types.proofs.Laws.{kind-of}
+use Rattle.types.proofs.Readers.{in-room, is-element}
 use Rattle.sheet.specs.Marks.{PartsOf, PartAt, HasPart, tabOf, typesIn, Marked, completed, Completing, metEach, Visiting, Visited}
 use Rattle.sheet.proofs.Places.{plain-kind-of, structured}
 use Rattle.sheet.proofs.Meeting.{met-plain, met-parts, met-again, met-ordered}
@@ -31,7 +32,10 @@ module _ {cs ms : List ℕ} {i : ℕ} (v : Visiting cs ms i) where
   }
 
   pub visit-number : i < 2056
-  visit-number = omega (arith, v .below, v .marked .wf .room)
+  visit-number = omega (arith, v .below, v .marked .wf .room, v .marked .wf .most)
+
+  pub visit-room : i < capacity cs
+  visit-room = in-room (v .marked .wf) i (v .below)
 
 -- the first j of the n parts were visited
 pub record Walking (cs ms : List ℕ) (i n j : ℕ) (ns : List ℕ) : Type 0 where
@@ -61,9 +65,9 @@ module _ {cs ms : List ℕ} {i n j : ℕ} {ns : List ℕ} (l : Walking cs ms i n
 
   pub walk-place : j < n → HasPart cs i j
   walk-place h = record {
-    number = visit-number (l .visiting);
+    number = visit-room (l .visiting);
     within = λ e. let k : kindAt t i ≡ 10 = e in
-        omega (arith, wf .low i (l .visiting .below) .inside k, parts-many wf i (l .visiting .below) k, wf .space, l .many);
+        is-element wf i (l .visiting .below) (kind-of wf i (l .visiting .below) ∙ k) (omega (arith, l .many));
   }
 
   -- the part lies below, so the next visit may be made

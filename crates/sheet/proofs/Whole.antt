@@ -98,9 +98,9 @@ module _ (t : Tab) (w : Wf t) (bs : List ℕ) (b : Blank bs) where
   pub begun : Marked t ms₀
   begun =
       let low : (i : ℕ) → i < t.n → getD ms₀ i 0 ≡ 1 = λ i h.
-      begun-above i (λ e. absurd (omega (arith, w .room))) (λ e. absurd (omega (arith, w .room)))
-      ∙ getD-set-other bs 4104 i 0 0 (λ e. absurd (omega (arith, w .room)))
-      ∙ b .one-at i (omega (arith, w .room)) in
+      begun-above i (λ e. absurd (omega (arith, w .room, w .most))) (λ e. absurd (omega (arith, w .room, w .most)))
+      ∙ getD-set-other bs 4104 i 0 0 (λ e. absurd (omega (arith, w .room, w .most)))
+      ∙ b .one-at i (omega (arith, w .room, w .most)) in
       record {
         wf = w;
         long = begun-long;
@@ -158,7 +158,7 @@ module _ {source cs ms cells : List ℕ} {n E S : ℕ} {out : List ℕ} (f : Fil
   pub names-fit : {o : List ℕ} {at : ℕ} → at ≡ 40 + 12 * countIn ms + 4 * E → length o ≡ length out → NamesFit cells n o at
   names-fit e l = record {
     short = short;
-    known = λ k h. omega (arith, f .listing .known k h, f .marked .wf .room);
+    known = λ k h. omega (arith, f .listing .known k h, f .marked .wf .room, f .marked .wf .most);
     room = omega (arith, f .room);
   }
 
@@ -265,7 +265,7 @@ module _ {source cs cells ms : List ℕ} {N M n : ℕ} (w : Walked source (tab c
   pub few-types : countIn ms ≤ 2048
   few-types = w .marked .few
 
-  module _ {T E S : ℕ} (eT : T ≡ countIn ms) (eE : (E ≡ length (elementsOf (typesIn (tabOf cs ms) ms))) × (E ≤ 4194304)) (eS : (S ≡ listedSize cells 0 n) × (S ≤ 8192)) where
+  module _ {T E S : ℕ} (eT : T ≡ countIn ms) (eE : (E ≡ length (elementsOf (typesIn (tabOf cs ms) ms))) × (E ≤ 4210688)) (eS : (S ≡ listedSize cells 0 n) × (S ≤ 8192)) where
     pub filling : {out : List ℕ} → 40 + 12 * T + 4 * E + 12 * n + S ≤ length out → Filling source cs ms cells n E S out
     filling h =
         let own = sym (own-tab (w .marked)) in

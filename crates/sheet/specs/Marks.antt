@@ -9,7 +9,8 @@ use Rattle.meaning.specs.Base.{if_then_else_}
 use Rattle.meaning.specs.Types.{Ty, kind, parts, part}
 use Rattle.meaning.specs.Sheet.{met, position}
 use Rattle.meaning.proofs.SheetTypes.{Ordered}
-use Rattle.types.specs.Table.{Tab, tab, Wf, Means, denote}
+use Rattle.types.specs.Table.{Tab, tab, capacity, Wf, Means, denote}
+use Rattle.types.specs.Reading.{IsElement}
 
 -- ---- the parts of type i, whatever the counts of the table that the cells cs hold
 
@@ -23,8 +24,8 @@ pub record PartAt (cs : List ℕ) (i j r : ℕ) : Type 0 where
 
 -- j is the place of a part: if the type is a Tuple, that of an element within the cells
 pub record HasPart (cs : List ℕ) (i j : ℕ) : Type 0 where
-  pub number : i < 2056
-  pub within : getD cs (4 * i) 0 ≡ 10 → getD cs (4 * i + 1) 0 + j < 2048
+  pub number : i < capacity cs
+  pub within : getD cs (4 * i) 0 ≡ 10 → IsElement cs i j
 
 -- ---- the marks
 

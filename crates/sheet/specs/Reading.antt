@@ -9,7 +9,7 @@ use Rattle.meaning.specs.Base.{if_then_else_, word, records}
 use Rattle.meaning.specs.Types.{Ty, tuple, tys}
 use Rattle.meaning.specs.Sheet.{Entry, Triple, sheetOf, textsStand}
 use Rattle.meaning.specs.Read.{triple, numbered, typeFrom, typesFrom, entriesIn, isSheet}
-use Rattle.types.specs.Table.{Tab, tab, denote, Wf, Grown, Made}
+use Rattle.types.specs.Table.{Tab, tab, capacity, denote, Wf, Grown, Made}
 use Rattle.sheet.specs.Listing.{startAt, lengthAt, typeAt, listed, Listing}
 
 -- ---- the areas
@@ -77,8 +77,9 @@ pub record Gathered (bs : List ℕ) (at : ℕ) (xs : List ℕ) (q : ℕ) (st : L
 pub record Tupling (bs : List ℕ) (at : ℕ) (xs : List ℕ) (k q : ℕ) (t : Tab) : Type 0 where
   pub below : Below t (take k xs)
   pub few : k ≤ 2048
-  pub room : t.n < 2056
-  pub space : t.m + q ≤ 2048
+  pub room : t.n < capacity t.cells
+  pub many : q ≤ 2048
+  pub space : t.m + q ≤ capacity t.cells
   pub long : at + 4 * q ≤ length bs
   pub short : length bs ≤ 42532
 
@@ -89,7 +90,7 @@ tupleAt bs at xs q t = tuple (tys (map (numbered (map (denote t) xs)) (wordsAt b
 pub record Forming (xs : List ℕ) (k kind : ℕ) (t : Tab) : Type 0 where
   pub below : Below t (take k xs)
   pub few : k ≤ 2048
-  pub room : t.n < 2056
+  pub room : t.n < capacity t.cells
   pub other : kind ≡ 10 → ⊥
 
 -- the records of types, from the k-th on
@@ -101,6 +102,7 @@ pub record Typing (bs xs : List ℕ) (k used : ℕ) (t : Tab) : Type 0 where
   pub here : k < word bs 4
   pub size : length xs ≡ 2048
   pub below : Below t (take k xs)
+  pub wide : 2056 ≤ capacity t.cells
   pub room : t.n ≤ 8 + k
   pub space : t.m ≤ used
   pub within : used ≤ word bs 12

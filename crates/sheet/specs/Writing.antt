@@ -46,7 +46,7 @@ pub record MetAll (cs ms ns cells : List ℕ) (n : ℕ) : Type 0 where
 -- whatever the counts of the table that the cells cs hold
 pub record ElementsIn (cs : List ℕ) (i r : ℕ) : Type 0 where
   pub says : (t : Tab) → t.cells ≡ cs → Wf t → i < t.n → r ≡ length (elementsIn (denote t i))
-  pub small : (t : Tab) → t.cells ≡ cs → Wf t → i < t.n → r ≤ 2048
+  pub small : (t : Tab) → t.cells ≡ cs → Wf t → i < t.n → r ≤ 2056
 
 pub record Short (cells : List ℕ) (n : ℕ) : Type 0 where
   pub few : n ≤ 128
@@ -124,7 +124,7 @@ pub record Filling (source cs ms cells : List ℕ) (n elements size : ℕ) (out 
   pub marked : Marked (tabOf cs ms) ms
   pub types-are : typesIn (tabOf cs ms) ms ≡ typesOf (listed source (tabOf cs ms) cells n) []
   pub elements-are : elements ≡ length (elementsOf (typesIn (tabOf cs ms) ms))
-  pub few : elements ≤ 4194304
+  pub few : elements ≤ 4210688
   pub size-is : size ≡ listedSize cells 0 n
   pub small : size ≤ 8192
   pub room : 40 + 12 * countIn ms + 4 * elements + 12 * n + size ≤ length out

@@ -8,7 +8,7 @@ ghost use Prim.Native.Nat.{ℕ, _+_, _*_, _≤_, _<_};
 ghost use Rattle.meaning.specs.Base.{word, words, if_then_else_};
 ghost use Rattle.meaning.specs.Read.{typeFrom};
 ghost use Rattle.meaning.specs.Sheet.{elementsIn, elementsOf, sheetOf};
-ghost use Rattle.types.specs.Table.{tab, denote, Wf, Made};
+ghost use Rattle.types.specs.Table.{capacity, Fresh, tab, denote, Wf, Made};
 ghost use Rattle.sheet.specs.Listing.{Listing, listed, Wrote};
 ghost use Rattle.sheet.specs.Marks.{PartsOf, PartAt, HasPart, Completing, completed, Visiting, Visited, Marked, tabOf, typesIn};
 ghost use Rattle.sheet.specs.Writing.{Meeting, MetAll, ElementsIn, Short, listedSize, NumberOf, Put, Met, recordBytes, elementBytes, typesBytes, elementsBytes, NamesFit, NamesPut, TextsFit, listedTexts, Blank, headerBytes, Filling};
@@ -16,6 +16,7 @@ ghost use Rattle.sheet.specs.Reading.{Bounds, Told, numberIn, Gathering,
 use image::text_stands;
 use types::Counts;
 use types::Formed;
+use types::element_at;
 use types::form;
 use types::part_of;
 use types::second_of;
@@ -49,8 +50,8 @@ fn broad(x: u16) -> usize
     x as usize
 }
 
-fn cell(table: &[u16; 10272], at: usize) -> usize
-    requires { ⌜ at < 10272 ⌝ }
+fn cell(table: &[u16], at: usize) -> usize
+    requires { ⌜ at < length (now table) ⌝ }
     ensures { λ r. ⌜ r ≡ getD (now (table .entry)) at 0 ⌝ }
 {
     broad(table[at])
@@ -67,8 +68,8 @@ fn mark(marks: &[u16; 4112], at: usize) -> usize
 // ---- the walk: parts left to right and before the whole, each type once
 
 // How many parts the structured type i has.
-fn parts_of(table: &[u16; 10272], i: usize) -> usize
-    requires { ⌜ i < 2056 ⌝ }
+fn parts_of(table: &[u16], i: usize) -> usize
+    requires { ⌜ i < capacity (now table) ⌝ }
     ensures { λ r. ⌜ PartsOf (now (table .entry)) i r ⌝ }
 {
     let kind = cell(table, 4 * i);
@@ -81,19 +82,16 @@ fn parts_of(table: &[u16; 10272], i: usize) -> usize
     1
 }
 
-// The part j of the structured type i.
-fn part_at(table: &[u16; 10272], i: usize, j: usize) -> usize
+// The part j of the structured type i. One that is no Tuple has at most two; the test that j is below 2 would cost `visit` 16 bytes of stack for
+// each level.
+fn part_at(table: &[u16], i: usize, j: usize) -> usize
     requires { ⌜ HasPart (now table) i j ⌝ }
     ensures { λ r. ⌜ PartAt (now (table .entry)) i j r ⌝ }
 {
-    let p = cell(table, 4 * i + 1);
     if cell(table, 4 * i) == 10 {
-        return cell(table, 8224 + p + j);
+        return element_at(table, i, j);
     }
-    if j == 0 {
-        return p;
-    }
-    cell(table, 4 * i + 2)
+    cell(table, 4 * i + 1 + j % 2)
 }
 
 // Gives i the next number of the sheet, unless it has one.
@@ -109,8 +107,8 @@ fn complete(marks: &mut [u16; 4112], i: usize)
     }
 }
 
-// The frame is kept small: types nest up to 2,048 deep.
-fn visit(table: &[u16; 10272], i: usize, marks: &mut [u16; 4112])
+// The frame is kept small: types nest up to 2,048 deep. Most parts are plain types, for which no call is made.
+fn visit(table: &[u16], i: usize, marks: &mut [u16; 4112])
     requires { ⌜ Visiting (now table) (now marks) i ⌝ }
     ensures { λ _. ⌜ Visited (now (table .entry)) (now (marks .entry)) (now (marks .exit)) i ⌝ }
 {
@@ -123,7 +121,10 @@ fn visit(table: &[u16; 10272], i: usize, marks: &mut [u16; 4112])
     let n = parts_of(table, i);
     let mut j = 0;
     while j < n {
-        visit(table, part_at(table, i, j), marks);
+        let p = part_at(table, i, j);
+        if 8 <= p {
+            visit(table, p, marks);
+        }
         j += 1;
     }
     complete(marks, i);
@@ -137,7 +138,7 @@ fn name_cell(names: &[u32; 384], at: usize) -> usize
 }
 
 // Visits the types of the names, in their order.
-fn meet_all(table: &[u16; 10272], names: &[u32; 384], count: usize, marks: &mut [u16; 4112])
+fn meet_all(table: &[u16], names: &[u32; 384], count: usize, marks: &mut [u16; 4112])
     requires { ⌜ Meeting (now table) (now marks) (now names) count ⌝ }
     ensures { λ _. ⌜ MetAll (now (table .entry)) (now (marks .entry)) (now (marks .exit)) (now (names .entry)) count ⌝ }
 {
@@ -151,8 +152,8 @@ fn meet_all(table: &[u16; 10272], names: &[u32; 384], count: usize, marks: &mut 
 // ---- sizes
 
 // How many elements the type i has: none, unless it is a Tuple.
-fn elements_in(table: &[u16; 10272], i: usize) -> usize
-    requires { ⌜ i < 2056 ⌝ }
+fn elements_in(table: &[u16], i: usize) -> usize
+    requires { ⌜ i < capacity (now table) ⌝ }
     ensures { λ r. ⌜ ElementsIn (now (table .entry)) i r ⌝ }
 {
     if cell(table, 4 * i) == 10 {
@@ -162,10 +163,10 @@ fn elements_in(table: &[u16; 10272], i: usize) -> usize
 }
 
 // How many elements the types of the sheet have.
-fn elements_of(table: &[u16; 10272], marks: &[u16; 4112]) -> usize
+fn elements_of(table: &[u16], marks: &[u16; 4112]) -> usize
     requires { ⌜ Marked (tabOf (now table) (now marks)) (now marks) ⌝ }
     ensures { λ r. ⌜ r ≡ length (elementsOf (typesIn (tabOf (now (table .entry)) (now (marks .entry))) (now (marks .entry)))) ⌝ }
-    ensures { λ r. ⌜ r ≤ 4194304 ⌝ }
+    ensures { λ r. ⌜ r ≤ 4210688 ⌝ }
 {
     let n = mark(marks, 4104);
     let mut k = 0;
@@ -216,16 +217,9 @@ fn put_three(out: &mut [u8], at: usize, a: usize, b: usize, c: usize)
 }
 
 // The record of type i of the table, `from` elements after the first.
-fn write_type(
-    table: &[u16; 10272],
-    marks: &[u16; 4112],
-    i: usize,
-    from: usize,
-    out: &mut [u8],
-    at: usize,
-)
+fn write_type(table: &[u16], marks: &[u16; 4112], i: usize, from: usize, out: &mut [u8], at: usize)
     requires { ⌜ Met (now table) (now marks) i ⌝ }
-    requires { ⌜ (from ≤ 4194304) × (at + 12 ≤ length (now out)) ⌝ }
+    requires { ⌜ (from ≤ 4210688) × (at + 12 ≤ length (now out)) ⌝ }
     ensures { λ _. ⌜ Put (now (out .entry)) (now (out .exit)) at (recordBytes (tabOf (now (table .entry)) (now (marks .entry))) (now (marks .entry)) from i) ⌝ }
 {
     let kind = cell(table, 4 * i);
@@ -238,7 +232,7 @@ fn write_type(
     }
 }
 
-fn write_types(table: &[u16; 10272], marks: &[u16; 4112], out: &mut [u8])
+fn write_types(table: &[u16], marks: &[u16; 4112], out: &mut [u8])
     requires { ⌜ Marked (tabOf (now table) (now marks)) (now marks) ⌝ }
     requires { ⌜ 40 + 12 * getD (now marks) 4104 0 ≤ length (now out) ⌝ }
     ensures { λ _. ⌜ Put (now (out .entry)) (now (out .exit)) 40 (typesBytes (tabOf (now (table .entry)) (now (marks .entry))) (now (marks .entry))) ⌝ }
@@ -255,13 +249,7 @@ fn write_types(table: &[u16; 10272], marks: &[u16; 4112], out: &mut [u8])
 }
 
 // The elements of type i of the table. Returns where they end.
-fn write_parts(
-    table: &[u16; 10272],
-    marks: &[u16; 4112],
-    i: usize,
-    out: &mut [u8],
-    at: usize,
-) -> usize
+fn write_parts(table: &[u16], marks: &[u16; 4112], i: usize, out: &mut [u8], at: usize) -> usize
     requires { ⌜ Met (now table) (now marks) i ⌝ }
     requires { ⌜ at + 4 * length (elementsIn (denote (tabOf (now table) (now marks)) i)) ≤ length (now out) ⌝ }
     ensures { λ _. ⌜ Put (now (out .entry)) (now (out .exit)) at (elementBytes (tabOf (now (table .entry)) (now (marks .entry))) (now (marks .entry)) i) ⌝ }
@@ -277,7 +265,7 @@ fn write_parts(
     at + 4 * n
 }
 
-fn write_elements(table: &[u16; 10272], marks: &[u16; 4112], out: &mut [u8], from: usize)
+fn write_elements(table: &[u16], marks: &[u16; 4112], out: &mut [u8], from: usize)
     requires { ⌜ Marked (tabOf (now table) (now marks)) (now marks) ⌝ }
     requires { ⌜ from + 4 * length (elementsOf (typesIn (tabOf (now table) (now marks)) (now marks))) ≤ length (now out) ⌝ }
     ensures { λ _. ⌜ Put (now (out .entry)) (now (out .exit)) from (elementsBytes (tabOf (now (table .entry)) (now (marks .entry))) (now (marks .entry))) ⌝ }
@@ -323,7 +311,7 @@ fn write_texts(source: &[u8], names: &[u32; 384], count: usize, out: &mut [u8], 
 // ---- the whole
 
 fn write_header(out: &mut [u8], types: usize, elements: usize, names: usize, size: usize)
-    requires { ⌜ (types ≤ 2048) × (elements ≤ 4194304) × (names ≤ 128) × (size ≤ 8192) × (40 ≤ length (now out)) ⌝ }
+    requires { ⌜ (types ≤ 2048) × (elements ≤ 4210688) × (names ≤ 128) × (size ≤ 8192) × (40 ≤ length (now out)) ⌝ }
     ensures { λ _. ⌜ Put (now (out .entry)) (now (out .exit)) 0 (headerBytes types elements names size) ⌝ }
 {
     let a = 40 + 12 * types;
@@ -337,7 +325,7 @@ fn write_header(out: &mut [u8], types: usize, elements: usize, names: usize, siz
 
 fn fill(
     source: &[u8],
-    table: &[u16; 10272],
+    table: &[u16],
     marks: &[u16; 4112],
     names: &[u32; 384],
     count: usize,
@@ -361,7 +349,7 @@ fn fill(
 }
 
 fn begin(marks: &mut [u16; 4112], counts: Counts)
-    requires { ⌜ (counts .types ≤ 2056) × (counts .elements ≤ 2048) ⌝ }
+    requires { ⌜ (counts .types ≤ 2056) × (counts .elements ≤ 2056) ⌝ }
     ensures { λ _. ⌜ now (marks .exit) ≡ set (set (set (now (marks .entry)) 4104 0) 4105 (counts .types)) 4106 (counts .elements) ⌝ }
 {
     marks[4104] = 0;
@@ -372,7 +360,7 @@ fn begin(marks: &mut [u16; 4112], counts: Counts)
 // Writes the sheet of the names to the front of `out` if it fits: if not, no byte changes.
 pub fn write(
     source: &[u8],
-    table: &[u16; 10272],
+    table: &[u16],
     counts: Counts,
     names: &[u32; 384],
     count: usize,
@@ -497,7 +485,7 @@ fn form_tuple(
     numbers: &[u16; 2048],
     k: usize,
     q: usize,
-    table: &mut [u16; 10272],
+    table: &mut [u16],
     counts: Counts,
 ) -> Formed
     requires { ⌜ Tupling (now sheet) at (now numbers) k q (tab (now table) (counts .types) (counts .elements)) ⌝ }
@@ -529,7 +517,7 @@ fn form_other(
     kind: usize,
     p: usize,
     q: usize,
-    table: &mut [u16; 10272],
+    table: &mut [u16],
     counts: Counts,
 ) -> Formed
     requires { ⌜ Forming (now numbers) k kind (tab (now table) (counts .types) (counts .elements)) ⌝ }
@@ -556,7 +544,7 @@ fn read_type(
     k: usize,
     used: usize,
     numbers: &[u16; 2048],
-    table: &mut [u16; 10272],
+    table: &mut [u16],
     counts: Counts,
 ) -> Typed
     requires { ⌜ Typing (now sheet) (now numbers) k used (tab (now table) (counts .types) (counts .elements)) ⌝ }
@@ -608,10 +596,10 @@ fn read_type(
 }
 
 // The types of all records; the table holds the plain types alone before.
-fn read_types(sheet: &[u8], table: &mut [u16; 10272], numbers: &mut [u16; 2048]) -> Types
+fn read_types(sheet: &[u8], table: &mut [u16], numbers: &mut [u16; 2048]) -> Types
     requires { ⌜ Bounds (now sheet) ⌝ }
     requires { ⌜ Wf (tab (now table) 8 0) ⌝ }
-    requires { ⌜ length (now numbers) ≡ 2048 ⌝ }
+    requires { ⌜ (2056 ≤ capacity (now table)) × (length (now numbers) ≡ 2048) ⌝ }
     ensures { λ r. ⌜ Told (TypesRead (now (sheet .entry)) (now (numbers .exit))
         (tab (now (table .exit)) (r .counts .types) (r .counts .elements)))
         (now (sheet .entry)) (r .stands) ⌝ }
@@ -703,13 +691,7 @@ fn texts_stand(sheet: &[u8], names: &[u32; 384], count: usize) -> bool
 }
 
 // Whether writing the names gives the bytes again: no sheet is longer than 42,532 bytes.
-fn rewrites(
-    sheet: &[u8],
-    table: &[u16; 10272],
-    counts: Counts,
-    names: &[u32; 384],
-    count: usize,
-) -> bool
+fn rewrites(sheet: &[u8], table: &[u16], counts: Counts, names: &[u32; 384], count: usize) -> bool
     requires { ⌜ Listing (now sheet) (tab (now table) (counts .types) (counts .elements)) (now names) count ⌝ }
     ensures { λ r. ⌜ Compared (now (sheet .entry)) (listed (now (sheet .entry)) (tab (now (table .entry)) (counts .types) (counts .elements)) (now (names .entry)) count) r ⌝ }
 {
@@ -735,16 +717,17 @@ fn refused() -> ReadSheet
 }
 
 // A call of its own, since answers say `start` for a function's entry.
-fn begin_table(table: &mut [u16; 10272])
-    requires { ⌜ length (now table) ≡ 10272 ⌝ }
+fn begin_table(table: &mut [u16])
+    requires { ⌜ Fresh (now table) ⌝ }
     ensures { λ _. ⌜ Wf (tab (now (table .exit)) 8 0) ⌝ }
 {
     start(table);
 }
 
-// Reads a sheet into a table of its types and a list of its names: whatever the bytes, it says whether they are one.
-pub fn read(sheet: &[u8], table: &mut [u16; 10272], names: &mut [u32; 384]) -> ReadSheet
-    requires { ⌜ (length (now table) ≡ 10272) × (length (now names) ≡ 384) ⌝ }
+// Reads a sheet into a table of its types and a list of its names: whatever the bytes, it says whether they are one. The table has room
+// for whatever a sheet may hold.
+pub fn read(sheet: &[u8], table: &mut [u16], names: &mut [u32; 384]) -> ReadSheet
+    requires { ⌜ (capacity (now table) ≡ 2056) × (length (now names) ≡ 384) × Fresh (now table) ⌝ }
     ensures { λ r. ⌜ Reads (now (sheet .entry)) (r .stands) (tab (now (table .exit)) (r .counts .types) (r .counts .elements)) (now (names .exit)) (r .names) ⌝ }
 {
     if !bounded(sheet) {

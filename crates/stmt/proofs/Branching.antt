@@ -21,7 +21,7 @@ use Rattle.meaning.specs.Frames.{Frames}
 use Rattle.meaning.specs.Walk.{State, state, End, done, wrong, tooDeep, refuse, _>>=_, condition, act, arm, branches}
 use Rattle.meaning.proofs.Decoding.{if-at, arms-down}
 use Rattle.meaning.proofs.Faults.{Sound}
-use Rattle.types.specs.Table.{Tab, Grown, denote}
+use Rattle.types.specs.Table.{Tab, tab, Grown, denote}
 use Rattle.frames.specs.Env.{Rows, slot, framesOf, Fit, Noted, settleName, settle, mergeEnd, Committed}
 use Rattle.frames.proofs.Laws.{frames-grown, fit-grown}
 use Rattle.frames.proofs.Merging.{Tally, tally-none, tally-grown, tally-next, merged}
@@ -177,6 +177,11 @@ pub record Choosing (bs : List ℕ) (nodes : ℕ) (t : Tab) (fs : Rows) (top ret
   pub answer : acted bs loop d i (stateOf t fs top ret)
       ≡ branches (namesOf bs) loop (i + 1) so-far (armsFrom (nodesOf bs) (λ k. exprAt (nodesOf bs) d k) (λ k. blockAt (nodesOf bs) d k) left j) (state (framesOf t fs top) (denote u got))
 
+-- the same with an equal table and return type
+pub choosing-as : {bs : List ℕ} {nodes : ℕ} {t : Tab} {fs : Rows} {top ret i d : ℕ} {loop : Bool} {u v : Tab} {got had : ℕ} {su ms : List ℕ} {cs : List Bool} {j left : ℕ}
+    → v ≡ u → had ≡ got → Choosing bs nodes t fs top ret i d loop u got su ms cs j left → Choosing bs nodes t fs top ret i d loop v had su ms cs j left
+choosing-as o p l = rw (o, p) l
+
 first-condition : (bs : List ℕ) (e : ℕ → Expr) (b : ℕ → Stmts) (n i : ℕ) → 1 < n → firstCondition (armsFrom (nodesOf bs) e b n i) ≡ place (e i)
 unfolding firstCondition
 first-condition bs e b n i p = rw (arms-down (nodesOf bs) e b n i p)
@@ -236,19 +241,18 @@ module _ {bs : List ℕ} {nodes : ℕ} {t : Tab} {fs : Rows} {top ret i d : ℕ}
 
     -- a dropped body ends well or too deep, so this is the condition's refusal
     pub choosing-out : (code ≡ 0 → ⊥)
-        → Done (namesOf bs) (acted bs loop d i (stateOf t fs top ret)) t v fs top top got sv i (stopOf (nodesOf bs) i) (nodeCount bs) code place′ a b
+        → Done (namesOf bs) (acted bs loop d i (stateOf t fs top ret)) t v fs top top had sv i (stopOf (nodesOf bs) i) (nodeCount bs) code place′ a b
     unfolding _>>=_
     choosing-out z = elim (ℕ-discrete code 9) [
       | yes y ↦ too-deep y (choosing-answer ∙ rw (was-deep (c .done) y)) (c .done .placed y)
       | no y ↦
           let o = c .entry z y in
-          let g = c .done .fine y .left .grown in
           record {
             says = choosing-answer
-                ∙ rw (was-wrong (c .done) z y, o .0, o .1, o .2) (sym (ended-wrong (namesOf bs) v fs top (denote v got) code place′ a b z y));
+                ∙ rw (was-wrong (c .done) z y, o .0, o .1) (sym (ended-wrong (namesOf bs) v fs top (denote v had) code place′ a b z y));
             fine = λ _. record {
               left = left-wider (choosing-left y) (omega arith) (choosing-step .inside);
-              kept = omega (arith, l .standing .kept, g .more);
+              kept = c .done .fine y .kept;
               raised = omega arith;
             };
             named = c .done .named;
@@ -256,11 +260,12 @@ module _ {bs : List ℕ} {nodes : ℕ} {t : Tab} {fs : Rows} {top ret i d : ℕ}
           }
     ]
 
-    pub choosing-next : {ns : List ℕ} {ds : List Bool} {e k : ℕ} → e ≡ stopOf (nodesOf bs) (armBlock bs left j) → k ≡ left - 2 → code ≡ 0
-        → Noted (getD fs top []) (getD hs peak []) ms cs ns ds 128
+    pub choosing-next : {ns : List ℕ} {ds : List Bool} {e k high : ℕ} → e ≡ stopOf (nodesOf bs) (armBlock bs left j) → k ≡ left - 2 → code ≡ 0 → high ≡ peak
+        → Noted (getD fs top []) (getD hs high []) ms cs ns ds 128
         → Choosing bs nodes t fs top ret i d loop v had sv ns ds e k
     unfolding _>>=_
-    choosing-next {ns} {ds} {e} {k} z y o n =
+    choosing-next {ns} {ds} {e} {k} z y o h n′ =
+        let n = rw h at n′ in
         let x : code ≡ 9 → ⊥ = λ x. omega arith in
         let f = c .done .fine x in
         let m = left-rows (l .spent .fit) (f .left) in
@@ -327,6 +332,9 @@ clash-name {fs} {gs} {top} {ms} {cs} {place′} {code} {name} t c e = elim (decL
       let z : _≡_ {A = ℕ} 0 1 = ap weights b in
       absurd (omega arith)
 ]
+
+pub clash-small : {fs gs : Rows} {top : ℕ} {ms : List ℕ} {cs : List Bool} {place′ code name : ℕ} → Committed fs gs top ms cs place′ code name → (code ≡ 0 → ⊥) → name < 4294967296
+clash-small c z = ⊎-elim (λ y. absurd (z y)) (λ y. omega (arith, clash-name (tab [] 0 0) c y)) (c .codes)
 
 -- ---- the merge
 

@@ -49,16 +49,16 @@ module _ {bs : List ℕ} {nodes : ℕ} {t u : Tab} {fs : Rows} {top : ℕ} {st s
     typing = typing _ (r .fit) q;
   }
 
-  pub elements-done : {there : Bool} {got : ℕ} → code ≡ 0 → ElementOf u.cells number there got → there ≡ true
-      → Iterated bs d t u fs top su i e (nodeCount bs) 0 0 got 0 0
+  pub elements-done : {there : Bool} {got code′ place″ a′ b′ : ℕ} → code ≡ 0 → ElementOf u.cells number there got → there ≡ true → code′ ≡ 0
+      → Iterated bs d t u fs top su i e (nodeCount bs) code′ place″ got a′ b′
   unfolding checked overElements ifSome
-  elements-done {there} {got} z o y =
+  elements-done {there} {got} z o y n =
       let w = q .fine .grown .wf in
       record {
         well = λ x s k. check-well _ (r .fit) q z (state (framesOf t fs top) s) _ ∙ rw (o .says u refl w (q .below z), perhaps-yes u there got y);
-        ill = λ x s k. absurd (x refl);
+        ill = λ x s k. absurd (x n);
         below = λ x. o .below u refl w (q .below z);
-        named = named-well;
+        named = rw n named-well;
         left = check-left _ (r .fit) q;
         typing = λ x. absurd (omega arith);
       }
@@ -208,7 +208,7 @@ module _ {bs : List ℕ} {nodes : ℕ} {t : Tab} {fs : Rows} {top : ℕ} {st : L
   for-name = rw m (arg-small (r .ready .sound) i (q .there))
 
   pub for-small : code ≡ 0 → number < 2056
-  for-small z = omega (arith, c .below z, c .left .grown .wf .room)
+  for-small z = omega (arith, c .below z, c .left .grown .wf .room, c .left .grown .wf .most)
 
   module _ {es : Rows} {cell : ℕ} (z : code ≡ 0) (n : cell ≡ suc number) (o : es ≡ put fs top x cell) where
     for-fit : Fit u es top

@@ -146,6 +146,25 @@ pub done-as : {ws : List Name} {r q : End} {t u : Tab} {gs : Rows} {top high ret
     → q ≡ r → Done ws r t u gs top high ret su i e M code place a b → Done ws q t u gs top high ret su i e M code place a b
 done-as o d = record { says = o ∙ d .says; fine = d .fine; named = d .named; placed = d .placed }
 
+-- all went well: the place and the numbers tell nothing
+pub done-any : {ws : List Name} {r : End} {t u : Tab} {gs : Rows} {top high ret : ℕ} {su : List ℕ} {i e M code place a b code′ place′ a′ b′ : ℕ}
+    → code ≡ 0 → code′ ≡ 0 → Done ws r t u gs top high ret su i e M code place a b → Done ws r t u gs top high ret su i e M code′ place′ a′ b′
+done-any {ws} {r} {t} {u} {gs} {top} {high} {ret} {code′ = code′} {place′} {a′} {b′} z o d = record {
+  says = was-done d z ∙ sym (ended-done ws u gs high (denote u ret) code′ place′ a′ b′ o);
+  fine = λ _. d .fine (λ x. omega arith);
+  named = λ _. rw o named-well;
+  placed = λ x. absurd (omega arith);
+}
+
+pub assigned-any : {ws : List Name} {r : Ty → End} {t u : Tab} {gs : Rows} {top : ℕ} {su : List ℕ} {i e M code place a b code′ place′ a′ b′ : ℕ}
+    → code ≡ 0 → code′ ≡ 0 → Assigned ws r t u gs top su i e M code place a b → Assigned ws r t u gs top su i e M code′ place′ a′ b′
+assigned-any {ws} {r} {t} {u} {gs} {top} {code = code} {place} {a} {b} {code′} {place′} {a′} {b′} z o d = record {
+  says = λ y. d .says y ∙ ended-done ws u gs top y code place a b z ∙ sym (ended-done ws u gs top y code′ place′ a′ b′ o);
+  named = rw o named-well;
+  left = d .left;
+  typing = λ x. absurd (omega arith);
+}
+
 pub ready-within : {bs : List ℕ} {nodes : ℕ} {fs : Rows} {top : ℕ} {t : Tab} {st : List ℕ} {i e j f : ℕ}
     → Ready bs nodes fs top t st 0 i e → i ≤ j → f ≤ e → Ready bs nodes fs top t st 0 j f
 ready-within r p q = record {
@@ -167,8 +186,8 @@ ready-next r l h = record {
   wf = l .grown .wf;
   fit = l .fit;
   stack = l .stack;
-  types-room = omega (arith, r .types-room, l .types-spent);
-  elements-room = omega (arith, r .elements-room, l .elements-spent);
+  types-room = omega (arith, r .types-room, l .types-spent, l .grown .as-wide);
+  elements-room = omega (arith, r .elements-room, l .elements-spent, l .grown .as-wide);
   stack-room = omega (arith, r .stack-room);
 }
 

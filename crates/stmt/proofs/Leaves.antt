@@ -206,8 +206,8 @@ module _ {bs : List ℕ} {nodes : ℕ} {t : Tab} {fs : Rows} {top : ℕ} {st : L
             wf = l .grown .wf;
             fit = l .fit;
             stack = l .stack;
-            types-room = omega (arith, r .types-room, l .types-spent);
-            elements-room = omega (arith, r .elements-room, l .elements-spent);
+            types-room = omega (arith, r .types-room, l .types-spent, l .grown .as-wide);
+            elements-room = omega (arith, r .elements-room, l .elements-spent, l .grown .as-wide);
             stack-room = omega (arith, r .stack-room, first-wide);
           }
 

@@ -1,4 +1,5 @@
 pub mod Laws
+pub mod Cells
 pub mod Leaves
 pub mod Bodies
 pub mod Compound

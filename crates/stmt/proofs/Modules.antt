@@ -63,8 +63,8 @@ running-first {bs} {nodes} {fs} {t} {st} {n} a e =
       wf = a .wf;
       fit = a .fit;
       stack = a .stack;
-      types-room = omega (arith, a .types, few-nodes s);
-      elements-room = omega (arith, a .elements, few-nodes s);
+      types-room = omega (arith, a .types, a .room);
+      elements-room = omega (arith, a .elements, a .room);
       stack-room = omega (arith, few-nodes s);
     } in
     record {

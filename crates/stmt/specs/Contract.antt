@@ -15,8 +15,9 @@ use Rattle.meaning.specs.Walk.{State, state, End, done, checked, condition, ass
 use Rattle.meaning.specs.Answer.{walked}
 use Rattle.meaning.proofs.Faults.{Sound}
 use Rattle.meaning.proofs.Nesting.{Children}
-use Rattle.types.specs.Table.{Tab, Wf, Grown, denote}
+use Rattle.types.specs.Table.{Tab, capacity, Wf, Grown, denote}
 use Rattle.frames.specs.Env.{Rows, framesOf, Fit}
+use Rattle.nodes.specs.Notes.{typesIn, elementsIn, codeIn, placeIn, firstIn, secondIn, verdict, Noting, Kept}
 use Rattle.expr.specs.Contract.{Ready, At}
 use Rattle.targets.specs.Ending.{ended, Named, Left}
 
@@ -68,6 +69,21 @@ armedAt bs loop d n i s =
     (if ltb 1 n
     then on (exprAt (nodesOf bs) d i) (blockAt (nodesOf bs) d (stopOf (nodesOf bs) i))
     else otherwise (blockAt (nodesOf bs) d i)) s
+
+-- ---- the notes
+
+-- what a result r tells of the notes: a refusal has a code
+pub record Tells (ms : List ℕ) (r : ℕ) : Type 0 where
+  pub noting : Noting ms
+  pub refuses : r ≡ 65535 → codeIn ms ≡ 0 → ⊥
+
+-- a Break or Continue at node i, by its code: all is well in a loop, and else it is refused
+pub record Outside (ns ms : List ℕ) (loop : Bool) (code i r : ℕ) : Type 0 where
+  pub kept : Kept ns ms r
+  pub types : typesIn ms ≡ typesIn ns
+  pub elements : elementsIn ms ≡ elementsIn ns
+  pub well : loop ≡ true → verdict r ms ≡ 0
+  pub ill : loop ≡ false → (verdict r ms ≡ code) × (placeIn ms ≡ i) × (firstIn ms ≡ 0) × (secondIn ms ≡ 0)
 
 -- ---- what is asked
 
@@ -148,7 +164,7 @@ pub record Iterated (bs : List ℕ) (d : ℕ) (t u : Tab) (fs : Rows) (top : ℕ
 
 -- ---- the program
 
--- a sound image, a table of the plain types, and an empty module frame
+-- a sound image, a table of the plain types with room for its nodes, and an empty module frame
 pub record Started (bs : List ℕ) (nodes : ℕ) (fs : Rows) (t : Tab) (st : List ℕ) : Type 0 where
   pub sound : Sound bs
   pub nodes-at : nodes ≡ nodesFrom bs
@@ -158,6 +174,7 @@ pub record Started (bs : List ℕ) (nodes : ℕ) (fs : Rows) (t : Tab) (st : Lis
   pub fit : Fit t fs 0
   pub module-frame : framesOf t fs 0 ≡ empty ∷ []
   pub stack : length st ≡ 2048
+  pub room : nodeCount bs + 8 ≤ capacity t.cells
 
 -- how the whole walk ended, y being the return type where it stood
 pub record Ran (bs : List ℕ) (t u : Tab) (gs : Rows) (top : ℕ) (su : List ℕ) (code place a b : ℕ) : Type 0 where

@@ -1,4 +1,7 @@
 // The walk over the statements: T's tc_stmt and typecheck_program.
+// A result is 0 where all went well, and 65535 where something was refused: the notes then have the code (9 for a Def that needs a ninth
+// frame, else a typing code), its node and the numbers that a message needs. The notes also have the counts of the table, the return type
+// so far and the newest frame's row (crates/nodes/specs/Notes.antt).
 ghost use mathlib.Core.Path.{_≡_};
 ghost use mathlib.Core.Bool.{Bool, true, false};
 ghost use Prim.Native.Nat.{suc, _+_, _-_, _<_, _≤_};
@@ -9,49 +12,30 @@ ghost use Rattle.meaning.specs.Walk.{state};
 ghost use Rattle.meaning.proofs.Faults.{Sound, Headed};
 ghost use Rattle.types.specs.Table.{tab};
 ghost use Rattle.frames.specs.Env.{framesOf};
+ghost use Rattle.nodes.specs.Notes.{tabIn, codeIn, placeIn, firstIn, secondIn, retIn, topIn, verdict, Noting, Kept};
 ghost use Rattle.expr.specs.Contract.{Ready, At};
 ghost use Rattle.targets.specs.Ending.{Assigned};
 ghost use Rattle.stmt.specs.Contract.{stateOf, acted, walkedAt, bodyAt, conditionAt, evaluatedAt, assignedAt, returnedAt, armBlock, armedAt};
-ghost use Rattle.stmt.specs.Contract.{Standing, Pair, Stmt, Bodiless, Branch, Within, Done, Armed, Entered, Iterated, Started, Ran};
+ghost use Rattle.stmt.specs.Contract.{Tells, Outside, Standing, Pair, Stmt, Bodiless, Branch, Within, Done, Armed, Entered, Iterated, Started, Ran};
 use expr::expr;
 use frames::bind;
 use frames::clear;
 use frames::commit;
 use frames::note_branch;
 use image::node_at;
-use nodes::Value;
+use nodes::counts_of;
+use nodes::refused;
+use nodes::small;
 use nodes::stop_of;
-use targets::Outcome;
 use targets::assign;
 use types::Counts;
 use types::agreed;
 use types::element_of;
 
-// How a part of the walk ended: code 0 well, 9 a Def that needs a ninth frame, else a typing code with its node and the numbers that a
-// message needs; the counts of the table, the newest frame's row, and the number of the return type so far.
-struct Out {
-    code: u32,
-    place: usize,
-    a: usize,
-    b: usize,
-    counts: Counts,
-    top: usize,
-    ret: usize,
-}
-
-// Such an end, of its parts.
-fn told(code: u32, place: usize, a: usize, b: usize, counts: Counts, top: usize, ret: usize) -> Out
-    ensures { λ r. ⌜ r ≡ record { code = code; place = place; a = a; b = b; counts = counts; top = top; ret = ret } ⌝ }
+fn wide(x: u32) -> usize
+    ensures { λ r. ⌜ r ≡ x ⌝ }
 {
-    Out {
-        code,
-        place,
-        a,
-        b,
-        counts,
-        top,
-        ret,
-    }
+    x as usize
 }
 
 // ---- statements without a body
@@ -62,50 +46,32 @@ fn condition(
     nodes: usize,
     rows: &[[u16; 128]; 8],
     top: usize,
-    table: &mut [u16; 10272],
-    counts: Counts,
+    table: &mut [u16],
+    notes: &mut [u32; 8],
     stack: &mut [u16; 2048],
     at: usize,
     depth: usize,
-) -> Outcome
-    requires { ⌜ Ready (now image) nodes (now rows) top (tab (now table) (counts .types) (counts .elements)) (now stack) 0 at (stopOf (nodesOf (now image)) at) ⌝ }
+) -> usize
+    requires { ⌜ Noting (now notes) ⌝ }
+    requires { ⌜ Ready (now image) nodes (now rows) top (tabIn (now table) (now notes)) (now stack) 0 at (stopOf (nodesOf (now image)) at) ⌝ }
     requires { ⌜ At (now image) at depth ⌝ }
     ensures { λ r. ⌜ Assigned (namesOf (now (image .entry)))
-        (λ y. conditionAt (now (image .entry)) depth at
-        (state (framesOf (tab (now (table .entry)) (counts .types) (counts .elements)) (now (rows .entry)) top) y))
-        (tab (now (table .entry)) (counts .types) (counts .elements))
-        (tab (now (table .exit)) (r .counts .types) (r .counts .elements))
+        (λ y. conditionAt (now (image .entry)) depth at (state (framesOf (tabIn (now (table .entry)) (now (notes .entry))) (now (rows .entry)) top) y))
+        (tabIn (now (table .entry)) (now (notes .entry)))
+        (tabIn (now (table .exit)) (now (notes .exit)))
         (now (rows .entry)) top (now (stack .exit))
-        at (stopOf (nodesOf (now (image .entry))) at) (nodeCount (now (image .entry))) (r .code) (r .place) (r .a) (r .b) ⌝ }
+        at (stopOf (nodesOf (now (image .entry))) at) (nodeCount (now (image .entry)))
+        (verdict r (now (notes .exit))) (placeIn (now (notes .exit))) (firstIn (now (notes .exit))) (secondIn (now (notes .exit))) ⌝ }
+    ensures { λ r. ⌜ Kept (now (notes .entry)) (now (notes .exit)) r ⌝ }
 {
-    let v = expr(image, nodes, rows, top, table, counts, stack, 0, at, depth);
-    let code = v.code;
-    let counts = v.counts;
-    if code != 0 {
-        return Outcome {
-            code,
-            place: v.place,
-            a: v.a,
-            b: v.b,
-            counts,
-        };
+    let v = expr(image, nodes, rows, top, table, notes, stack, 0, at, depth);
+    if v == 65535 {
+        return v;
     }
-    if v.number != 2 {
-        return Outcome {
-            code: 36,
-            place: at,
-            a: 0,
-            b: 0,
-            counts,
-        };
+    if v != 2 {
+        return refused(notes, 36, at, 0, 0);
     }
-    Outcome {
-        code: 0,
-        place: 0,
-        a: 0,
-        b: 0,
-        counts,
-    }
+    0
 }
 
 // The Assign at node `at`: its value, the second child, and then its target.
@@ -114,20 +80,23 @@ fn assignment(
     nodes: usize,
     rows: &mut [[u16; 128]; 8],
     top: usize,
-    table: &mut [u16; 10272],
-    counts: Counts,
+    table: &mut [u16],
+    notes: &mut [u32; 8],
     stack: &mut [u16; 2048],
     at: usize,
     depth: usize,
-) -> Outcome
-    requires { ⌜ Ready (now image) nodes (now rows) top (tab (now table) (counts .types) (counts .elements)) (now stack) 0 at (stopOf (nodesOf (now image)) at) ⌝ }
+) -> usize
+    requires { ⌜ Noting (now notes) ⌝ }
+    requires { ⌜ Ready (now image) nodes (now rows) top (tabIn (now table) (now notes)) (now stack) 0 at (stopOf (nodesOf (now image)) at) ⌝ }
     requires { ⌜ Pair (now image) at depth ⌝ }
     ensures { λ r. ⌜ Assigned (namesOf (now (image .entry)))
-        (λ y. assignedAt (now (image .entry)) depth at (state (framesOf (tab (now (table .entry)) (counts .types) (counts .elements)) (now (rows .entry)) top) y))
-        (tab (now (table .entry)) (counts .types) (counts .elements))
-        (tab (now (table .exit)) (r .counts .types) (r .counts .elements))
+        (λ y. assignedAt (now (image .entry)) depth at (state (framesOf (tabIn (now (table .entry)) (now (notes .entry))) (now (rows .entry)) top) y))
+        (tabIn (now (table .entry)) (now (notes .entry)))
+        (tabIn (now (table .exit)) (now (notes .exit)))
         (now (rows .exit)) top (now (stack .exit))
-        at (stopOf (nodesOf (now (image .entry))) at) (nodeCount (now (image .entry))) (r .code) (r .place) (r .a) (r .b) ⌝ }
+        at (stopOf (nodesOf (now (image .entry))) at) (nodeCount (now (image .entry)))
+        (verdict r (now (notes .exit))) (placeIn (now (notes .exit))) (firstIn (now (notes .exit))) (secondIn (now (notes .exit))) ⌝ }
+    ensures { λ r. ⌜ Kept (now (notes .entry)) (now (notes .exit)) r ⌝ }
 {
     let second = stop_of(image, nodes, at + 1);
     let v = expr(
@@ -136,22 +105,14 @@ fn assignment(
         rows,
         top,
         table,
-        counts,
+        notes,
         stack,
         0,
         second,
         depth,
     );
-    let code = v.code;
-    let more = v.counts;
-    if code != 0 {
-        return Outcome {
-            code,
-            place: v.place,
-            a: v.a,
-            b: v.b,
-            counts: more,
-        };
+    if v == 65535 {
+        return v;
     }
     assign(
         image,
@@ -159,58 +120,62 @@ fn assignment(
         rows,
         top,
         table,
-        more,
+        notes,
         stack,
         at + 1,
-        v.number,
+        v,
         depth,
     )
 }
 
-// A Return of the value at node `at`, where `ret` was returned before.
+// A Return of the value at node `at`.
 fn give(
     image: &[u8],
     nodes: usize,
     rows: &[[u16; 128]; 8],
     top: usize,
-    table: &mut [u16; 10272],
-    counts: Counts,
+    table: &mut [u16],
+    notes: &mut [u32; 8],
     stack: &mut [u16; 2048],
-    ret: usize,
     at: usize,
     depth: usize,
-) -> Out
-    requires { ⌜ Standing (now image) nodes (now rows) top (tab (now table) (counts .types) (counts .elements)) (now stack) ret at (stopOf (nodesOf (now image)) at) ⌝ }
+) -> usize
+    requires { ⌜ Noting (now notes) ⌝ }
+    requires { ⌜ Standing (now image) nodes (now rows) top (tabIn (now table) (now notes)) (now stack) (retIn (now notes)) at (stopOf (nodesOf (now image)) at) ⌝ }
     requires { ⌜ At (now image) at depth ⌝ }
+    requires { ⌜ top ≡ topIn (now notes) ⌝ }
     ensures { λ r. ⌜ Done (namesOf (now (image .entry)))
-        (returnedAt (now (image .entry)) depth at (stateOf (tab (now (table .entry)) (counts .types) (counts .elements)) (now (rows .entry)) top ret))
-        (tab (now (table .entry)) (counts .types) (counts .elements))
-        (tab (now (table .exit)) (r .counts .types) (r .counts .elements))
-        (now (rows .entry)) top (r .top) (r .ret) (now (stack .exit))
-        at (stopOf (nodesOf (now (image .entry))) at) (nodeCount (now (image .entry))) (r .code) (r .place) (r .a) (r .b) ⌝ }
+        (returnedAt (now (image .entry)) depth at (stateOf (tabIn (now (table .entry)) (now (notes .entry))) (now (rows .entry)) top (retIn (now (notes .entry)))))
+        (tabIn (now (table .entry)) (now (notes .entry)))
+        (tabIn (now (table .exit)) (now (notes .exit)))
+        (now (rows .entry)) top (topIn (now (notes .exit))) (retIn (now (notes .exit))) (now (stack .exit))
+        at (stopOf (nodesOf (now (image .entry))) at) (nodeCount (now (image .entry)))
+        (verdict r (now (notes .exit))) (placeIn (now (notes .exit))) (firstIn (now (notes .exit))) (secondIn (now (notes .exit))) ⌝ }
+    ensures { λ r. ⌜ Tells (now (notes .exit)) r ⌝ }
 {
-    let v = expr(image, nodes, rows, top, table, counts, stack, 0, at, depth);
-    let code = v.code;
-    let more = v.counts;
-    if code != 0 {
-        return told(code, v.place, v.a, v.b, more, top, ret);
+    let v = expr(image, nodes, rows, top, table, notes, stack, 0, at, depth);
+    if v == 65535 {
+        return v;
     }
-    let number = v.number;
-    let both = agreed(ret, number);
+    let ret = wide(notes[6]);
+    let both = agreed(ret, v);
     if both.there {
-        return told(0, at, 0, 0, more, top, both.number);
+        notes[6] = small(both.number);
+        return 0;
     }
-    told(22, at, ret, number, more, top, ret)
+    refused(notes, 22, at, ret, v)
 }
 
-// The code of a Break or Continue: one outside a loop is refused.
-fn outside(looped: bool, code: u32) -> u32
-    ensures { λ r. ⌜ r ≡ (if looped then 0 else code) ⌝ }
+// A Break or Continue at node `at`: one outside a loop is refused by the code.
+fn outside(notes: &mut [u32; 8], looped: bool, code: u32, at: usize) -> usize
+    requires { ⌜ Noting (now notes) ⌝ }
+    requires { ⌜ (at < 2048) × (code ≡ 0 → ⊥) ⌝ }
+    ensures { λ r. ⌜ Outside (now (notes .entry)) (now (notes .exit)) looped code at r ⌝ }
 {
     if looped {
         return 0;
     }
-    code
+    refused(notes, code, at, 0, 0)
 }
 
 // An Expr whose value is at node `at`.
@@ -219,40 +184,29 @@ fn evaluate(
     nodes: usize,
     rows: &[[u16; 128]; 8],
     top: usize,
-    table: &mut [u16; 10272],
-    counts: Counts,
+    table: &mut [u16],
+    notes: &mut [u32; 8],
     stack: &mut [u16; 2048],
     at: usize,
     depth: usize,
-) -> Outcome
-    requires { ⌜ Ready (now image) nodes (now rows) top (tab (now table) (counts .types) (counts .elements)) (now stack) 0 at (stopOf (nodesOf (now image)) at) ⌝ }
+) -> usize
+    requires { ⌜ Noting (now notes) ⌝ }
+    requires { ⌜ Ready (now image) nodes (now rows) top (tabIn (now table) (now notes)) (now stack) 0 at (stopOf (nodesOf (now image)) at) ⌝ }
     requires { ⌜ At (now image) at depth ⌝ }
     ensures { λ r. ⌜ Assigned (namesOf (now (image .entry)))
-        (λ y. evaluatedAt (now (image .entry)) depth at (state (framesOf (tab (now (table .entry)) (counts .types) (counts .elements)) (now (rows .entry)) top) y))
-        (tab (now (table .entry)) (counts .types) (counts .elements))
-        (tab (now (table .exit)) (r .counts .types) (r .counts .elements))
+        (λ y. evaluatedAt (now (image .entry)) depth at (state (framesOf (tabIn (now (table .entry)) (now (notes .entry))) (now (rows .entry)) top) y))
+        (tabIn (now (table .entry)) (now (notes .entry)))
+        (tabIn (now (table .exit)) (now (notes .exit)))
         (now (rows .entry)) top (now (stack .exit))
-        at (stopOf (nodesOf (now (image .entry))) at) (nodeCount (now (image .entry))) (r .code) (r .place) (r .a) (r .b) ⌝ }
+        at (stopOf (nodesOf (now (image .entry))) at) (nodeCount (now (image .entry)))
+        (verdict r (now (notes .exit))) (placeIn (now (notes .exit))) (firstIn (now (notes .exit))) (secondIn (now (notes .exit))) ⌝ }
+    ensures { λ r. ⌜ Kept (now (notes .entry)) (now (notes .exit)) r ⌝ }
 {
-    let v = expr(image, nodes, rows, top, table, counts, stack, 0, at, depth);
-    let code = v.code;
-    let more = v.counts;
-    if code != 0 {
-        return Outcome {
-            code,
-            place: v.place,
-            a: v.a,
-            b: v.b,
-            counts: more,
-        };
+    let v = expr(image, nodes, rows, top, table, notes, stack, 0, at, depth);
+    if v == 65535 {
+        return v;
     }
-    Outcome {
-        code: 0,
-        place: 0,
-        a: 0,
-        b: 0,
-        counts: more,
-    }
+    0
 }
 
 // The statement at node `at`, if it has no body; `depth` is left for its children.
@@ -261,51 +215,35 @@ fn simple(
     nodes: usize,
     rows: &mut [[u16; 128]; 8],
     top: usize,
-    table: &mut [u16; 10272],
-    counts: Counts,
+    table: &mut [u16],
+    notes: &mut [u32; 8],
     stack: &mut [u16; 2048],
-    ret: usize,
     at: usize,
     kind: u32,
     depth: usize,
     looped: bool,
-) -> Out
-    requires { ⌜ Standing (now image) nodes (now rows) top (tab (now table) (counts .types) (counts .elements)) (now stack) ret at (stopOf (nodesOf (now image)) at) ⌝ }
+) -> usize
+    requires { ⌜ Noting (now notes) ⌝ }
+    requires { ⌜ Standing (now image) nodes (now rows) top (tabIn (now table) (now notes)) (now stack) (retIn (now notes)) at (stopOf (nodesOf (now image)) at) ⌝ }
     requires { ⌜ Stmt (now image) at depth kind ⌝ }
     requires { ⌜ Bodiless kind ⌝ }
+    requires { ⌜ top ≡ topIn (now notes) ⌝ }
     ensures { λ r. ⌜ Done (namesOf (now (image .entry)))
-        (acted (now (image .entry)) looped depth at (stateOf (tab (now (table .entry)) (counts .types) (counts .elements)) (now (rows .entry)) top ret))
-        (tab (now (table .entry)) (counts .types) (counts .elements))
-        (tab (now (table .exit)) (r .counts .types) (r .counts .elements))
-        (now (rows .exit)) top (r .top) (r .ret) (now (stack .exit))
-        at (stopOf (nodesOf (now (image .entry))) at) (nodeCount (now (image .entry))) (r .code) (r .place) (r .a) (r .b) ⌝ }
+        (acted (now (image .entry)) looped depth at (stateOf (tabIn (now (table .entry)) (now (notes .entry))) (now (rows .entry)) top (retIn (now (notes .entry)))))
+        (tabIn (now (table .entry)) (now (notes .entry)))
+        (tabIn (now (table .exit)) (now (notes .exit)))
+        (now (rows .exit)) top (topIn (now (notes .exit))) (retIn (now (notes .exit))) (now (stack .exit))
+        at (stopOf (nodesOf (now (image .entry))) at) (nodeCount (now (image .entry)))
+        (verdict r (now (notes .exit))) (placeIn (now (notes .exit))) (firstIn (now (notes .exit))) (secondIn (now (notes .exit))) ⌝ }
+    ensures { λ r. ⌜ Tells (now (notes .exit)) r ⌝ }
 {
     match kind {
-        1 => told(outside(looped, 20), at, 0, 0, counts, top, ret),
-        2 => told(outside(looped, 21), at, 0, 0, counts, top, ret),
-        5 => {
-            let o = assignment(image, nodes, rows, top, table, counts, stack, at, depth);
-            let more = o.counts;
-            told(o.code, o.place, o.a, o.b, more, top, ret)
-        }
-        6 => {
-            let o = evaluate(image, nodes, rows, top, table, counts, stack, at + 1, depth);
-            let more = o.counts;
-            told(o.code, o.place, o.a, o.b, more, top, ret)
-        }
-        7 => give(
-            image,
-            nodes,
-            rows,
-            top,
-            table,
-            counts,
-            stack,
-            ret,
-            at + 1,
-            depth,
-        ),
-        _ => told(0, 0, 0, 0, counts, top, ret),
+        1 => outside(notes, looped, 20, at),
+        2 => outside(notes, looped, 21, at),
+        5 => assignment(image, nodes, rows, top, table, notes, stack, at, depth),
+        6 => evaluate(image, nodes, rows, top, table, notes, stack, at + 1, depth),
+        7 => give(image, nodes, rows, top, table, notes, stack, at + 1, depth),
+        _ => 0,
     }
 }
 
@@ -342,46 +280,32 @@ fn elements(
     nodes: usize,
     rows: &[[u16; 128]; 8],
     top: usize,
-    table: &mut [u16; 10272],
-    counts: Counts,
+    table: &mut [u16],
+    notes: &mut [u32; 8],
     stack: &mut [u16; 2048],
     at: usize,
     depth: usize,
-) -> Value
-    requires { ⌜ Ready (now image) nodes (now rows) top (tab (now table) (counts .types) (counts .elements)) (now stack) 0 at (stopOf (nodesOf (now image)) at) ⌝ }
+) -> usize
+    requires { ⌜ Noting (now notes) ⌝ }
+    requires { ⌜ Ready (now image) nodes (now rows) top (tabIn (now table) (now notes)) (now stack) 0 at (stopOf (nodesOf (now image)) at) ⌝ }
     requires { ⌜ At (now image) at depth ⌝ }
     ensures { λ r. ⌜ Iterated (now (image .entry)) depth
-        (tab (now (table .entry)) (counts .types) (counts .elements))
-        (tab (now (table .exit)) (r .counts .types) (r .counts .elements))
+        (tabIn (now (table .entry)) (now (notes .entry)))
+        (tabIn (now (table .exit)) (now (notes .exit)))
         (now (rows .entry)) top (now (stack .exit))
-        at (stopOf (nodesOf (now (image .entry))) at) (nodeCount (now (image .entry))) (r .code) (r .place) (r .number) (r .a) (r .b) ⌝ }
+        at (stopOf (nodesOf (now (image .entry))) at) (nodeCount (now (image .entry)))
+        (verdict r (now (notes .exit))) (placeIn (now (notes .exit))) r (firstIn (now (notes .exit))) (secondIn (now (notes .exit))) ⌝ }
+    ensures { λ r. ⌜ Kept (now (notes .entry)) (now (notes .exit)) r ⌝ }
 {
-    let v = expr(image, nodes, rows, top, table, counts, stack, 0, at, depth);
-    let code = v.code;
-    let more = v.counts;
-    if code != 0 {
+    let v = expr(image, nodes, rows, top, table, notes, stack, 0, at, depth);
+    if v == 65535 {
         return v;
     }
-    let number = v.number;
-    let element = element_of(table, number);
+    let element = element_of(table, v);
     if element.there {
-        return Value {
-            code: 0,
-            place: 0,
-            number: element.number,
-            a: 0,
-            b: 0,
-            counts: more,
-        };
+        return element.number;
     }
-    Value {
-        code: 24,
-        place: at,
-        number: 0,
-        a: number,
-        b: 0,
-        counts: more,
-    }
+    refused(notes, 24, at, v, 0)
 }
 
 // The cell of a name that has the type `number`.
@@ -420,56 +344,42 @@ fn stmt(
     image: &[u8],
     nodes: usize,
     rows: &mut [[u16; 128]; 8],
-    top: usize,
-    table: &mut [u16; 10272],
-    counts: Counts,
+    table: &mut [u16],
+    notes: &mut [u32; 8],
     stack: &mut [u16; 2048],
-    ret: usize,
     at: usize,
     depth: usize,
     looped: bool,
-) -> Out
-    requires { ⌜ Standing (now image) nodes (now rows) top (tab (now table) (counts .types) (counts .elements)) (now stack) ret at (stopOf (nodesOf (now image)) at) ⌝ }
+) -> usize
+    requires { ⌜ Noting (now notes) ⌝ }
+    requires { ⌜ Standing (now image) nodes (now rows) (topIn (now notes)) (tabIn (now table) (now notes)) (now stack) (retIn (now notes)) at (stopOf (nodesOf (now image)) at) ⌝ }
     requires { ⌜ At (now image) at depth ⌝ }
     ensures { λ r. ⌜ Done (namesOf (now (image .entry)))
-        (walkedAt (now (image .entry)) looped depth at (stateOf (tab (now (table .entry)) (counts .types) (counts .elements)) (now (rows .entry)) top ret))
-        (tab (now (table .entry)) (counts .types) (counts .elements))
-        (tab (now (table .exit)) (r .counts .types) (r .counts .elements))
-        (now (rows .exit)) top (r .top) (r .ret) (now (stack .exit))
-        at (stopOf (nodesOf (now (image .entry))) at) (nodeCount (now (image .entry))) (r .code) (r .place) (r .a) (r .b) ⌝ }
+        (walkedAt (now (image .entry)) looped depth at (stateOf (tabIn (now (table .entry)) (now (notes .entry))) (now (rows .entry)) (topIn (now (notes .entry))) (retIn (now (notes .entry)))))
+        (tabIn (now (table .entry)) (now (notes .entry)))
+        (tabIn (now (table .exit)) (now (notes .exit)))
+        (now (rows .exit)) (topIn (now (notes .entry))) (topIn (now (notes .exit))) (retIn (now (notes .exit))) (now (stack .exit))
+        at (stopOf (nodesOf (now (image .entry))) at) (nodeCount (now (image .entry)))
+        (verdict r (now (notes .exit))) (placeIn (now (notes .exit))) (firstIn (now (notes .exit))) (secondIn (now (notes .exit))) ⌝ }
+    ensures { λ r. ⌜ Tells (now (notes .exit)) r ⌝ }
 {
     let node = node_at(image, nodes, at);
     let kind = node.kind;
-    let n = node.children as usize;
-    let x = node.arg as usize;
     let d = depth - 1;
+    let top = wide(notes[7]);
     match kind {
-        8 => choices(
-            image,
-            nodes,
-            rows,
-            top,
-            table,
-            counts,
-            stack,
-            ret,
-            at,
-            n,
-            d,
-            looped,
-        ),
-        9 => repeat(image, nodes, rows, top, table, counts, stack, ret, at, d),
-        10 => each(image, nodes, rows, top, table, counts, stack, ret, at, x, d),
-        11 => define(image, nodes, rows, top, table, counts, stack, ret, at, n, d),
+        8 => choices(image, nodes, rows, table, notes, stack, at, d, looped),
+        9 => repeat(image, nodes, rows, table, notes, stack, at, d),
+        10 => each(image, nodes, rows, table, notes, stack, at, d),
+        11 => define(image, nodes, rows, table, notes, stack, at, d),
         _ => simple(
             image,
             nodes,
             rows,
             top,
             table,
-            counts,
+            notes,
             stack,
-            ret,
             at,
             kind,
             d,
@@ -483,121 +393,105 @@ fn block(
     image: &[u8],
     nodes: usize,
     rows: &mut [[u16; 128]; 8],
-    top: usize,
-    table: &mut [u16; 10272],
-    counts: Counts,
+    table: &mut [u16],
+    notes: &mut [u32; 8],
     stack: &mut [u16; 2048],
-    ret: usize,
     at: usize,
     depth: usize,
     looped: bool,
     drops: bool,
-) -> Out
-    requires { ⌜ Standing (now image) nodes (now rows) top (tab (now table) (counts .types) (counts .elements)) (now stack) ret at (stopOf (nodesOf (now image)) at) ⌝ }
+) -> usize
+    requires { ⌜ Noting (now notes) ⌝ }
+    requires { ⌜ Standing (now image) nodes (now rows) (topIn (now notes)) (tabIn (now table) (now notes)) (now stack) (retIn (now notes)) at (stopOf (nodesOf (now image)) at) ⌝ }
     requires { ⌜ At (now image) at depth ⌝ }
     ensures { λ r. ⌜ Done (namesOf (now (image .entry)))
-        (bodyAt (now (image .entry)) looped drops depth at (stateOf (tab (now (table .entry)) (counts .types) (counts .elements)) (now (rows .entry)) top ret))
-        (tab (now (table .entry)) (counts .types) (counts .elements))
-        (tab (now (table .exit)) (r .counts .types) (r .counts .elements))
-        (now (rows .exit)) top (r .top) (r .ret) (now (stack .exit))
-        at (stopOf (nodesOf (now (image .entry))) at) (nodeCount (now (image .entry))) (r .code) (r .place) (r .a) (r .b) ⌝ }
-    ensures quiet { λ r. ⌜ (drops ≡ true → (r .code ≡ 9 → ⊥) → r .code ≡ 0) ⌝ }
+        (bodyAt (now (image .entry)) looped drops depth at (stateOf (tabIn (now (table .entry)) (now (notes .entry))) (now (rows .entry)) (topIn (now (notes .entry))) (retIn (now (notes .entry)))))
+        (tabIn (now (table .entry)) (now (notes .entry)))
+        (tabIn (now (table .exit)) (now (notes .exit)))
+        (now (rows .exit)) (topIn (now (notes .entry))) (topIn (now (notes .exit))) (retIn (now (notes .exit))) (now (stack .exit))
+        at (stopOf (nodesOf (now (image .entry))) at) (nodeCount (now (image .entry)))
+        (verdict r (now (notes .exit))) (placeIn (now (notes .exit))) (firstIn (now (notes .exit))) (secondIn (now (notes .exit))) ⌝ }
+    ensures { λ r. ⌜ Tells (now (notes .exit)) r ⌝ }
+    ensures quiet { λ r. ⌜ (drops ≡ true → (verdict r (now (notes .exit)) ≡ 9 → ⊥) → verdict r (now (notes .exit)) ≡ 0) ⌝ }
 {
     let node = node_at(image, nodes, at);
     let d = depth - 1;
-    let mut types = counts.types;
-    let mut elements = counts.elements;
-    let mut high = top;
-    let mut got = ret;
     let mut j = at + 1;
     let mut left = node.children as usize;
     while 0 < left {
-        let c = Counts { types, elements };
-        let r = stmt(image, nodes, rows, high, table, c, stack, got, j, d, looped);
-        let code = r.code;
-        if code == 9 {
-            return r;
-        }
-        if code != 0 {
+        let r = stmt(image, nodes, rows, table, notes, stack, j, d, looped);
+        if r == 65535 {
+            if notes[2] == 9 {
+                return r;
+            }
             if !drops {
                 return r;
             }
         }
-        let more = r.counts;
-        types = more.types;
-        elements = more.elements;
-        high = r.top;
-        got = r.ret;
         j = stop_of(image, nodes, j);
         left -= 1;
     }
-    let c = Counts { types, elements };
-    told(0, 0, 0, 0, c, high, got)
+    0
 }
 
-// The If at node `at`, of n nodes: its branches, each on a copy of the frames, and then the merge.
+// The If at node `at`: its branches, each on a copy of the frames, and then the merge.
 fn choices(
     image: &[u8],
     nodes: usize,
     rows: &mut [[u16; 128]; 8],
-    top: usize,
-    table: &mut [u16; 10272],
-    counts: Counts,
+    table: &mut [u16],
+    notes: &mut [u32; 8],
     stack: &mut [u16; 2048],
-    ret: usize,
     at: usize,
-    n: usize,
     depth: usize,
     looped: bool,
-) -> Out
-    requires { ⌜ Standing (now image) nodes (now rows) top (tab (now table) (counts .types) (counts .elements)) (now stack) ret at (stopOf (nodesOf (now image)) at) ⌝ }
-    requires { ⌜ (Stmt (now image) at depth 8) × (n ≡ nodeOf (nodesOf (now image)) at .children) ⌝ }
+) -> usize
+    requires { ⌜ Noting (now notes) ⌝ }
+    requires { ⌜ Standing (now image) nodes (now rows) (topIn (now notes)) (tabIn (now table) (now notes)) (now stack) (retIn (now notes)) at (stopOf (nodesOf (now image)) at) ⌝ }
+    requires { ⌜ Stmt (now image) at depth 8 ⌝ }
     ensures { λ r. ⌜ Done (namesOf (now (image .entry)))
-        (acted (now (image .entry)) looped depth at (stateOf (tab (now (table .entry)) (counts .types) (counts .elements)) (now (rows .entry)) top ret))
-        (tab (now (table .entry)) (counts .types) (counts .elements))
-        (tab (now (table .exit)) (r .counts .types) (r .counts .elements))
-        (now (rows .exit)) top (r .top) (r .ret) (now (stack .exit))
-        at (stopOf (nodesOf (now (image .entry))) at) (nodeCount (now (image .entry))) (r .code) (r .place) (r .a) (r .b) ⌝ }
+        (acted (now (image .entry)) looped depth at (stateOf (tabIn (now (table .entry)) (now (notes .entry))) (now (rows .entry)) (topIn (now (notes .entry))) (retIn (now (notes .entry)))))
+        (tabIn (now (table .entry)) (now (notes .entry)))
+        (tabIn (now (table .exit)) (now (notes .exit)))
+        (now (rows .exit)) (topIn (now (notes .entry))) (topIn (now (notes .exit))) (retIn (now (notes .exit))) (now (stack .exit))
+        at (stopOf (nodesOf (now (image .entry))) at) (nodeCount (now (image .entry)))
+        (verdict r (now (notes .exit))) (placeIn (now (notes .exit))) (firstIn (now (notes .exit))) (secondIn (now (notes .exit))) ⌝ }
+    ensures { λ r. ⌜ Tells (now (notes .exit)) r ⌝ }
 {
     let mut merged = [0u16; 128];
     let mut clashes = [false; 128];
-    let mut types = counts.types;
-    let mut elements = counts.elements;
-    let mut gathered = ret;
+    let node = node_at(image, nodes, at);
+    let top = wide(notes[7]);
     let mut j = at + 1;
-    let mut left = n;
+    let mut left = node.children as usize;
     while 0 < left {
         let mut branch = *rows;
-        let c = Counts { types, elements };
         let r = one_arm(
             image,
             nodes,
             &mut branch,
-            top,
             table,
-            c,
+            notes,
             stack,
-            gathered,
             j,
             left,
             depth,
             looped,
         );
-        let code = r.code;
-        let more = r.counts;
-        if code != 0 {
-            return told(code, r.place, r.a, r.b, more, top, gathered);
+        let high = wide(notes[7]);
+        notes[7] = small(top);
+        if r == 65535 {
+            return r;
         }
-        note_branch(rows, top, &branch, r.top, &mut merged, &mut clashes);
-        types = more.types;
-        elements = more.elements;
-        gathered = r.ret;
+        note_branch(rows, top, &branch, high, &mut merged, &mut clashes);
         j = after_arm(image, nodes, j, left);
         left = fewer(left);
     }
     let m = commit(rows, top, &merged, &clashes, at + 1);
-    let c = Counts { types, elements };
-    told(m.code, at + 1, m.name, 0, c, top, gathered)
+    if m.code != 0 {
+        return refused(notes, m.code, at + 1, m.name, 0);
+    }
+    0
 }
 
 // The branch at node `at`, of `left` nodes of an If: its condition, if it has one, and its Block, whose errors are dropped.
@@ -605,43 +499,41 @@ fn one_arm(
     image: &[u8],
     nodes: usize,
     rows: &mut [[u16; 128]; 8],
-    top: usize,
-    table: &mut [u16; 10272],
-    counts: Counts,
+    table: &mut [u16],
+    notes: &mut [u32; 8],
     stack: &mut [u16; 2048],
-    ret: usize,
     at: usize,
     left: usize,
     depth: usize,
     looped: bool,
-) -> Out
-    requires { ⌜ Standing (now image) nodes (now rows) top (tab (now table) (counts .types) (counts .elements)) (now stack) ret at (stopOf (nodesOf (now image)) (armBlock (now image) left at)) ⌝ }
+) -> usize
+    requires { ⌜ Noting (now notes) ⌝ }
+    requires { ⌜ Standing (now image) nodes (now rows) (topIn (now notes)) (tabIn (now table) (now notes)) (now stack) (retIn (now notes)) at (stopOf (nodesOf (now image)) (armBlock (now image) left at)) ⌝ }
     requires { ⌜ Branch (now image) at left depth ⌝ }
     ensures { λ r. ⌜ Armed (namesOf (now (image .entry)))
-        (armedAt (now (image .entry)) looped depth left at (stateOf (tab (now (table .entry)) (counts .types) (counts .elements)) (now (rows .entry)) top ret))
-        (tab (now (table .entry)) (counts .types) (counts .elements))
-        (tab (now (table .exit)) (r .counts .types) (r .counts .elements))
-        (now (rows .entry)) (now (rows .exit)) top (r .top) ret (r .ret) (now (stack .exit))
-        at (stopOf (nodesOf (now (image .entry))) (armBlock (now (image .entry)) left at)) (nodeCount (now (image .entry))) (r .code) (r .place) (r .a) (r .b) ⌝ }
+        (armedAt (now (image .entry)) looped depth left at (stateOf (tabIn (now (table .entry)) (now (notes .entry))) (now (rows .entry)) (topIn (now (notes .entry))) (retIn (now (notes .entry)))))
+        (tabIn (now (table .entry)) (now (notes .entry)))
+        (tabIn (now (table .exit)) (now (notes .exit)))
+        (now (rows .entry)) (now (rows .exit)) (topIn (now (notes .entry))) (topIn (now (notes .exit))) (retIn (now (notes .entry))) (retIn (now (notes .exit))) (now (stack .exit))
+        at (stopOf (nodesOf (now (image .entry))) (armBlock (now (image .entry)) left at)) (nodeCount (now (image .entry)))
+        (verdict r (now (notes .exit))) (placeIn (now (notes .exit))) (firstIn (now (notes .exit))) (secondIn (now (notes .exit))) ⌝ }
+    ensures { λ r. ⌜ Tells (now (notes .exit)) r ⌝ }
 {
     let drops = true;
     if 1 < left {
-        let o = condition(image, nodes, rows, top, table, counts, stack, at, depth);
-        let code = o.code;
-        let more = o.counts;
-        if code != 0 {
-            return told(code, o.place, o.a, o.b, more, top, ret);
+        let top = wide(notes[7]);
+        let o = condition(image, nodes, rows, top, table, notes, stack, at, depth);
+        if o == 65535 {
+            return o;
         }
         let b = stop_of(image, nodes, at);
         return block(
             image,
             nodes,
             rows,
-            top,
             table,
-            more,
+            notes,
             stack,
-            ret,
             b,
             depth,
             looped,
@@ -652,11 +544,9 @@ fn one_arm(
         image,
         nodes,
         rows,
-        top,
         table,
-        counts,
+        notes,
         stack,
-        ret,
         at,
         depth,
         looped,
@@ -664,106 +554,107 @@ fn one_arm(
     )
 }
 
-// The Def at node `at`, with n children: its body on a frame more, which a failure leaves.
+// The Def at node `at`: its body on a frame more, which a failure leaves.
 fn define(
     image: &[u8],
     nodes: usize,
     rows: &mut [[u16; 128]; 8],
-    top: usize,
-    table: &mut [u16; 10272],
-    counts: Counts,
+    table: &mut [u16],
+    notes: &mut [u32; 8],
     stack: &mut [u16; 2048],
-    ret: usize,
     at: usize,
-    n: usize,
     depth: usize,
-) -> Out
-    requires { ⌜ Standing (now image) nodes (now rows) top (tab (now table) (counts .types) (counts .elements)) (now stack) ret at (stopOf (nodesOf (now image)) at) ⌝ }
-    requires { ⌜ (Stmt (now image) at depth 11) × (n ≡ nodeOf (nodesOf (now image)) at .children) ⌝ }
+) -> usize
+    requires { ⌜ Noting (now notes) ⌝ }
+    requires { ⌜ Standing (now image) nodes (now rows) (topIn (now notes)) (tabIn (now table) (now notes)) (now stack) (retIn (now notes)) at (stopOf (nodesOf (now image)) at) ⌝ }
+    requires { ⌜ Stmt (now image) at depth 11 ⌝ }
     ensures { λ r. ⌜ ((loop : Bool) → Done (namesOf (now (image .entry)))
-        (acted (now (image .entry)) loop depth at (stateOf (tab (now (table .entry)) (counts .types) (counts .elements)) (now (rows .entry)) top ret))
-        (tab (now (table .entry)) (counts .types) (counts .elements))
-        (tab (now (table .exit)) (r .counts .types) (r .counts .elements))
-        (now (rows .exit)) top (r .top) (r .ret) (now (stack .exit))
-        at (stopOf (nodesOf (now (image .entry))) at) (nodeCount (now (image .entry))) (r .code) (r .place) (r .a) (r .b)) ⌝ }
+        (acted (now (image .entry)) loop depth at (stateOf (tabIn (now (table .entry)) (now (notes .entry))) (now (rows .entry)) (topIn (now (notes .entry))) (retIn (now (notes .entry)))))
+        (tabIn (now (table .entry)) (now (notes .entry)))
+        (tabIn (now (table .exit)) (now (notes .exit)))
+        (now (rows .exit)) (topIn (now (notes .entry))) (topIn (now (notes .exit))) (retIn (now (notes .exit))) (now (stack .exit))
+        at (stopOf (nodesOf (now (image .entry))) at) (nodeCount (now (image .entry)))
+        (verdict r (now (notes .exit))) (placeIn (now (notes .exit))) (firstIn (now (notes .exit))) (secondIn (now (notes .exit)))) ⌝ }
+    ensures { λ r. ⌜ Tells (now (notes .exit)) r ⌝ }
 {
+    let top = wide(notes[7]);
+    let ret = notes[6];
     if 7 <= top {
-        return told(9, at, 0, 0, counts, top, ret);
+        return refused(notes, 9, at, 0, 0);
     }
+    let node = node_at(image, nodes, at);
+    let n = node.children as usize;
     clear(rows, top + 1);
     let b = parameters(image, nodes, rows, top + 1, at, n - 1);
+    notes[7] = small(top + 1);
+    notes[6] = 0;
     let r = block(
         image,
         nodes,
         rows,
-        top + 1,
         table,
-        counts,
+        notes,
         stack,
-        0,
         b,
         depth,
         false,
         false,
     );
-    let code = r.code;
-    let newest = r.top;
-    let more = r.counts;
-    if code == 0 {
-        return told(0, 0, 0, 0, more, newest - 1, ret);
+    notes[6] = ret;
+    if r == 65535 {
+        return r;
     }
-    told(code, r.place, r.a, r.b, more, newest, ret)
+    notes[7] = notes[7] - 1;
+    0
 }
 
-// The For over name x at node `at`: its body on a copy of the frames, of which nothing stays; its errors are returned.
+// The For at node `at`: its body on a copy of the frames, of which nothing stays; its errors are returned.
 fn each(
     image: &[u8],
     nodes: usize,
     rows: &[[u16; 128]; 8],
-    top: usize,
-    table: &mut [u16; 10272],
-    counts: Counts,
+    table: &mut [u16],
+    notes: &mut [u32; 8],
     stack: &mut [u16; 2048],
-    ret: usize,
     at: usize,
-    x: usize,
     depth: usize,
-) -> Out
-    requires { ⌜ Standing (now image) nodes (now rows) top (tab (now table) (counts .types) (counts .elements)) (now stack) ret at (stopOf (nodesOf (now image)) at) ⌝ }
-    requires { ⌜ (Stmt (now image) at depth 10) × (x ≡ nodeOf (nodesOf (now image)) at .arg) ⌝ }
+) -> usize
+    requires { ⌜ Noting (now notes) ⌝ }
+    requires { ⌜ Standing (now image) nodes (now rows) (topIn (now notes)) (tabIn (now table) (now notes)) (now stack) (retIn (now notes)) at (stopOf (nodesOf (now image)) at) ⌝ }
+    requires { ⌜ Stmt (now image) at depth 10 ⌝ }
     ensures { λ r. ⌜ ((loop : Bool) → Done (namesOf (now (image .entry)))
-        (acted (now (image .entry)) loop depth at (stateOf (tab (now (table .entry)) (counts .types) (counts .elements)) (now (rows .entry)) top ret))
-        (tab (now (table .entry)) (counts .types) (counts .elements))
-        (tab (now (table .exit)) (r .counts .types) (r .counts .elements))
-        (now (rows .entry)) top (r .top) (r .ret) (now (stack .exit))
-        at (stopOf (nodesOf (now (image .entry))) at) (nodeCount (now (image .entry))) (r .code) (r .place) (r .a) (r .b)) ⌝ }
+        (acted (now (image .entry)) loop depth at (stateOf (tabIn (now (table .entry)) (now (notes .entry))) (now (rows .entry)) (topIn (now (notes .entry))) (retIn (now (notes .entry)))))
+        (tabIn (now (table .entry)) (now (notes .entry)))
+        (tabIn (now (table .exit)) (now (notes .exit)))
+        (now (rows .entry)) (topIn (now (notes .entry))) (topIn (now (notes .exit))) (retIn (now (notes .exit))) (now (stack .exit))
+        at (stopOf (nodesOf (now (image .entry))) at) (nodeCount (now (image .entry)))
+        (verdict r (now (notes .exit))) (placeIn (now (notes .exit))) (firstIn (now (notes .exit))) (secondIn (now (notes .exit)))) ⌝ }
+    ensures { λ r. ⌜ Tells (now (notes .exit)) r ⌝ }
 {
-    let v = elements(image, nodes, rows, top, table, counts, stack, at + 1, depth);
-    let code = v.code;
-    let more = v.counts;
-    if code != 0 {
-        return told(code, v.place, v.a, v.b, more, top, ret);
+    let top = wide(notes[7]);
+    let v = elements(image, nodes, rows, top, table, notes, stack, at + 1, depth);
+    if v == 65535 {
+        return v;
     }
-    let cell = cell_of(v.number);
+    let node = node_at(image, nodes, at);
+    let cell = cell_of(v);
     let mut inner = *rows;
-    bind(&mut inner, top, x, cell);
+    bind(&mut inner, top, node.arg as usize, cell);
     let b = stop_of(image, nodes, at + 1);
     let r = block(
         image,
         nodes,
         &mut inner,
-        top,
         table,
-        more,
+        notes,
         stack,
-        ret,
         b,
         depth,
         true,
         false,
     );
-    let last = r.counts;
-    told(r.code, r.place, r.a, r.b, last, top, r.ret)
+    notes[7] = small(top);
+    r
 }
 
 // The While at node `at`: its body on a copy of the frames, of which nothing stays; its errors are dropped.
@@ -771,28 +662,28 @@ fn repeat(
     image: &[u8],
     nodes: usize,
     rows: &[[u16; 128]; 8],
-    top: usize,
-    table: &mut [u16; 10272],
-    counts: Counts,
+    table: &mut [u16],
+    notes: &mut [u32; 8],
     stack: &mut [u16; 2048],
-    ret: usize,
     at: usize,
     depth: usize,
-) -> Out
-    requires { ⌜ Standing (now image) nodes (now rows) top (tab (now table) (counts .types) (counts .elements)) (now stack) ret at (stopOf (nodesOf (now image)) at) ⌝ }
+) -> usize
+    requires { ⌜ Noting (now notes) ⌝ }
+    requires { ⌜ Standing (now image) nodes (now rows) (topIn (now notes)) (tabIn (now table) (now notes)) (now stack) (retIn (now notes)) at (stopOf (nodesOf (now image)) at) ⌝ }
     requires { ⌜ Stmt (now image) at depth 9 ⌝ }
     ensures { λ r. ⌜ ((loop : Bool) → Done (namesOf (now (image .entry)))
-        (acted (now (image .entry)) loop depth at (stateOf (tab (now (table .entry)) (counts .types) (counts .elements)) (now (rows .entry)) top ret))
-        (tab (now (table .entry)) (counts .types) (counts .elements))
-        (tab (now (table .exit)) (r .counts .types) (r .counts .elements))
-        (now (rows .entry)) top (r .top) (r .ret) (now (stack .exit))
-        at (stopOf (nodesOf (now (image .entry))) at) (nodeCount (now (image .entry))) (r .code) (r .place) (r .a) (r .b)) ⌝ }
+        (acted (now (image .entry)) loop depth at (stateOf (tabIn (now (table .entry)) (now (notes .entry))) (now (rows .entry)) (topIn (now (notes .entry))) (retIn (now (notes .entry)))))
+        (tabIn (now (table .entry)) (now (notes .entry)))
+        (tabIn (now (table .exit)) (now (notes .exit)))
+        (now (rows .entry)) (topIn (now (notes .entry))) (topIn (now (notes .exit))) (retIn (now (notes .exit))) (now (stack .exit))
+        at (stopOf (nodesOf (now (image .entry))) at) (nodeCount (now (image .entry)))
+        (verdict r (now (notes .exit))) (placeIn (now (notes .exit))) (firstIn (now (notes .exit))) (secondIn (now (notes .exit)))) ⌝ }
+    ensures { λ r. ⌜ Tells (now (notes .exit)) r ⌝ }
 {
-    let o = condition(image, nodes, rows, top, table, counts, stack, at + 1, depth);
-    let code = o.code;
-    let more = o.counts;
-    if code != 0 {
-        return told(code, o.place, o.a, o.b, more, top, ret);
+    let top = wide(notes[7]);
+    let o = condition(image, nodes, rows, top, table, notes, stack, at + 1, depth);
+    if o == 65535 {
+        return o;
     }
     let mut inner = *rows;
     let b = stop_of(image, nodes, at + 1);
@@ -800,18 +691,16 @@ fn repeat(
         image,
         nodes,
         &mut inner,
-        top,
         table,
-        more,
+        notes,
         stack,
-        ret,
         b,
         depth,
         true,
         true,
     );
-    let last = r.counts;
-    told(r.code, r.place, r.a, r.b, last, top, r.ret)
+    notes[7] = small(top);
+    r
 }
 
 // ---- the program
@@ -831,40 +720,35 @@ pub fn program(
     image: &[u8],
     nodes: usize,
     frames: &mut [[u16; 128]; 8],
-    table: &mut [u16; 10272],
+    table: &mut [u16],
     stack: &mut [u16; 2048],
-    counts: Counts,
 ) -> Walked
-    requires { ⌜ Started (now image) nodes (now frames) (tab (now table) (counts .types) (counts .elements)) (now stack) ⌝ }
+    requires { ⌜ Started (now image) nodes (now frames) (tab (now table) 8 0) (now stack) ⌝ }
     ensures { λ r. ⌜ Ran (now (image .entry))
-        (tab (now (table .entry)) (counts .types) (counts .elements))
+        (tab (now (table .entry)) 8 0)
         (tab (now (table .exit)) (r .counts .types) (r .counts .elements))
         (now (frames .exit)) (r .top) (now (stack .exit)) (r .code) (r .place) (r .a) (r .b) ⌝ }
 {
+    let mut notes = [1u32; 8];
+    notes[0] = 8;
+    notes[1] = 0;
+    notes[7] = 0;
     let node = node_at(image, nodes, 0);
-    let mut types = counts.types;
-    let mut elements = counts.elements;
-    let mut high: usize = 0;
     let mut j: usize = 1;
     let mut left = node.children as usize;
     while 0 < left {
-        let c = Counts { types, elements };
-        let r = stmt(image, nodes, frames, high, table, c, stack, 0, j, 63, false);
-        let code = r.code;
-        let more = r.counts;
-        if code != 0 {
+        notes[6] = 0;
+        let r = stmt(image, nodes, frames, table, &mut notes, stack, j, 63, false);
+        if r == 65535 {
             return Walked {
-                code,
-                place: r.place,
-                a: r.a,
-                b: r.b,
-                counts: more,
-                top: r.top,
+                code: notes[2],
+                place: wide(notes[3]),
+                a: wide(notes[4]),
+                b: wide(notes[5]),
+                counts: counts_of(&notes),
+                top: wide(notes[7]),
             };
         }
-        types = more.types;
-        elements = more.elements;
-        high = r.top;
         j = stop_of(image, nodes, j);
         left -= 1;
     }
@@ -873,7 +757,7 @@ pub fn program(
         place: 0,
         a: 0,
         b: 0,
-        counts: Counts { types, elements },
-        top: high,
+        counts: counts_of(&notes),
+        top: wide(notes[7]),
     }
 }

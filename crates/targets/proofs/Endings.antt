@@ -1,5 +1,5 @@
 -- How a part of the walk ended, by its code; and what it leaves, from part to part.
-use mathlib.Core.Path.{_≡_}
+use mathlib.Core.Path.{_≡_, sym, ap, _∙_}
 use mathlib.Core.List.{List}
 use Prim.Native.Nat.{ℕ, _≤_}
 use native.Mathlib.Omega.{arith}
@@ -9,13 +9,15 @@ use Rattle.meaning.specs.Base.{if_then_else_}
 use Rattle.meaning.specs.Types.{Ty}
 use Rattle.meaning.specs.Image.{Name}
 use Rattle.meaning.specs.Message.{refusal}
-use Rattle.meaning.specs.Walk.{state, done, wrong, tooDeep}
+use Rattle.meaning.specs.Walk.{state, End, done, wrong, tooDeep}
 use Rattle.types.specs.Table.{Tab, Wf}
 use Rattle.types.proofs.Laws.{grown-refl, grown-trans}
 use Rattle.frames.specs.Env.{Rows, framesOf, Fit}
 use Rattle.rules.specs.Outcome.{pieces}
 use Rattle.rules.proofs.Outcomes.{names-none}
-use Rattle.targets.specs.Ending.{ended, Named, Left}
+use Rattle.nodes.specs.Notes.{placeIn, firstIn, secondIn, tabIn, verdict, Refused}
+use Rattle.nodes.proofs.Noting.{refused-verdict, refused-pieces, refused-first, refused-second, refused-small}
+use Rattle.targets.specs.Ending.{ended, Named, Left, Assigned}
 
 -- ---- an end, by its code
 
@@ -67,3 +69,38 @@ left-wider a h k = record {
   types-spent = omega (arith, a .types-spent);
   elements-spent = omega (arith, a .elements-spent);
 }
+
+-- ---- a target's end is noted
+
+-- it ended well, whatever else the notes have
+pub assigned-well : {ws : List Name} {r : Ty → End} {t u : Tab} {gs : Rows} {top : ℕ} {su : List ℕ} {i e M code place a b code′ place′ a′ b′ : ℕ} → code ≡ 0 → code′ ≡ 0
+    → Assigned ws r t u gs top su i e M code place a b → Assigned ws r t u gs top su i e M code′ place′ a′ b′
+assigned-well {ws} {u = u} {gs} {top} {code = code} {place} {a} {b} {code′} {place′} {a′} {b′} z z′ x = record {
+  says = λ y. x .says y ∙ ended-well ws u gs top y code place a b z ∙ sym (ended-well ws u gs top y code′ place′ a′ b′ z′);
+  named = named-none z′;
+  left = x .left;
+  typing = λ q. absurd (omega arith);
+}
+
+pub assigned-refused : {ws : List Name} {r : Ty → End} {t : Tab} {cells ns ms : List ℕ} {gs : Rows} {top : ℕ} {su : List ℕ} {i e M code place a b q : ℕ} → M ≤ 4294967296
+    → (code ≡ 0 → ⊥) → Assigned ws r t (tabIn cells ns) gs top su i e M code place a b → Refused ns ms q code place a b
+    → Assigned ws r t (tabIn cells ms) gs top su i e M (verdict q ms) (placeIn ms) (firstIn ms) (secondIn ms)
+assigned-refused {ws} {cells = cells} {ns} {ms} {gs} {top} {code = code} {place} {a} {b} l z x f =
+    let u = tabIn cells ns in
+    let w = x .left .grown .wf in
+    let n = x .named in
+    rw (f .types-kept, f .elements-kept, refused-verdict f, f .placed (omega (arith, l, n .placed z))) record {
+      says = λ y.
+          x .says y
+          ∙ ended-wrong ws u gs top y code place a b z (x .typing)
+          ∙ ap (λ ps. wrong (refusal code place ps) (state (framesOf u gs top) y)) (refused-pieces f w (n .first) (n .second) (n .small z) ws)
+          ∙ sym (ended-wrong ws u gs top y code place (firstIn ms) (secondIn ms) z (x .typing));
+      named = record {
+        first = refused-first f w (n .first) (n .second) (n .small z);
+        second = refused-second f w (n .first) (n .second) (n .small z);
+        small = λ y. refused-small f w (n .first) (n .second) (n .small z);
+        placed = n .placed;
+      };
+      left = x .left;
+      typing = x .typing;
+    }

@@ -200,14 +200,14 @@ module _ {bs : List ℕ} {nodes : ℕ} {fs : Rows} {top : ℕ} {t : Tab} {st : L
   unfolding typesNamed base-open
   names-28 = refl
 
-  pub single-other : (m .kind ≡ 28 → ⊥) → (m .kind ≡ 21 → ⊥) → (m .kind ≡ 25 → ⊥) → (m .kind ≡ 31 → ⊥)
+  pub single-other : (nodeOf (nodesOf bs) i .kind ≡ 28 → ⊥) → (m .kind ≡ 21 → ⊥) → (m .kind ≡ 25 → ⊥) → (m .kind ≡ 31 → ⊥)
       → Assigned (namesOf bs) (λ v. assignTo (namesOf bs) (exprAt (nodesOf bs) d i) (denote t ty) (state (framesOf t fs top) v)) t t fs top st i
       (stopOf (nodesOf bs) i) (nodeCount bs) 28 i 0 0
   unfolding ended pieces typesNamed base-open
   single-other k₂₈ k₂₁ k₂₅ k₃₁ =
       let g : (c : ℕ) → (m .kind ≡ c → ⊥) → nodeOf (nodesOf bs) i .kind ≡ c → ⊥ = λ c n e. n (ap (λ (x : Node). x .kind) z ∙ e) in
       record {
-        says = λ v. to-other (namesOf bs) (nodesOf bs) d i (here-now .deep .0) (denote t ty) _ (g 21 k₂₁) (g 25 k₂₅) (g 28 k₂₈) (g 31 k₃₁);
+        says = λ v. to-other (namesOf bs) (nodesOf bs) d i (here-now .deep .0) (denote t ty) _ (g 21 k₂₁) (g 25 k₂₅) k₂₈ (g 31 k₃₁);
         named = record {
           first = λ q. absurd (omega (arith, names-28));
           second = λ q. absurd (omega (arith, names-28));

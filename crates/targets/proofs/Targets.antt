@@ -57,6 +57,9 @@ module _ {bs : List ℕ} {nodes : ℕ} {fs : Rows} {top : ℕ} {t : Tab} {st : L
   pub levels-left : d ≡ 0 → ⊥
   levels-left = here (r .sound) h .deep .0
 
+  pub no-tuple : (m .kind ≡ 28 → ⊥) → nodeOf (nodesOf bs) i .kind ≡ 28 → ⊥
+  no-tuple n e = n (ap (λ (x : Node). x .kind) z ∙ e)
+
   pub targets-within : Within bs i (m .children) (d - 1)
   targets-within = record { there = h .there; many = ap (λ (x : Node). x .children) z; deep = here (r .sound) h .deep .1 }
 
@@ -151,8 +154,8 @@ module _ {bs : List ℕ} {nodes : ℕ} {fs : Rows} {top : ℕ} {t : Tab} {st : L
         wf = f .grown .wf;
         fit = f .fit;
         stack = f .stack;
-        types-room = omega (arith, r .types-room, f .types-spent, c .1);
-        elements-room = omega (arith, r .elements-room, f .elements-spent, c .1);
+        types-room = omega (arith, r .types-room, f .types-spent, f .grown .as-wide, c .1);
+        elements-room = omega (arith, r .elements-room, f .elements-spent, f .grown .as-wide, c .1);
         stack-room = omega (arith, r .stack-room, c .1, l .behind);
       }
 
@@ -223,17 +226,17 @@ module _ {bs : List ℕ} {nodes : ℕ} {fs : Rows} {top : ℕ} {t : Tab} {st : L
                 loop-answer y ∙ rw (x .says y, f);
           })
 
-pub loop-end : {bs : List ℕ} {nodes : ℕ} {fs : Rows} {top : ℕ} {t : Tab} {st : List ℕ} {i n ty d : ℕ} {u : Tab} {gs : Rows} {su : List ℕ} {j k : ℕ}
-    → Loop bs nodes fs top t st i n ty d u gs su j k → n ≤ k
+pub loop-end : {bs : List ℕ} {nodes : ℕ} {fs : Rows} {top : ℕ} {t : Tab} {st : List ℕ} {i n ty d : ℕ} {u : Tab} {gs : Rows} {su : List ℕ} {j k code place a b : ℕ}
+    → Loop bs nodes fs top t st i n ty d u gs su j k → n ≤ k → code ≡ 0
     → Assigned (namesOf bs) (λ y. Each bs d n (suc i) (spread n (denote t ty)) (state (framesOf t fs top) y)) t u gs top su i
-    (stopOf (nodesOf bs) i) (nodeCount bs) 0 0 0 0
+    (stopOf (nodesOf bs) i) (nodeCount bs) code place a b
 unfolding assignTo exprsFrom stopOf
-loop-end {bs} {fs = fs} {top} {t} {i = i} {n} {ty} {d} {u} {gs} {su} {j} {k} l z =
+loop-end {bs} {fs = fs} {top} {t} {i = i} {n} {ty} {d} {u} {gs} {su} {j} {k} {code} {place} {a} {b} l z w =
     let o : n - k ≡ 0 = omega arith in
     let e : j ≡ nodeOf (nodesOf bs) i .stop = children-end (rw o at (l .rest)) in
     record {
-      says = λ y. (rw o at (l .answer y)) ∙ sym (ended-well (namesOf bs) u gs top y 0 0 0 0 refl);
-      named = named-none refl;
+      says = λ y. (rw o at (l .answer y)) ∙ sym (ended-well (namesOf bs) u gs top y code place a b w);
+      named = named-none w;
       left = left-wider (l .left) (omega arith) (omega (arith, e));
       typing = λ q. absurd (omega arith);
     }

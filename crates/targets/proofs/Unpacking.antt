@@ -10,10 +10,10 @@ use lib.ListN.{length, replicate, length-replicate, getD-replicate}
 use Rattle.meaning.specs.Base.{ifSome, orElse, if_then_else_, choose, base-open}
 use Rattle.meaning.specs.Types.{Ty, unknown, kind, parts, part}
 use Rattle.meaning.specs.Walk.{State, End, unpacked, unpackInto}
-use Rattle.types.specs.Table.{Tab, Wf, Grown, denote}
+use Rattle.types.specs.Table.{Tab, capacity, Wf, Grown, denote}
 use Rattle.types.specs.Reading.{KindOf, PartOf, CountOf, ElementAt, IsElement}
 use Rattle.types.proofs.Laws.{unknown-number, record-kind, parts-many}
-use Rattle.types.proofs.Readers.{is-element}
+use Rattle.types.proofs.Readers.{in-room, is-element}
 use Rattle.rules.specs.Leaves.{Known}
 use Rattle.rules.specs.Outcome.{typesNamed, pieces}
 use Rattle.targets.specs.Spreading.{spread, Spreads, Unpacks, Sharing, Share}
@@ -74,10 +74,7 @@ known-count {i = i} h told z c =
     let t = h .table in
     let q : kind (denote t i) ≡ 10 = sym (told .says t (h .cells) (h .wf) (h .below)) ∙ z in
     let r = record-kind (h .wf) i (h .below) q in
-    omega (arith, c .says t (h .cells) (h .wf) (h .below) q, parts-many (h .wf) i (h .below) r, h .wf .low i (h .below) .inside r, h .wf .space)
-
-pub known-small : {cs : List ℕ} {i : ℕ} → Known cs i → i < 2056
-known-small h = omega (arith, h .below, h .wf .room)
+    omega (arith, c .says t (h .cells) (h .wf) (h .below) q, parts-many (h .wf) i (h .below) r, h .wf .low i (h .below) .inside r, h .wf .space, h .wf .most)
 
 module _ {cs : List ℕ} {i x : ℕ} (k : ℕ) (told : KindOf cs i x) where
   kind-is : (t : Tab) → t.cells ≡ cs → Wf t → i < t.n → (c : ℕ) → x ≡ c → kind (denote t i) ≡ c
@@ -142,6 +139,9 @@ module _ {cs : List ℕ} {i x : ℕ} (k : ℕ) (told : KindOf cs i x) where
   }
 
 -- ---- the answers of `part_for`
+
+pub sharing-room : {cs : List ℕ} {i j : ℕ} → Sharing cs i j → i < capacity cs
+sharing-room s = rw (s .cells) at (in-room (s .wf) _ (s .below))
 
 module _ {cs : List ℕ} {i j x : ℕ} (told : KindOf cs i x) where
   pub sharing-element : Sharing cs i j → x ≡ 10 → IsElement cs i j

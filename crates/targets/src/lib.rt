@@ -5,34 +5,24 @@ ghost use lib.ListN.{length};
 ghost use Rattle.meaning.specs.Image.{nodeCount, nodesOf, nodeOf, namesOf};
 ghost use Rattle.meaning.specs.Decode.{exprsFrom, exprAt, stopOf};
 ghost use Rattle.meaning.specs.Walk.{state, done, checked, assignTo, assignEach};
-ghost use Rattle.types.specs.Table.{tab, denote};
+ghost use Rattle.types.specs.Table.{denote};
 ghost use Rattle.frames.specs.Env.{framesOf};
 ghost use Rattle.rules.specs.Leaves.{Known};
-ghost use Rattle.image.specs.Parts.{nodeMeans};
+ghost use Rattle.nodes.specs.Notes.{typesIn, placeIn, firstIn, secondIn, tabIn, verdict, Noting, Kept};
 ghost use Rattle.expr.specs.Contract.{Ready, At};
 ghost use Rattle.targets.specs.Ending.{Assigned};
 ghost use Rattle.targets.specs.Spreading.{Written, spread, Spreads, Unpacks, Sharing, Share, Within};
 use expr::expr;
 use frames::bind;
 use frames::lookup;
-use image::Node;
 use image::node_at;
+use nodes::refused;
 use nodes::stop_of;
-use types::Counts;
 use types::agreed;
 use types::count_of;
 use types::element_at;
 use types::kind_of;
 use types::part_of;
-
-// Code 0, 9 or a typing code, its node, the numbers that a message needs, and the counts of the table.
-pub struct Outcome {
-    pub code: u32,
-    pub place: usize,
-    pub a: usize,
-    pub b: usize,
-    pub counts: Counts,
-}
 
 // Code 0, or a typing code and the numbers that its message needs.
 struct Verdict {
@@ -74,7 +64,7 @@ fn assign_name(frames: &mut [[u16; 128]; 8], top: usize, at: usize, x: usize, ty
 }
 
 // Whether type `ty` can be unpacked into k targets: 26 where a Tuple has another length, 27 where the type has no parts to give.
-fn unpack(table: &[u16; 10272], ty: usize, k: u32) -> Verdict
+fn unpack(table: &[u16], ty: usize, k: u32) -> Verdict
     requires { ⌜ Known (now table) ty ⌝ }
     ensures { λ r. ⌜ Unpacks (now (table .entry)) ty k (r .code) (r .a) (r .b) ⌝ }
 {
@@ -114,7 +104,7 @@ fn unpack(table: &[u16; 10272], ty: usize, k: u32) -> Verdict
 }
 
 // The type that target j gets of type `ty`.
-fn part_for(table: &[u16; 10272], ty: usize, j: usize) -> usize
+fn part_for(table: &[u16], ty: usize, j: usize) -> usize
     requires { ⌜ Sharing (now table) ty j ⌝ }
     ensures { λ r. ⌜ Share (now (table .entry)) ty j r ⌝ }
 {
@@ -131,52 +121,39 @@ fn check_only(
     nodes: usize,
     frames: &[[u16; 128]; 8],
     top: usize,
-    table: &mut [u16; 10272],
-    counts: Counts,
+    table: &mut [u16],
+    notes: &mut [u32; 8],
     stack: &mut [u16; 2048],
     at: usize,
     depth: usize,
-) -> Outcome
-    requires { ⌜ Ready (now image) nodes (now frames) top (tab (now table) (counts .types) (counts .elements)) (now stack) 0 at (stopOf (nodesOf (now image)) at) ⌝ }
+) -> usize
+    requires { ⌜ Noting (now notes) ⌝ }
+    requires { ⌜ Ready (now image) nodes (now frames) top (tabIn (now table) (now notes)) (now stack) 0 at (stopOf (nodesOf (now image)) at) ⌝ }
     requires { ⌜ At (now image) at depth ⌝ }
     ensures { λ r. ⌜ Assigned (namesOf (now (image .entry)))
         (λ y. checked (namesOf (now (image .entry)))
         (exprAt (nodesOf (now (image .entry))) depth at)
-        (state (framesOf (tab (now (table .entry)) (counts .types) (counts .elements)) (now (frames .entry)) top) y)
-        (λ u. done (state (framesOf (tab (now (table .entry)) (counts .types) (counts .elements)) (now (frames .entry)) top) y)))
-        (tab (now (table .entry)) (counts .types) (counts .elements))
-        (tab (now (table .exit)) (r .counts .types) (r .counts .elements))
+        (state (framesOf (tabIn (now (table .entry)) (now (notes .entry))) (now (frames .entry)) top) y)
+        (λ u. done (state (framesOf (tabIn (now (table .entry)) (now (notes .entry))) (now (frames .entry)) top) y)))
+        (tabIn (now (table .entry)) (now (notes .entry)))
+        (tabIn (now (table .exit)) (now (notes .exit)))
         (now (frames .entry))
         top
         (now (stack .exit))
         at
         (stopOf (nodesOf (now (image .entry))) at)
         (nodeCount (now (image .entry)))
-        (r .code)
-        (r .place)
-        (r .a)
-        (r .b) ⌝ }
+        (verdict r (now (notes .exit)))
+        (placeIn (now (notes .exit)))
+        (firstIn (now (notes .exit)))
+        (secondIn (now (notes .exit))) ⌝ }
+    ensures { λ r. ⌜ Kept (now (notes .entry)) (now (notes .exit)) r ⌝ }
 {
-    let v = expr(
-        image,
-        nodes,
-        frames,
-        top,
-        table,
-        counts,
-        stack,
-        0,
-        at,
-        depth,
-    );
-    let counts = v.counts;
-    Outcome {
-        code: v.code,
-        place: v.place,
-        a: v.a,
-        b: v.b,
-        counts,
+    let v = expr(image, nodes, frames, top, table, notes, stack, 0, at, depth);
+    if v == 65535 {
+        return v;
     }
+    0
 }
 
 // A target that is no Tuple: 28 is what cannot be one.
@@ -185,57 +162,50 @@ fn single(
     nodes: usize,
     frames: &mut [[u16; 128]; 8],
     top: usize,
-    table: &mut [u16; 10272],
-    counts: Counts,
+    table: &mut [u16],
+    notes: &mut [u32; 8],
     stack: &mut [u16; 2048],
     at: usize,
-    node: Node,
     ty: usize,
     depth: usize,
-) -> Outcome
-    requires { ⌜ Ready (now image) nodes (now frames) top (tab (now table) (counts .types) (counts .elements)) (now stack) 0 at (stopOf (nodesOf (now image)) at) ⌝ }
+) -> usize
+    requires { ⌜ Noting (now notes) ⌝ }
+    requires { ⌜ Ready (now image) nodes (now frames) top (tabIn (now table) (now notes)) (now stack) 0 at (stopOf (nodesOf (now image)) at) ⌝ }
     requires { ⌜ At (now image) at depth ⌝ }
-    requires { ⌜ (nodeMeans node ≡ nodeOf (nodesOf (now image)) at) × (node .kind ≡ 28 → ⊥) ⌝ }
-    requires { ⌜ ty < counts .types ⌝ }
+    requires { ⌜ (nodeOf (nodesOf (now image)) at .kind ≡ 28 → ⊥) ⌝ }
+    requires { ⌜ ty < typesIn (now notes) ⌝ }
     ensures { λ r. ⌜ Assigned (namesOf (now (image .entry)))
         (λ y. assignTo (namesOf (now (image .entry)))
         (exprAt (nodesOf (now (image .entry))) depth at)
-        (denote (tab (now (table .entry)) (counts .types) (counts .elements)) ty)
-        (state (framesOf (tab (now (table .entry)) (counts .types) (counts .elements)) (now (frames .entry)) top) y))
-        (tab (now (table .entry)) (counts .types) (counts .elements))
-        (tab (now (table .exit)) (r .counts .types) (r .counts .elements))
+        (denote (tabIn (now (table .entry)) (now (notes .entry))) ty)
+        (state (framesOf (tabIn (now (table .entry)) (now (notes .entry))) (now (frames .entry)) top) y))
+        (tabIn (now (table .entry)) (now (notes .entry)))
+        (tabIn (now (table .exit)) (now (notes .exit)))
         (now (frames .exit))
         top
         (now (stack .exit))
         at
         (stopOf (nodesOf (now (image .entry))) at)
         (nodeCount (now (image .entry)))
-        (r .code)
-        (r .place)
-        (r .a)
-        (r .b) ⌝ }
+        (verdict r (now (notes .exit)))
+        (placeIn (now (notes .exit)))
+        (firstIn (now (notes .exit)))
+        (secondIn (now (notes .exit))) ⌝ }
+    ensures { λ r. ⌜ Kept (now (notes .entry)) (now (notes .exit)) r ⌝ }
 {
+    let node = node_at(image, nodes, at);
     let kind = node.kind;
     match kind {
         21 => {
             let v = assign_name(frames, top, at, node.arg as usize, ty);
-            Outcome {
-                code: v.code,
-                place: at,
-                a: v.a,
-                b: v.b,
-                counts,
+            if v.code != 0 {
+                return refused(notes, v.code, at, v.a, v.b);
             }
+            0
         }
-        25 => check_only(image, nodes, frames, top, table, counts, stack, at, depth),
-        31 => check_only(image, nodes, frames, top, table, counts, stack, at, depth),
-        _ => Outcome {
-            code: 28,
-            place: at,
-            a: 0,
-            b: 0,
-            counts,
-        },
+        25 => check_only(image, nodes, frames, top, table, notes, stack, at, depth),
+        31 => check_only(image, nodes, frames, top, table, notes, stack, at, depth),
+        _ => refused(notes, 28, at, 0, 0),
     }
 }
 
@@ -245,33 +215,35 @@ pub fn assign(
     nodes: usize,
     frames: &mut [[u16; 128]; 8],
     top: usize,
-    table: &mut [u16; 10272],
-    counts: Counts,
+    table: &mut [u16],
+    notes: &mut [u32; 8],
     stack: &mut [u16; 2048],
     at: usize,
     ty: usize,
     depth: usize,
-) -> Outcome
-    requires { ⌜ Ready (now image) nodes (now frames) top (tab (now table) (counts .types) (counts .elements)) (now stack) 0 at (stopOf (nodesOf (now image)) at) ⌝ }
+) -> usize
+    requires { ⌜ Noting (now notes) ⌝ }
+    requires { ⌜ Ready (now image) nodes (now frames) top (tabIn (now table) (now notes)) (now stack) 0 at (stopOf (nodesOf (now image)) at) ⌝ }
     requires { ⌜ At (now image) at depth ⌝ }
-    requires { ⌜ ty < counts .types ⌝ }
+    requires { ⌜ ty < typesIn (now notes) ⌝ }
     ensures { λ r. ⌜ Assigned (namesOf (now (image .entry)))
         (λ y. assignTo (namesOf (now (image .entry)))
         (exprAt (nodesOf (now (image .entry))) depth at)
-        (denote (tab (now (table .entry)) (counts .types) (counts .elements)) ty)
-        (state (framesOf (tab (now (table .entry)) (counts .types) (counts .elements)) (now (frames .entry)) top) y))
-        (tab (now (table .entry)) (counts .types) (counts .elements))
-        (tab (now (table .exit)) (r .counts .types) (r .counts .elements))
+        (denote (tabIn (now (table .entry)) (now (notes .entry))) ty)
+        (state (framesOf (tabIn (now (table .entry)) (now (notes .entry))) (now (frames .entry)) top) y))
+        (tabIn (now (table .entry)) (now (notes .entry)))
+        (tabIn (now (table .exit)) (now (notes .exit)))
         (now (frames .exit))
         top
         (now (stack .exit))
         at
         (stopOf (nodesOf (now (image .entry))) at)
         (nodeCount (now (image .entry)))
-        (r .code)
-        (r .place)
-        (r .a)
-        (r .b) ⌝ }
+        (verdict r (now (notes .exit)))
+        (placeIn (now (notes .exit)))
+        (firstIn (now (notes .exit)))
+        (secondIn (now (notes .exit))) ⌝ }
+    ensures { λ r. ⌜ Kept (now (notes .entry)) (now (notes .exit)) r ⌝ }
 {
     let node = node_at(image, nodes, at);
     if node.kind != 28 {
@@ -281,23 +253,16 @@ pub fn assign(
             frames,
             top,
             table,
-            counts,
+            notes,
             stack,
             at,
-            node,
             ty,
             depth,
         );
     }
     let v = unpack(table, ty, node.children);
     if v.code != 0 {
-        return Outcome {
-            code: v.code,
-            place: at,
-            a: v.a,
-            b: v.b,
-            counts,
-        };
+        return refused(notes, v.code, at, v.a, v.b);
     }
     let n = node.children as usize;
     assign_each(
@@ -306,7 +271,7 @@ pub fn assign(
         frames,
         top,
         table,
-        counts,
+        notes,
         stack,
         at,
         n,
@@ -321,68 +286,59 @@ fn assign_each(
     nodes: usize,
     frames: &mut [[u16; 128]; 8],
     top: usize,
-    table: &mut [u16; 10272],
-    counts: Counts,
+    table: &mut [u16],
+    notes: &mut [u32; 8],
     stack: &mut [u16; 2048],
     at: usize,
     n: usize,
     ty: usize,
     depth: usize,
-) -> Outcome
-    requires { ⌜ Ready (now image) nodes (now frames) top (tab (now table) (counts .types) (counts .elements)) (now stack) 0 at (stopOf (nodesOf (now image)) at) ⌝ }
+) -> usize
+    requires { ⌜ Noting (now notes) ⌝ }
+    requires { ⌜ Ready (now image) nodes (now frames) top (tabIn (now table) (now notes)) (now stack) 0 at (stopOf (nodesOf (now image)) at) ⌝ }
     requires { ⌜ Within (now image) at n depth ⌝ }
-    requires { ⌜ ty < counts .types ⌝ }
-    requires { ⌜ Spreads (tab (now table) (counts .types) (counts .elements)) ty n ⌝ }
+    requires { ⌜ ty < typesIn (now notes) ⌝ }
+    requires { ⌜ Spreads (tabIn (now table) (now notes)) ty n ⌝ }
     ensures { λ r. ⌜ Assigned (namesOf (now (image .entry)))
         (λ y. assignEach (namesOf (now (image .entry)))
         (exprsFrom (nodesOf (now (image .entry))) (λ j. exprAt (nodesOf (now (image .entry))) depth j) n (suc at))
-        (spread n (denote (tab (now (table .entry)) (counts .types) (counts .elements)) ty))
-        (state (framesOf (tab (now (table .entry)) (counts .types) (counts .elements)) (now (frames .entry)) top) y))
-        (tab (now (table .entry)) (counts .types) (counts .elements))
-        (tab (now (table .exit)) (r .counts .types) (r .counts .elements))
+        (spread n (denote (tabIn (now (table .entry)) (now (notes .entry))) ty))
+        (state (framesOf (tabIn (now (table .entry)) (now (notes .entry))) (now (frames .entry)) top) y))
+        (tabIn (now (table .entry)) (now (notes .entry)))
+        (tabIn (now (table .exit)) (now (notes .exit)))
         (now (frames .exit))
         top
         (now (stack .exit))
         at
         (stopOf (nodesOf (now (image .entry))) at)
         (nodeCount (now (image .entry)))
-        (r .code)
-        (r .place)
-        (r .a)
-        (r .b) ⌝ }
+        (verdict r (now (notes .exit)))
+        (placeIn (now (notes .exit)))
+        (firstIn (now (notes .exit)))
+        (secondIn (now (notes .exit))) ⌝ }
+    ensures { λ r. ⌜ Kept (now (notes .entry)) (now (notes .exit)) r ⌝ }
 {
-    let mut types = counts.types;
-    let mut elements = counts.elements;
     let mut from = at + 1;
     let mut j: usize = 0;
     while j < n {
         let part = part_for(table, ty, j);
-        let so_far = Counts { types, elements };
         let r = assign(
             image,
             nodes,
             frames,
             top,
             table,
-            so_far,
+            notes,
             stack,
             from,
             part,
             depth,
         );
-        if r.code != 0 {
+        if r == 65535 {
             return r;
         }
-        types = r.counts.types;
-        elements = r.counts.elements;
         from = stop_of(image, nodes, from);
         j += 1;
     }
-    Outcome {
-        code: 0,
-        place: 0,
-        a: 0,
-        b: 0,
-        counts: Counts { types, elements },
-    }
+    0
 }

@@ -1,18 +1,20 @@
 -- Forming a List, Dict, MapIter or FilterIter: its record is there already, or it is written at the end.
 use mathlib.Core.Path.{_≡_, refl, sym, ap, _∙_}
 use mathlib.Core.List.{List}
-use Prim.Native.Nat.{ℕ, _+_, _≤_, _<_}
+use Prim.Native.Nat.{ℕ, _+_, _*_, _≤_, _<_}
 use native.Mathlib.Omega.{arith}
 use native.Mathlib.Decide.{decLt}
 use Rattle.meaning.specs.Types.{kind, part}
-use Rattle.types.specs.Table.{Tab, tab, kindAt, firstAt, secondAt, built, shape, denote, Wf, Made}
-use Rattle.types.specs.Steps.{RecordAt, First, Written, Asked}
+use Rattle.types.specs.Table.{Tab, tab, capacity, kindAt, firstAt, secondAt, recordHash, slotOf, built, shape, denote, Wf, Made}
+use Rattle.types.specs.Steps.{RecordAt, Found, Added, Asked}
+use Rattle.types.proofs.Room.{capacity-as}
 use Rattle.types.proofs.Shapes.{shaped-kind, shaped-first, shaped-second, shaped-cong}
 use Rattle.types.proofs.Laws.{denote-eq, record-kind, first-part, second-part, unknown-number}
+use Rattle.types.proofs.Chains.{slot-least, slot-most, slot-as, slot-record}
 use Rattle.types.proofs.Growth.{next-made, made-old}
 
 -- what a caller of `form` has to show, for each of the four kinds
-module _ {t : Tab} {p : ℕ} (w : Wf t) (room : t.n < 2056) (first : p < t.n) where
+module _ {t : Tab} {p : ℕ} (w : Wf t) (room : t.n < capacity t.cells) (first : p < t.n) where
   one-part : (k : ℕ) → 8 ≤ k → k ≤ 12 → (k ≡ 10 → ⊥) → Asked t k p 0
   one-part k l m n = record {
     wf = w;
@@ -68,18 +70,19 @@ module _ (t : Tab) (k p q : ℕ) (x : Asked t k p q) where
       ∙ shaped-second _ _ _ k (x .most) (x .no-tuple) (λ z. ap (denote t) (x .unused z) ∙ unknown-number w) in
       record { kind-is = ki; first-is = w .inj _ _ (f .below) (x .first) fi; second-is = w .inj _ _ (g .below) (x .second) si }
 
-  pub form-old : (r : ℕ) → First (RecordAt t.cells k p q) t.n r → r < t.n → Made t t r (built k (denote t p) (denote t q)) 0
+  pub form-old : (r : ℕ) → Found (RecordAt t.cells k p q) t.n r → r < t.n → Made t t r (built k (denote t p) (denote t q)) 0
   form-old r f h = made-old 0 (x .wf) h (denote-eq (x .wf) r h ∙ says t r (f .found h))
 
-  pub form-new : {r : ℕ} {ds : List ℕ} → First (RecordAt t.cells k p q) t.n r → t.n ≤ r → Written t.cells ds t.n k p q
-      → Made t (tab ds (t.n + 1) t.m) t.n (built k (denote t p) (denote t q)) 0
-  form-new {r} {ds} f h v =
+  pub form-new : {r slot : ℕ} {ds : List ℕ} → Found (RecordAt t.cells k p q) t.n r → t.n ≤ r → slot ≡ slotOf t.cells (recordHash k p q)
+      → Added t.cells ds slot t.n k p q → Made t (tab ds (t.n + 1) t.m) t.n (built k (denote t p) (denote t q)) 0
+  form-new {r} {slot} {ds} f h z v =
       let u : Tab = tab ds (t.n + 1) t.m in
       let w = x .wf in
       let ki = v .here .kind-is in
       let fi = v .here .first-is in
       let si = v .here .second-is in
       let s = says u t.n (v .here) in
+      let least : 5 * capacity t.cells ≤ slot = rw z (slot-least t.cells (recordHash k p q)) in
       next-made t u w
       (record {
         long = v .long;
@@ -88,7 +91,7 @@ module _ (t : Tab) (k p q : ℕ) (x : Asked t k p q) where
         wider = omega arith;
         space = w .space;
         records = v .before;
-        elements = λ j a. v .after (8224 + j) (omega (arith, x .room));
+        elements = λ j a. v .after (4 * capacity t.cells + j) (omega (arith, x .room)) (omega (arith, w .space));
         low = record {
           known = omega (arith, x .most);
           none = λ e. absurd (omega (arith, x .least));
@@ -98,11 +101,20 @@ module _ (t : Tab) (k p q : ℕ) (x : Asked t k p q) where
           inside = λ e. absurd (x .no-tuple (sym ki ∙ e));
           elements = λ e. absurd (x .no-tuple (sym ki ∙ e));
         };
+        slot = slot;
+        headed = record {
+          least = least;
+          most = rw z (slot-most t.cells (recordHash k p q) (omega (arith, x .room)));
+          own = slot-record (x .no-tuple) (v .here) ∙ slot-as t.cells ds (recordHash k p q) (capacity-as t.cells ds (v .long)) ∙ sym z;
+          link = v .link;
+          head = v .head;
+          others = λ y a e. v .after y (omega (arith, x .room)) e;
+        };
         fresh = λ i a e.
             let l = told i a (e ∙ s) in
             elim (decLt i 8) [
               | yes b ↦ omega (arith, w .plains i b, l .kind-is, x .least)
-              | no b ↦ f .passed .none i (omega arith) (omega arith) l
+              | no b ↦ f .none h i (omega arith) a l
             ];
       })
       _ 0 s (omega arith)

@@ -3,28 +3,37 @@ use mathlib.Core.Path.{_≡_, refl, sym, ap, _∙_, subst}
 use Prim.Native.Nat.{ℕ, _+_, _*_, _≤_, _<_}
 use native.Mathlib.Nat.{add-assoc}
 use native.Mathlib.Omega.{arith}
-use native.Mathlib.Decide.{decLt}
+use native.Mathlib.Decide.{decLt, ℕ-discrete}
+use borrow.Author.Tests.{ne-eqb}
 use lib.ListN.{length, getD}
+use Rattle.meaning.specs.Base.{if_then_else_}
 use Rattle.meaning.specs.Types.{Ty, tys}
-use Rattle.types.specs.Table.{Tab, kindAt, firstAt, secondAt, elementAt, shape, denote, Low, Wf, Grown, Made}
+use Rattle.types.specs.Table.{Tab, capacity, kindAt, firstAt, secondAt, elementAt, slotAt, shape, denote, Low, Chains, Chained, Wf, Grown, Made}
+use Rattle.types.proofs.Room.{capacity-within, capacity-as}
 use Rattle.types.proofs.Shapes.{shaped-cong}
-use Rattle.types.proofs.Pieces.{piece-map}
+use Rattle.types.proofs.Pieces.{piece-map, piece-same}
+use Rattle.types.proofs.Chains.{slot-as, chains-of, chained-as, Headed, chains-more}
 use Rattle.types.proofs.Rows.{shape-cong, denote-sound, denote-agree}
 use Rattle.types.proofs.Laws.{grown-refl}
 
--- u is t with one more record, which is low and means no type that has a number
+-- u is t with one more record, which is low, is in its chain and means no type that has a number
 pub record Next (t u : Tab) : Type 0 where
   pub long : length u.cells ≡ length t.cells
   pub count : u.n ≡ t.n + 1
-  pub room : u.n ≤ 2056
+  pub room : u.n ≤ capacity t.cells
   pub wider : t.m ≤ u.m
-  pub space : u.m ≤ 2048
+  pub space : u.m ≤ capacity t.cells
   pub records : (x : ℕ) → x < 4 * t.n → getD u.cells x 0 ≡ getD t.cells x 0
-  pub elements : (j : ℕ) → j < t.m → elementAt u j ≡ elementAt t j
+  pub elements : (j : ℕ) → j < t.m → getD u.cells (4 * capacity t.cells + j) 0 ≡ elementAt t j
   pub low : Low u t.n
+  pub slot : ℕ
+  pub headed : Headed t.cells u.cells t.n slot
   pub fresh : (i : ℕ) → i < t.n → denote t i ≡ shape u (denote t) t.n → ⊥
 
 module _ (t u : Tab) (w : Wf t) (x : Next t u) where
+  as-wide : capacity u.cells ≡ capacity t.cells
+  as-wide = capacity-as t.cells u.cells (x .long)
+
   kind-kept : (i : ℕ) → i < t.n → kindAt u i ≡ kindAt t i
   kind-kept i h = x .records (4 * i) (omega arith)
 
@@ -36,18 +45,17 @@ module _ (t u : Tab) (w : Wf t) (x : Next t u) where
 
   -- an element of an old Tuple
   element-kept : (i j : ℕ) → i < t.n → kindAt t i ≡ 10 → j < secondAt t i
-      → getD u.cells (8224 + firstAt t i + j) 0 ≡ getD t.cells (8224 + firstAt t i + j) 0
+      → getD u.cells (4 * capacity t.cells + firstAt t i + j) 0 ≡ getD t.cells (4 * capacity t.cells + firstAt t i + j) 0
   element-kept i j h e l = rw add-assoc (x .elements (firstAt t i + j) (omega (arith, w .low i h .inside e)))
 
   agree : (i : ℕ) → i < t.n → (f : ℕ → Ty) → shape u f i ≡ shape t f i
   unfolding shape
   agree i h f =
-      let lu = x .long in
-      rw (kind-kept i h, first-kept i h, second-kept i h)
+      rw (as-wide, kind-kept i h, first-kept i h, second-kept i h)
       (shaped-cong (kindAt t i) (w .low i h .known) (λ e n. refl) (λ e. refl)
       (λ e. ap tys
-      (piece-map f f u.cells t.cells (8224 + firstAt t i) (8224 + firstAt t i) (secondAt t i)
-      (omega (arith, w .low i h .inside e, w .long, w .space)) (omega (arith, w .low i h .inside e, w .long, w .space))
+      (piece-map f f u.cells t.cells (4 * capacity t.cells + firstAt t i) (4 * capacity t.cells + firstAt t i) (secondAt t i)
+      (omega (arith, w .low i h .inside e, w .space, x .long, capacity-within t.cells)) (omega (arith, w .low i h .inside e, w .space, capacity-within t.cells))
       (λ j l. ap f (element-kept i j h e l)))))
 
   next-low : (i : ℕ) → i < u.n → Low u i
@@ -61,9 +69,30 @@ module _ (t u : Tab) (w : Wf t) (x : Next t u) where
           first = rw (kind-kept i a, first-kept i a) (l .first);
           second = rw (kind-kept i a, second-kept i a) (l .second);
           inside = rw (kind-kept i a, first-kept i a, second-kept i a) (λ e. omega (arith, l .inside e, x .wider));
-          elements = rw (kind-kept i a, first-kept i a, second-kept i a) (λ e j b. rw (element-kept i j a e b) (l .elements e j b));
+          elements = rw (as-wide, kind-kept i a, first-kept i a, second-kept i a) (λ e j b. rw (element-kept i j a e b) (l .elements e j b));
         }
     | no a ↦ subst (Low u) (omega (arith, x .count)) (x .low)
+  ]
+
+  -- an old record is in the chain that it was in
+  slot-kept : (i : ℕ) → i < t.n → slotAt u.cells i ≡ slotAt t.cells i
+  unfolding slotAt if_then_else_
+  slot-kept i h = elim (ℕ-discrete (kindAt t i) 10) [
+    | yes e ↦
+        rw (
+          as-wide,
+          kind-kept i h,
+          first-kept i h,
+          second-kept i h,
+          e,
+          piece-same u.cells t.cells (4 * capacity t.cells + firstAt t i) (4 * capacity t.cells + firstAt t i) (secondAt t i)
+              (omega (arith, w .low i h .inside e, w .space, x .long, capacity-within t.cells)) (omega (arith, w .low i h .inside e, w .space, capacity-within t.cells))
+              (λ j l. element-kept i j h e l),
+        )
+        (slot-as t.cells u.cells _ as-wide)
+    | no e ↦
+        rw (as-wide, kind-kept i h, first-kept i h, second-kept i h, ne-eqb (kindAt t i) 10 e)
+        (slot-as t.cells u.cells _ as-wide)
   ]
 
   next-same : (i : ℕ) → i < t.n → denote u i ≡ denote t i
@@ -71,9 +100,9 @@ module _ (t u : Tab) (w : Wf t) (x : Next t u) where
 
   next-last : denote u t.n ≡ shape u (denote t) t.n
   next-last =
-      let long : length u.cells ≡ 10272 = x .long ∙ w .long in
-      denote-sound u (record { long = long; space = x .space; low = next-low }) t.n (omega (arith, x .count))
-      ∙ shape-cong u long (x .space) (denote u) (denote t) t.n (x .low) next-same
+      let space : u.m ≤ capacity u.cells = rw as-wide (x .space) in
+      denote-sound u (record { space = space; low = next-low }) t.n (omega (arith, x .count))
+      ∙ shape-cong u space (denote u) (denote t) t.n (x .low) next-same
 
   next-inj : (i j : ℕ) → i < u.n → j < u.n → denote u i ≡ denote u j → i ≡ j
   next-inj i j a b e = elim (decLt i t.n) [
@@ -91,22 +120,31 @@ module _ (t u : Tab) (w : Wf t) (x : Next t u) where
         ]
   ]
 
+  next-chained : Chained u.cells u.n
+  next-chained =
+      let c : Chains u.cells (t.n + 1) =
+      chains-more (chains-of t.cells t.n (w .chained)) as-wide slot-kept (λ i h. x .records (4 * i + 3) (omega arith)) (x .headed) in
+      rw (x .count) (chained-as c)
+
   next-grown : Grown t u
   next-grown = record {
     wf = record {
-      long = x .long ∙ w .long;
+      most = rw as-wide (w .most);
       base = omega (arith, x .count, w .base);
-      room = x .room;
-      space = x .space;
+      room = rw as-wide (x .room);
+      space = rw as-wide (x .space);
       plains = λ i h. kind-kept i (omega (arith, w .base)) ∙ w .plains i h;
       low = next-low;
       inj = next-inj;
+      chained = next-chained;
     };
+    long = x .long;
+    as-wide = as-wide;
     more = omega (arith, x .count);
     wider = x .wider;
     same = next-same;
     records = x .records;
-    elements = x .elements;
+    elements = λ j h. rw as-wide (x .elements j h);
   }
 
   pub next-made : (ty : Ty) (spent : ℕ) → shape u (denote t) t.n ≡ ty → u.m ≤ t.m + spent → Made t u t.n ty spent

@@ -2,7 +2,7 @@
 use mathlib.Core.Path.{_≡_, refl, sym, ap, _∙_}
 use mathlib.Core.Bool.{Bool, true, false}
 use mathlib.Core.List.{map}
-use Prim.Native.Nat.{ℕ, _+_, _<_}
+use Prim.Native.Nat.{ℕ, _+_, _*_, _<_}
 use native.Mathlib.Omega.{arith}
 use native.Mathlib.Decide.{decLt, ℕ-discrete}
 use borrow.Author.Tests.{eqb-true, eqb-false}
@@ -11,13 +11,14 @@ use lib.ListN.{length, getD, length-map, List·getD-map}
 use Rattle.meaning.specs.Base.{choose, if_then_else_}
 use Rattle.meaning.specs.Types.{unknown, list, dict, tuple, mapIter, filterIter, tys, same, kind, plain, parts, part}
 use Rattle.meaning.proofs.Choices.{same-yes, same-no, plain-kind}
-use Rattle.types.specs.Table.{Tab, kindAt, firstAt, secondAt, elementsAt, shaped, shape, denote, Means, Wf, Grown}
+use Rattle.types.specs.Table.{Tab, capacity, kindAt, firstAt, secondAt, elementsAt, shaped, shape, denote, Means, Wf, Grown}
+use Rattle.types.proofs.Room.{capacity-within}
 use Rattle.types.proofs.Shapes.{shaped-kind, shaped-first, shaped-second}
 use Rattle.types.proofs.Pieces.{piece-long, piece-at, tuple-parts}
 use Rattle.types.proofs.Rows.{Sound, denote-sound}
 
 pub wf-sound : {t : Tab} → Wf t → Sound t
-wf-sound w = record { long = w .long; space = w .space; low = w .low }
+wf-sound w = record { space = w .space; low = w .low }
 
 -- ---- what a number means by its record
 
@@ -60,7 +61,7 @@ module _ {t : Tab} (w : Wf t) (i : ℕ) (h : i < t.n) where
   pub parts-many : kindAt t i ≡ 10 → length (parts (denote t i)) ≡ secondAt t i
   parts-many e =
       ap length (parts-of e) ∙ length-map (elementsAt t i) (denote t)
-      ∙ piece-long t.cells (8224 + firstAt t i) (secondAt t i) (omega (arith, w .low i h .inside e, w .long, w .space))
+      ∙ piece-long t.cells (4 * capacity t.cells + firstAt t i) (secondAt t i) (omega (arith, w .low i h .inside e, w .space, capacity-within t.cells))
 
 -- ---- the plain types are their own numbers
 
@@ -107,13 +108,13 @@ module _ {t : Tab} (w : Wf t) (i : ℕ) (h : i < t.n) where
   }
 
   -- a Tuple's element j
-  pub element-part : (j : ℕ) → kindAt t i ≡ 10 → j < secondAt t i → Means t (getD t.cells (8224 + firstAt t i + j) 0) (part j (denote t i))
+  pub element-part : (j : ℕ) → kindAt t i ≡ 10 → j < secondAt t i → Means t (getD t.cells (4 * capacity t.cells + firstAt t i + j) 0) (part j (denote t i))
   unfolding part
   element-part j k l = record {
     below = omega (arith, w .low i h .elements k j l);
     means =
         rw (parts-of w i h k)
-        (ap (denote t) (sym (piece-at t.cells (8224 + firstAt t i) (secondAt t i) j l))
+        (ap (denote t) (sym (piece-at t.cells (4 * capacity t.cells + firstAt t i) (secondAt t i) j l))
         ∙ sym (List·getD-map (denote t) (elementsAt t i) j 0)
         ∙ ap (getD (map (denote t) (elementsAt t i)) j) (unknown-number w));
   }
@@ -135,6 +136,8 @@ same-unknown {t} w i a = ap (same (denote t i)) (sym (unknown-number w)) ∙ sam
 pub grown-refl : {t : Tab} → Wf t → Grown t t
 grown-refl w = record {
   wf = w;
+  long = refl;
+  as-wide = refl;
   more = omega arith;
   wider = omega arith;
   same = λ i h. refl;
@@ -145,6 +148,8 @@ grown-refl w = record {
 pub grown-trans : {t u v : Tab} → Grown t u → Grown u v → Grown t v
 grown-trans a b = record {
   wf = b .wf;
+  long = b .long ∙ a .long;
+  as-wide = b .as-wide ∙ a .as-wide;
   more = omega (arith, a .more, b .more);
   wider = omega (arith, a .wider, b .wider);
   same = λ i h. b .same i (omega (arith, a .more)) ∙ a .same i h;

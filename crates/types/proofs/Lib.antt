@@ -1,4 +1,5 @@
--- Laws, Forming, Readers and Answers are what callers cite.
+-- Room, Laws, Forming, Readers and Answers are what callers cite.
+pub mod Room
 pub mod Laws
 pub mod Forming
 pub mod Readers
@@ -6,6 +7,7 @@ pub mod Answers
 mod Shapes
 pub mod Pieces
 mod Rows
+mod Chains
 mod Growth
 mod Searching
 mod Writing

@@ -5,7 +5,7 @@ use Prim.Native.Nat.{ℕ, _+_, _*_, _<_}
 use native.Mathlib.Omega.{arith}
 use lib.ListN.{length, getD}
 use Rattle.meaning.specs.Types.{Ty, kind, parts}
-use Rattle.types.specs.Table.{Tab, kindAt, firstAt, denote, Means, Wf}
+use Rattle.types.specs.Table.{Tab, capacity, kindAt, firstAt, denote, Means, Wf}
 use Rattle.types.specs.Reading.{KindOf, PartOf, IsTuple, IsElement, IsNumber, CountOf, ElementAt}
 use Rattle.types.proofs.Laws.{kind-of, record-kind, parts-many, first-part, second-part, element-part}
 
@@ -13,10 +13,14 @@ use Rattle.types.proofs.Laws.{kind-of, record-kind, parts-many, first-p
 
 module _ {t : Tab} (w : Wf t) (i : ℕ) (h : i < t.n) where
   record-tuple : kindAt t i ≡ 10 → IsTuple t.cells i
-  record-tuple k = record { number = omega (arith, w .room); long = w .long; kind-is = k; inside = omega (arith, w .low i h .inside k, w .space) }
+  record-tuple k = record { number = omega (arith, w .room); kind-is = k; inside = omega (arith, w .low i h .inside k, w .space) }
+
+  -- what a reader of its record asks
+  pub in-room : i < capacity t.cells
+  in-room = omega (arith, w .room)
 
   pub is-number : IsNumber t.cells i
-  is-number = record { number = omega (arith, w .room); whole = record-tuple }
+  is-number = record { number = in-room; whole = record-tuple }
 
   pub is-tuple : kind (denote t i) ≡ 10 → IsTuple t.cells i
   is-tuple e = record-tuple (record-kind w i h e)
@@ -47,9 +51,10 @@ second-told cs i r h =
 pub count-told : (cs : List ℕ) (i r : ℕ) → r ≡ getD cs (4 * i + 2) 0 → CountOf cs i r
 count-told cs i r h = record { says = λ t e w b k. same-cell t cs (4 * i + 2) r e h ∙ sym (parts-many w i b (record-kind w i b k)) }
 
-pub element-told : (cs : List ℕ) (i j p r : ℕ) → IsElement cs i j → p ≡ getD cs (4 * i + 1) 0 → r ≡ getD cs (8224 + p + j) 0 → ElementAt cs i j r
-element-told cs i j p r x ep er =
+pub element-told : (cs : List ℕ) (i j a r : ℕ) → IsElement cs i j → a ≡ 4 * capacity cs + getD cs (4 * i + 1) 0 → r ≡ getD cs (a + j) 0
+    → ElementAt cs i j r
+element-told cs i j a r x ea er =
     record { says = λ t e w b k. means-as (own t e) (element-part w i b j (record-kind w i b k) (rw e (x .within))) }
   where
-    own : (t : Tab) → t.cells ≡ cs → r ≡ getD t.cells (8224 + firstAt t i + j) 0
-    own t e = er ∙ rw ep (ap (λ (xs : List ℕ). getD xs (8224 + getD xs (4 * i + 1) 0 + j) 0) (sym e))
+    own : (t : Tab) → t.cells ≡ cs → r ≡ getD t.cells (4 * capacity t.cells + firstAt t i + j) 0
+    own t e = er ∙ rw ea (ap (λ (xs : List ℕ). getD xs (4 * capacity xs + getD xs (4 * i + 1) 0 + j) 0) (sym e))

@@ -1,13 +1,14 @@
 -- The equation of `denote`: a number means what its record says. Only this file looks into the trees.
 use mathlib.Core.Path.{_≡_, refl, sym, ap, _∙_}
 use mathlib.Core.List.{List, [], _∷_, _++_}
-use Prim.Native.Nat.{ℕ, zero, suc, _+_, _≤_, _<_}
+use Prim.Native.Nat.{ℕ, zero, suc, _+_, _*_, _≤_, _<_}
 use native.Mathlib.Omega.{arith}
 use native.Mathlib.Decide.{decLe}
 use lib.ListN.{length, getD, length-append, List·getD-append}
 use lib.Seq.{getD-at}
 use Rattle.meaning.specs.Types.{Ty, tys, unknown}
-use Rattle.types.specs.Table.{Tab, kindAt, firstAt, secondAt, shape, trees, denote, Low}
+use Rattle.types.specs.Table.{Tab, capacity, kindAt, firstAt, secondAt, shape, trees, denote, Low}
+use Rattle.types.proofs.Room.{capacity-within}
 use Rattle.types.proofs.Shapes.{shaped-cong}
 use Rattle.types.proofs.Pieces.{piece-map}
 
@@ -35,28 +36,28 @@ see-le t k (suc n) i h l = elim (decLe k n) [
   | no a ↦ ap (λ x. see t x i) (omega arith)
 ]
 
--- what makes a table's records readable: enough cells, and each record low
+-- what makes a table's records readable: room for the elements, and each record low
 pub record Sound (t : Tab) : Type 0 where
-  pub long : length t.cells ≡ 10272
-  pub space : t.m ≤ 2048
+  pub space : t.m ≤ capacity t.cells
   pub low : (i : ℕ) → i < t.n → Low t i
 
 -- a record looks only at the numbers below its own
-pub shape-cong : (t : Tab) → length t.cells ≡ 10272 → t.m ≤ 2048 → (f g : ℕ → Ty) (i : ℕ) → Low t i → ((j : ℕ) → j < i → f j ≡ g j)
+pub shape-cong : (t : Tab) → t.m ≤ capacity t.cells → (f g : ℕ → Ty) (i : ℕ) → Low t i → ((j : ℕ) → j < i → f j ≡ g j)
     → shape t f i ≡ shape t g i
 unfolding shape
-shape-cong t long space f g i l h =
+shape-cong t space f g i l h =
     shaped-cong (kindAt t i) (l .known)
     (λ e n. h _ (l .first e n))
     (λ e. h _ (l .second e))
-    (λ e. ap tys (piece-map f g t.cells t.cells (8224 + firstAt t i) (8224 + firstAt t i) (secondAt t i) (omega (arith, l .inside e)) (omega (arith, l .inside e)) (λ j k. h _ (l .elements e j k))))
+    (λ e. let a : 4 * capacity t.cells + firstAt t i + secondAt t i ≤ length t.cells = omega (arith, l .inside e, capacity-within t.cells) in
+    ap tys (piece-map f g t.cells t.cells (4 * capacity t.cells + firstAt t i) (4 * capacity t.cells + firstAt t i) (secondAt t i) a a (λ j k. h _ (l .elements e j k))))
 
 pub denote-sound : (t : Tab) → Sound t → (i : ℕ) → i < t.n → denote t i ≡ shape t (denote t) i
 unfolding denote
 denote-sound t s i h =
     see-le t (suc i) t.n i (omega arith) (omega arith)
     ∙ see-last t i
-    ∙ shape-cong t (s .long) (s .space) (see t i) (see t t.n) i (s .low i h) (λ j a. sym (see-le t i t.n j a (omega arith)))
+    ∙ shape-cong t (s .space) (see t i) (see t t.n) i (s .low i h) (λ j a. sym (see-le t i t.n j a (omega arith)))
 
 -- records below k that say the same in both tables give the same trees
 trees-agree : (t u : Tab) (k : ℕ) → ((i : ℕ) → i < k → (f : ℕ → Ty) → shape u f i ≡ shape t f i) → trees u k ≡ trees t k

@@ -7,14 +7,16 @@ use borrow.Author.Count.{below-more}
 use lib.ListN.{length, getD, set, length-set}
 use lib.Seq.{getD-set-same, getD-set-other}
 use Rattle.meaning.specs.Types.{kind}
-use Rattle.types.specs.Table.{Tab, tab, kindAt, shape, denote, Low, Wf}
-use Rattle.types.specs.Steps.{RecordAt, Written, Started}
+use Rattle.types.specs.Table.{Tab, tab, capacity, kindAt, shape, denote, Low, Chains, Fresh, Wf}
+use Rattle.types.specs.Steps.{RecordAt, Written, Added, Started}
+use Rattle.types.proofs.Room.{capacity-as}
 use Rattle.types.proofs.Shapes.{shaped-kind}
 use Rattle.types.proofs.Rows.{Sound, denote-sound}
+use Rattle.types.proofs.Chains.{chained-as}
 
-pub written : (cs : List ℕ) (i k p q : ℕ) → i < 2056 → length cs ≡ 10272
+pub written : (cs : List ℕ) (i k p q : ℕ) → 4 * i + 2 < length cs
     → Written cs (set (set (set cs (4 * i) k) (4 * i + 1) p) (4 * i + 2) q) i k p q
-written cs i k p q h l =
+written cs i k p q h =
     let ds : List ℕ = set cs (4 * i) k in
     let es : List ℕ = set ds (4 * i + 1) p in
     let off : (x : ℕ) → (x ≡ 4 * i → ⊥) → (x ≡ 4 * i + 1 → ⊥) → (x ≡ 4 * i + 2 → ⊥) → getD (set es (4 * i + 2) q) x 0 ≡ getD cs x 0 =
@@ -33,19 +35,60 @@ written cs i k p q h l =
       after = λ x a. off x (omega arith) (omega arith) (omega arith);
     }
 
+-- a record, and then its link and its slot
+pub added : {cs ds : List ℕ} {slot i k p q : ℕ} → 4 * i + 3 < slot → slot < length cs → Written cs ds i k p q
+    → Added cs (set (set ds (4 * i + 3) (getD ds slot 0)) slot i) slot i k p q
+added {cs} {ds} {slot} {i} {k} {p} {q} h l w =
+    let es : List ℕ = set ds (4 * i + 3) (getD ds slot 0) in
+    let long : length es ≡ length cs = length-set ds (4 * i + 3) (getD ds slot 0) ∙ w .long in
+    let off : (x : ℕ) → (x ≡ 4 * i + 3 → ⊥) → (x ≡ slot → ⊥) → getD (set es slot i) x 0 ≡ getD ds x 0 =
+    λ x a b. getD-set-other es slot x i 0 b ∙ getD-set-other ds (4 * i + 3) x (getD ds slot 0) 0 a in
+    record {
+      long = length-set es slot i ∙ long;
+      here = record {
+        kind-is = off (4 * i) (omega arith) (omega arith) ∙ w .here .kind-is;
+        first-is = off (4 * i + 1) (omega arith) (omega arith) ∙ w .here .first-is;
+        second-is = off (4 * i + 2) (omega arith) (omega arith) ∙ w .here .second-is;
+      };
+      link =
+          getD-set-other es slot (4 * i + 3) i 0 (omega arith) ∙ getD-set-same ds (4 * i + 3) (getD ds slot 0) 0 (omega (arith, w .long))
+          ∙ w .after slot (omega arith);
+      head = getD-set-same es slot i 0 (omega arith);
+      before = λ x a. off x (omega arith) (omega arith) ∙ w .before x a;
+      after = λ x a b. off x (omega arith) b ∙ w .after x (omega arith);
+    }
+
 -- ---- start's turns, and what they come to
 
-pub started-none : (cs : List ℕ) → length cs ≡ 10272 → Started cs 0
-started-none cs l = record { long = l; plains = λ i h. absurd (omega arith) }
+pub started-none : {cs : List ℕ} → Fresh cs → Started cs 0
+started-none f = record { fresh = f; plains = λ i h. absurd (omega arith) }
 
-pub started-more : {cs ds : List ℕ} {i : ℕ} → Started cs i → Written cs ds i i 0 0 → Started ds (i + 1)
-started-more {cs} {ds} {i} s w = record {
-  long = w .long ∙ s .long;
-  plains = below-more (λ j. RecordAt ds j 0 0 j) i (λ j h. record {
-    kind-is = w .before (4 * j) (omega arith) ∙ s .plains j h .kind-is;
-    first-is = w .before (4 * j + 1) (omega arith) ∙ s .plains j h .first-is;
-    second-is = w .before (4 * j + 2) (omega arith) ∙ s .plains j h .second-is;
-  }) (w .here);
+pub started-more : {cs ds : List ℕ} {i : ℕ} → Started cs i → i < 8 → Written cs ds i i 0 0 → Started ds (i + 1)
+started-more {cs} {ds} {i} s l w =
+    let as-wide : capacity ds ≡ capacity cs = capacity-as cs ds (w .long) in
+    let f = s .fresh in
+    record {
+      fresh = record {
+        room = rw as-wide (f .room);
+        most = rw as-wide (f .most);
+        heads = rw as-wide (λ x a b. rw (w .after x (omega (arith, f .room))) (f .heads x a b));
+      };
+      plains = below-more (λ j. RecordAt ds j 0 0 j) i (λ j h. record {
+        kind-is = w .before (4 * j) (omega arith) ∙ s .plains j h .kind-is;
+        first-is = w .before (4 * j + 1) (omega arith) ∙ s .plains j h .first-is;
+        second-is = w .before (4 * j + 2) (omega arith) ∙ s .plains j h .second-is;
+      }) (w .here);
+    }
+
+-- no number is in a chain
+chains-none : {cs : List ℕ} → Fresh cs → Chains cs 8
+chains-none f = record {
+  heads = f .heads;
+  head-own = λ x a b l. absurd (omega (arith, f .heads x a b));
+  head-last = λ j a b. absurd (omega arith);
+  links = λ i a b. absurd (omega arith);
+  link-own = λ i a b. absurd (omega arith);
+  link-last = λ i j a b c. absurd (omega arith);
 }
 
 pub started-wf : (cs : List ℕ) → Started cs 8 → Wf (tab cs 8 0)
@@ -61,15 +104,16 @@ started-wf cs s =
       inside = λ e. absurd (omega (arith, s .plains i h .kind-is));
       elements = λ e. absurd (omega (arith, s .plains i h .kind-is));
     } in
-    let sound : Sound t = record { long = s .long; space = omega arith; low = low } in
+    let sound : Sound t = record { space = omega arith; low = low } in
     let own : (i : ℕ) → i < 8 → kind (denote t i) ≡ i =
     λ i h. ap kind (denote-sound t sound i h) ∙ shaped-kind _ _ _ (kindAt t i) (low i h .known) ∙ s .plains i h .kind-is in
     record {
-      long = s .long;
+      most = s .fresh .most;
       base = omega arith;
-      room = omega arith;
+      room = s .fresh .room;
       space = omega arith;
       plains = λ i h. s .plains i h .kind-is;
       low = low;
       inj = λ i j a b e. sym (own i a) ∙ ap kind e ∙ own j b;
+      chained = chained-as (chains-none (s .fresh));
     }

@@ -10,7 +10,7 @@ use Rattle.meaning.specs.Base.{if_then_else_, all}
 use Rattle.meaning.specs.Types.{Ty, kind, parts, part, common}
 use Rattle.meaning.specs.Rules.{elementOf}
 use Rattle.meaning.specs.Walk.{agreed}
-use Rattle.types.specs.Table.{Tab, Wf, Means, denote}
+use Rattle.types.specs.Table.{Tab, capacity, Wf, Means, denote}
 
 pub record KindOf (cs : List ℕ) (i r : ℕ) : Type 0 where
   pub says : (t : Tab) → t.cells ≡ cs → Wf t → i < t.n → r ≡ kind (denote t i)
@@ -23,10 +23,9 @@ pub record PartOf (cs : List ℕ) (k i r : ℕ) : Type 0 where
 
 -- record i is a Tuple whose elements lie within the cells
 pub record IsTuple (cs : List ℕ) (i : ℕ) : Type 0 where
-  pub number : i < 2056
-  pub long : length cs ≡ 10272
+  pub number : i < capacity cs
   pub kind-is : getD cs (4 * i) 0 ≡ 10
-  pub inside : getD cs (4 * i + 1) 0 + getD cs (4 * i + 2) 0 ≤ 2048
+  pub inside : getD cs (4 * i + 1) 0 + getD cs (4 * i + 2) 0 ≤ capacity cs
 
 -- and j is the place of one of them
 pub record IsElement (cs : List ℕ) (i j : ℕ) : Type 0 where
@@ -35,7 +34,7 @@ pub record IsElement (cs : List ℕ) (i j : ℕ) : Type 0 where
 
 -- number i, whose elements lie within the cells if it is a Tuple
 pub record IsNumber (cs : List ℕ) (i : ℕ) : Type 0 where
-  pub number : i < 2056
+  pub number : i < capacity cs
   pub whole : getD cs (4 * i) 0 ≡ 10 → IsTuple cs i
 
 pub record CountOf (cs : List ℕ) (i r : ℕ) : Type 0 where

@@ -4,14 +4,14 @@ use mathlib.Core.List.{List}
 use mathlib.Core.Bool.{Bool, true, false}
 use Prim.Native.Nat.{ℕ, _+_, _*_, _≤_, _<_}
 use lib.ListN.{length, getD}
-use Rattle.types.specs.Table.{Tab, Wf}
+use Rattle.types.specs.Table.{Tab, capacity, slotAt, linkAt, Fresh, Wf}
 
 -- ---- what is asked
 
 -- List, Dict, MapIter or FilterIter of known types, with 0 where there is no second one, and room for one type more
 pub record Asked (t : Tab) (k p q : ℕ) : Type 0 where
   pub wf : Wf t
-  pub room : t.n < 2056
+  pub room : t.n < capacity t.cells
   pub least : 8 ≤ k
   pub most : k ≤ 12
   pub no-tuple : k ≡ 10 → ⊥
@@ -22,10 +22,9 @@ pub record Asked (t : Tab) (k p q : ℕ) : Type 0 where
 -- a Tuple of q known types, on a stack from s on, with room for them and for one type more
 pub record Listed (t : Tab) (st : List ℕ) (s q : ℕ) : Type 0 where
   pub wf : Wf t
-  pub room : t.n < 2056
-  pub space : t.m + q ≤ 2048
-  pub long : length st ≡ 2048
-  pub inside : s + q ≤ 2048
+  pub room : t.n < capacity t.cells
+  pub space : t.m + q ≤ capacity t.cells
+  pub inside : s + q ≤ length st
   pub known : (j : ℕ) → j < q → getD st (s + j) 0 < t.n
 
 -- ---- what a record is
@@ -44,7 +43,7 @@ pub record Equal (cs : List ℕ) (a : ℕ) (st : List ℕ) (s q : ℕ) : Type 0 
 pub record TupleAt (cs st : List ℕ) (s q i : ℕ) : Type 0 where
   pub kind-is : getD cs (4 * i) 0 ≡ 10
   pub second-is : getD cs (4 * i + 2) 0 ≡ q
-  pub elements : Equal cs (8224 + getD cs (4 * i + 1) 0) st s q
+  pub elements : Equal cs (4 * capacity cs + getD cs (4 * i + 1) 0) st s q
 
 -- ---- a search
 
@@ -53,30 +52,22 @@ pub record Told (P : Type 0) (b : Bool) : Type 0 where
   pub yes : b ≡ true → P
   pub no : b ≡ false → P → ⊥
 
--- no structured number below i has P
-pub record Passed (P : ℕ → Type 0) (i : ℕ) : Type 0 where
-  pub none : (j : ℕ) → j < i → 8 ≤ j → P j → ⊥
+-- slot has the last number of the chain in which all structured numbers below n that have P are
+pub record Slot (P : ℕ → Type 0) (cs : List ℕ) (n slot : ℕ) : Type 0 where
+  pub least : 5 * capacity cs ≤ slot
+  pub most : slot < 6 * capacity cs
+  pub own : (j : ℕ) → 8 ≤ j → j < n → P j → slotAt cs j ≡ slot
 
--- r is the first structured number that has P, or n where none below n has
-pub record First (P : ℕ → Type 0) (n r : ℕ) : Type 0 where
-  pub within : r ≤ n
+-- i is a number of slot's chain, or its end, and none above i has P
+pub record Passed (P : ℕ → Type 0) (cs : List ℕ) (n slot i : ℕ) : Type 0 where
+  pub below : i < n
+  pub own : 8 ≤ i → slotAt cs i ≡ slot
+  pub none : (j : ℕ) → i < j → 8 ≤ j → j < n → P j → ⊥
+
+-- r is a number below n that has P, or n where no structured number below n has
+pub record Found (P : ℕ → Type 0) (n r : ℕ) : Type 0 where
   pub found : r < n → P r
-  pub passed : Passed P r
-
--- ---- where a search starts: a type's parts have lower numbers than itself
-
--- r is not above what is neither below n nor below p + 1
-pub record Above (n p r : ℕ) : Type 0 where
-  pub least : (i : ℕ) → n ≤ i → p < i → r ≤ i
-
--- the q numbers of st from s on are numbers of types
-pub record Small (st : List ℕ) (s q : ℕ) : Type 0 where
-  pub inside : s + q ≤ 2048
-  pub small : (j : ℕ) → j < q → getD st (s + j) 0 < 2056
-
--- r is not above what is neither below 8 nor below the q numbers of st from s on
-pub record Least (st : List ℕ) (s q r : ℕ) : Type 0 where
-  pub least : (i : ℕ) → 8 ≤ i → ((j : ℕ) → j < q → getD st (s + j) 0 < i) → r ≤ i
+  pub none : n ≤ r → (j : ℕ) → 8 ≤ j → j < n → P j → ⊥
 
 -- ---- writing
 
@@ -87,13 +78,23 @@ pub record Written (cs ds : List ℕ) (i k p q : ℕ) : Type 0 where
   pub before : (x : ℕ) → x < 4 * i → getD ds x 0 ≡ getD cs x 0
   pub after : (x : ℕ) → 4 * i + 3 ≤ x → getD ds x 0 ≡ getD cs x 0
 
--- the first k records are those of the plain types
+-- ds is cs with the record (k, p, q) at i, as the last one of slot's chain
+pub record Added (cs ds : List ℕ) (slot i k p q : ℕ) : Type 0 where
+  pub long : length ds ≡ length cs
+  pub here : RecordAt ds k p q i
+  pub link : linkAt ds i ≡ getD cs slot 0
+  pub head : getD ds slot 0 ≡ i
+  pub before : (x : ℕ) → x < 4 * i → getD ds x 0 ≡ getD cs x 0
+  pub after : (x : ℕ) → 4 * i + 4 ≤ x → (x ≡ slot → ⊥) → getD ds x 0 ≡ getD cs x 0
+
+-- the first k records are those of the plain types, and no other is in a chain
 pub record Started (cs : List ℕ) (k : ℕ) : Type 0 where
-  pub long : length cs ≡ 10272
+  pub fresh : Fresh cs
   pub plains : (i : ℕ) → i < k → RecordAt cs i 0 0 i
 
--- ds is cs with the q numbers of st from s on as its elements from m on
-pub record Copied (cs ds : List ℕ) (m : ℕ) (st : List ℕ) (s q : ℕ) : Type 0 where
+-- ds is cs with the q numbers of st from s on as its cells from a on
+pub record Copied (cs ds : List ℕ) (a : ℕ) (st : List ℕ) (s q : ℕ) : Type 0 where
   pub long : length ds ≡ length cs
-  pub before : (x : ℕ) → x < 8224 + m → getD ds x 0 ≡ getD cs x 0
-  pub elements : Equal ds (8224 + m) st s q
+  pub before : (x : ℕ) → x < a → getD ds x 0 ≡ getD cs x 0
+  pub after : (x : ℕ) → a + q ≤ x → getD ds x 0 ≡ getD cs x 0
+  pub elements : Equal ds a st s q

@@ -1,12 +1,18 @@
 -- The table of numbered types: what a number means, when a table is sound, and what may become of one.
 use mathlib.Core.Path.{_≡_}
 use mathlib.Core.List.{List, [], _∷_, _++_, map}
-use Prim.Native.Nat.{ℕ, zero, suc, _+_, _*_, _≤_, _<_}
+use Prim.Native.Nat.{ℕ, zero, suc, _+_, _*_, _/_, _%_, _≤_, _<_}
+use lib.Dec.{eqb}
 use lib.ListN.{length, getD, take, drop}
-use Rattle.meaning.specs.Base.{choose}
+use Rattle.meaning.specs.Base.{choose, if_then_else_}
 use Rattle.meaning.specs.Types.{Ty, Tys, unknown, list, dict, tuple, mapIter, filterIter, tys, no-types, plain}
 
--- ---- the cells: record i at 4 · i (kind, p, q, and one to spare), element j at 8224 + j; n records and m elements are in use
+-- ---- the cells: room for as many elements and as many chains as records; with N for that number, record i at 4 · i (kind, p, q, and
+-- the record before it in its chain), element j at 4 · N + j and the last record of a chain from 5 · N on; n records and m elements
+-- are in use
+
+unfoldable pub capacity : List ℕ → ℕ
+capacity cells = length cells / 6
 
 pub record Tab : Type 0 where
   pub cells : List ℕ
@@ -26,11 +32,11 @@ abbrev pub secondAt : Tab → ℕ → ℕ
 secondAt t i = getD t.cells (4 * i + 2) 0
 
 abbrev pub elementAt : Tab → ℕ → ℕ
-elementAt t j = getD t.cells (8224 + j) 0
+elementAt t j = getD t.cells (4 * capacity t.cells + j) 0
 
 -- the numbers that a Tuple's record i names
 abbrev pub elementsAt : Tab → ℕ → List ℕ
-elementsAt t i = take (secondAt t i) (drop (8224 + firstAt t i) t.cells)
+elementsAt t i = take (secondAt t i) (drop (4 * capacity t.cells + firstAt t i) t.cells)
 
 -- ---- what a number means
 
@@ -76,22 +82,77 @@ pub record Low (t : Tab) (i : ℕ) : Type 0 where
   pub first : 8 ≤ kindAt t i → (kindAt t i ≡ 10 → ⊥) → firstAt t i < i
   pub second : kindAt t i ≡ 9 → secondAt t i < i
   pub inside : kindAt t i ≡ 10 → firstAt t i + secondAt t i ≤ t.m
-  pub elements : kindAt t i ≡ 10 → (j : ℕ) → j < secondAt t i → getD t.cells (8224 + firstAt t i + j) 0 < i
+  pub elements : kindAt t i ≡ 10 → (j : ℕ) → j < secondAt t i → getD t.cells (4 * capacity t.cells + firstAt t i + j) 0 < i
+
+-- ---- the chains, by which a type's number is found: each structured number is in the one that its record's hash names
+
+-- a hash with one number more
+unfoldable pub step : ℕ → ℕ → ℕ
+step h e = (8 * h + e) % 4093
+
+unfoldable pub steps : ℕ → List ℕ → ℕ
+steps h [] = h
+steps h (e ∷ es) = steps (step h e) es
+
+-- the hash of the record (k, p, q), and of the Tuple of some numbers
+unfoldable pub recordHash : ℕ → ℕ → ℕ → ℕ
+recordHash k p q = step (step k p) q
+
+unfoldable pub tupleHash : List ℕ → ℕ
+tupleHash es = steps 10 es
+
+-- the cell with the last record of a hash's chain
+unfoldable pub slotOf : List ℕ → ℕ → ℕ
+slotOf cs h = 5 * capacity cs + h % capacity cs
+
+-- and of record i's
+unfoldable pub slotAt : List ℕ → ℕ → ℕ
+slotAt cs i =
+    slotOf cs
+    (if eqb (getD cs (4 * i) 0) 10
+    then tupleHash (take (getD cs (4 * i + 2) 0) (drop (4 * capacity cs + getD cs (4 * i + 1) 0) cs))
+    else recordHash (getD cs (4 * i) 0) (getD cs (4 * i + 1) 0) (getD cs (4 * i + 2) 0))
+
+-- record i's link
+abbrev pub linkAt : List ℕ → ℕ → ℕ
+linkAt cs i = getD cs (4 * i + 3) 0
+
+-- a slot has the last number of its chain, and a link the one before: no number is passed over, and one below 8 is the chain's end
+pub record Chains (cs : List ℕ) (n : ℕ) : Type 0 where
+  pub heads : (x : ℕ) → 5 * capacity cs ≤ x → x < 6 * capacity cs → getD cs x 0 < n
+  pub head-own : (x : ℕ) → 5 * capacity cs ≤ x → x < 6 * capacity cs → 8 ≤ getD cs x 0 → slotAt cs (getD cs x 0) ≡ x
+  pub head-last : (j : ℕ) → 8 ≤ j → j < n → j ≤ getD cs (slotAt cs j) 0
+  pub links : (i : ℕ) → 8 ≤ i → i < n → linkAt cs i < i
+  pub link-own : (i : ℕ) → 8 ≤ i → i < n → 8 ≤ linkAt cs i → slotAt cs (linkAt cs i) ≡ slotAt cs i
+  pub link-last : (i j : ℕ) → 8 ≤ j → j < i → i < n → slotAt cs j ≡ slotAt cs i → j ≤ linkAt cs i
+
+-- under a shut name, so that searches in callers' proofs, which see many tables, do not look into it
+unfoldable pub Chained : List ℕ → ℕ → Type 0
+Chained cs n = Chains cs n
+
+-- cells that a table may be started in: all chains are empty
+pub record Fresh (cs : List ℕ) : Type 0 where
+  pub room : 8 ≤ capacity cs
+  pub most : capacity cs ≤ 2056
+  pub heads : (x : ℕ) → 5 * capacity cs ≤ x → x < 6 * capacity cs → getD cs x 0 < 8
 
 pub record Wf (t : Tab) : Type 0 where
-  pub long : length t.cells ≡ 10272
+  pub most : capacity t.cells ≤ 2056
   pub base : 8 ≤ t.n
-  pub room : t.n ≤ 2056
-  pub space : t.m ≤ 2048
+  pub room : t.n ≤ capacity t.cells
+  pub space : t.m ≤ capacity t.cells
   pub plains : (i : ℕ) → i < 8 → kindAt t i ≡ i
   pub low : (i : ℕ) → i < t.n → Low t i
   pub inj : (i j : ℕ) → i < t.n → j < t.n → denote t i ≡ denote t j → i ≡ j
+  pub chained : Chained t.cells t.n
 
 -- ---- what may become of a table
 
 -- u is t with perhaps more in it: what stood in use stands, and means what it meant
 pub record Grown (t u : Tab) : Type 0 where
   pub wf : Wf u
+  pub long : length u.cells ≡ length t.cells
+  pub as-wide : capacity u.cells ≡ capacity t.cells
   pub more : t.n ≤ u.n
   pub wider : t.m ≤ u.m
   pub same : (i : ℕ) → i < t.n → denote u i ≡ denote t i

@@ -1,19 +1,20 @@
-// The type table: types as numbers, equal numbers for equal types. The plain types are the numbers 0 to 7. One lent array is the whole
-// table: record i at cells 4 * i (kind), 4 * i + 1 (p) and 4 * i + 2 (q), the next one kept free; tuple elements from cell 8224 on.
+// The type table: types as numbers, equal numbers for equal types. The plain types are the numbers 0 to 7. One lent slice is the whole
+// table: record i at cells 4 * i (kind), 4 * i + 1 (p), 4 * i + 2 (q) and 4 * i + 3 (its link); behind the room for records, tuple elements,
+// and behind the room for these, the slots of the chains. Its length, at most 12341, tells the room: as many elements and as many slots as
+// records, at 6 cells for the three.
 // A record is List(p), Dict(p, q), Tuple (q elements from element p on), MapIter(p) or FilterIter(p), and has 0 where it has no part.
+// A record's hash names its slot. The slot has the last number of its chain and a record's link the one before; a number below 8 ends it.
 ghost use mathlib.Core.Path.{_≡_};
 ghost use mathlib.Core.List.{map};
 ghost use lib.ListN.{length, getD, take, drop};
 ghost use Prim.Native.Nat.{ℕ, _+_, _*_, _≤_, _<_};
 ghost use Rattle.meaning.specs.Types.{tuple, tys};
-ghost use Rattle.types.specs.Table.{Wf, Made, tab, denote, built};
-ghost use Rattle.types.specs.Steps.{Asked, Listed, RecordAt, Equal, TupleAt, Told, Passed, First, Above, Small, Least, Written, Copied};
+ghost use Rattle.types.specs.Table.{capacity, step, tupleHash, slotOf, Chains, Fresh, Wf, Made, tab, denote, built};
+ghost use Rattle.types.specs.Steps.{Asked, Listed, RecordAt, Equal, TupleAt, Told, Slot, Found, Written, Added, Copied};
 ghost use Rattle.types.specs.Reading.{KindOf, PartOf, IsNumber, IsTuple, IsElement, CountOf, ElementAt, CommonOf, ElementOf, shared, Agreement};
 
-// The first number that is no plain type's, and the cell of the first tuple element.
+// The first number that is no plain type's.
 const STRUCTURED: usize = 8;
-
-const ELEMENTS: usize = 8224;
 
 // How many types and how many tuple elements a table has.
 pub struct Counts {
@@ -34,21 +35,28 @@ pub struct Perhaps {
 }
 
 fn wide(x: u16) -> usize
-    ensures { λ r. ⌜ r ≡ x ⌝ }
+    ensures { λ r. ⌜ (r ≡ x) × (r < 65536) ⌝ }
 {
     x as usize
 }
 
-fn cell(table: &[u16; 10272], at: usize) -> usize
-    requires { ⌜ at < 10272 ⌝ }
+fn cell(table: &[u16], at: usize) -> usize
+    requires { ⌜ at < length (now table) ⌝ }
     ensures { λ r. ⌜ r ≡ getD (now (table .entry)) at 0 ⌝ }
 {
     wide(table[at])
 }
 
+// The cell of the first tuple element.
+fn base(table: &[u16]) -> usize
+    ensures { λ r. ⌜ r ≡ 4 * capacity (now (table .entry)) ⌝ }
+{
+    4 * (table.len() / 6)
+}
+
 // Writes record i.
-fn put(table: &mut [u16; 10272], i: usize, k: u16, p: u16, q: u16)
-    requires { ⌜ (i < 2056) × (length (now table) ≡ 10272) ⌝ }
+fn put(table: &mut [u16], i: usize, k: u16, p: u16, q: u16)
+    requires { ⌜ 4 * i + 2 < length (now table) ⌝ }
     ensures { λ _. ⌜ Written (now (table .entry)) (now (table .exit)) i k p q ⌝ }
 {
     table[4 * i] = k;
@@ -56,9 +64,9 @@ fn put(table: &mut [u16; 10272], i: usize, k: u16, p: u16, q: u16)
     table[4 * i + 2] = q;
 }
 
-// The table with the plain types alone, whatever the cells held: 8 numbers and no element.
-pub fn start(table: &mut [u16; 10272])
-    requires { ⌜ length (now table) ≡ 10272 ⌝ }
+// The table with the plain types alone: 8 numbers and no element. The chains are not emptied here: cells filled with 1 have none.
+pub fn start(table: &mut [u16])
+    requires { ⌜ Fresh (now table) ⌝ }
     ensures { λ _. ⌜ Wf (tab (now (table .exit)) 8 0) ⌝ }
 {
     let mut i: usize = 0;
@@ -69,8 +77,8 @@ pub fn start(table: &mut [u16; 10272])
 }
 
 // Whether record i is (k, p, q).
-fn holds(table: &[u16; 10272], i: usize, k: u16, p: u16, q: u16) -> bool
-    requires { ⌜ i < 2056 ⌝ }
+fn holds(table: &[u16], i: usize, k: u16, p: u16, q: u16) -> bool
+    requires { ⌜ 4 * i + 2 < length (now table) ⌝ }
     ensures { λ r. ⌜ Told (RecordAt (now (table .entry)) k p q i) r ⌝ }
 {
     if table[4 * i] != k {
@@ -85,36 +93,52 @@ fn holds(table: &[u16; 10272], i: usize, k: u16, p: u16, q: u16) -> bool
     true
 }
 
-// The larger of n and p + 1.
-fn above(n: usize, p: usize) -> usize
-    requires { ⌜ p < 2056 ⌝ }
-    ensures { λ r. ⌜ Above n p r ⌝ }
+// A hash with one number more. 4093 is prime, so that hashes that differ still do when the same numbers follow, and a hash stays small.
+fn mixed(h: usize, e: usize) -> usize
+    requires { ⌜ (h < 4093) × (e < 65536) ⌝ }
+    ensures { λ r. ⌜ (r ≡ step h e) × (r < 4093) ⌝ }
 {
-    if n <= p {
-        return p + 1;
-    }
-    n
+    (8 * h + e) % 4093
 }
 
-// The first number whose record is (k, p, q), or `types` where there is none; it is not below `from`.
-fn find(table: &[u16; 10272], from: usize, types: usize, k: u16, p: u16, q: u16) -> usize
-    requires { ⌜ (from ≤ types) × (types ≤ 2056) ⌝ }
-    requires { ⌜ Passed (RecordAt (now table) k p q) from ⌝ }
-    ensures { λ r. ⌜ First (RecordAt (now (table .entry)) k p q) types r ⌝ }
+// The slot of a hash.
+fn slot_of(table: &[u16], h: usize) -> usize
+    requires { ⌜ 0 < capacity (now table) ⌝ }
+    ensures { λ r. ⌜ r ≡ slotOf (now (table .entry)) h ⌝ }
 {
-    let mut i = from;
-    while i < types {
+    let n = table.len() / 6;
+    5 * n + h % n
+}
+
+// The number in the slot's chain whose record is (k, p, q), or `types` where there is none.
+fn find(table: &[u16], slot: usize, types: usize, k: u16, p: u16, q: u16) -> usize
+    requires { ⌜ types ≤ capacity (now table) ⌝ }
+    requires { ⌜ Chains (now table) types ⌝ }
+    requires { ⌜ Slot (RecordAt (now table) k p q) (now table) types slot ⌝ }
+    ensures { λ r. ⌜ Found (RecordAt (now (table .entry)) k p q) types r ⌝ }
+{
+    let mut i = cell(table, slot);
+    while STRUCTURED <= i {
         if holds(table, i, k, p, q) {
             return i;
         }
-        i += 1;
+        i = cell(table, 4 * i + 3);
     }
-    i
+    types
 }
 
-// The number of the List, Dict, MapIter or FilterIter of p (and q): the one it has, or the next one. A type's parts have lower numbers than
-// itself, so the search starts above them.
-pub fn form(table: &mut [u16; 10272], counts: Counts, kind: usize, p: usize, q: usize) -> Formed
+// Writes record i, and makes it the last one of the slot's chain.
+fn add(table: &mut [u16], slot: usize, i: usize, k: u16, p: u16, q: u16)
+    requires { ⌜ (4 * i + 3 < slot) × (slot < length (now table)) × (i < 65536) ⌝ }
+    ensures { λ _. ⌜ Added (now (table .entry)) (now (table .exit)) slot i k p q ⌝ }
+{
+    put(table, i, k, p, q);
+    table[4 * i + 3] = table[slot];
+    table[slot] = i as u16;
+}
+
+// The number of the List, Dict, MapIter or FilterIter of p (and q): the one it has, or the next one.
+pub fn form(table: &mut [u16], counts: Counts, kind: usize, p: usize, q: usize) -> Formed
     requires { ⌜ Asked (tab (now table) (counts .types) (counts .elements)) kind p q ⌝ }
     ensures { λ r. ⌜ Made (tab (now (table .entry)) (counts .types) (counts .elements))
         (tab (now (table .exit)) (r .counts .types) (r .counts .elements))
@@ -124,12 +148,12 @@ pub fn form(table: &mut [u16; 10272], counts: Counts, kind: usize, p: usize, q: 
         0 ⌝ }
 {
     let types = counts.types;
-    let from = above(above(STRUCTURED, p), q);
-    let i = find(table, from, types, kind as u16, p as u16, q as u16);
+    let slot = slot_of(table, mixed(mixed(kind, p), q));
+    let i = find(table, slot, types, kind as u16, p as u16, q as u16);
     if i < types {
         Formed { number: i, counts }
     } else {
-        put(table, types, kind as u16, p as u16, q as u16);
+        add(table, slot, types, kind as u16, p as u16, q as u16);
         Formed {
             number: types,
             counts: Counts {
@@ -140,14 +164,14 @@ pub fn form(table: &mut [u16; 10272], counts: Counts, kind: usize, p: usize, q: 
     }
 }
 
-// Whether the n elements from p on are the n numbers of the stack from `from` on.
-fn alike(table: &[u16; 10272], p: usize, stack: &[u16; 2048], from: usize, n: usize) -> bool
-    requires { ⌜ (p + n ≤ 2048) × (from + n ≤ 2048) ⌝ }
-    ensures { λ r. ⌜ Told (Equal (now (table .entry)) (8224 + p) (now (stack .entry)) from n) r ⌝ }
+// Whether the n cells from `at` on are the n numbers of the stack from `from` on.
+fn alike(table: &[u16], at: usize, stack: &[u16], from: usize, n: usize) -> bool
+    requires { ⌜ (at + n ≤ length (now table)) × (from + n ≤ length (now stack)) ⌝ }
+    ensures { λ r. ⌜ Told (Equal (now (table .entry)) at (now (stack .entry)) from n) r ⌝ }
 {
     let mut j: usize = 0;
     while j < n {
-        if table[ELEMENTS + p + j] != stack[from + j] {
+        if table[at + j] != stack[from + j] {
             return false;
         }
         j += 1;
@@ -155,10 +179,12 @@ fn alike(table: &[u16; 10272], p: usize, stack: &[u16; 2048], from: usize, n: us
     true
 }
 
-// Whether record i is the Tuple of the n numbers of the stack from `from` on.
-fn matches(table: &[u16; 10272], i: usize, stack: &[u16; 2048], from: usize, n: usize) -> bool
+// Whether record i is the Tuple of the n numbers of the stack from `from` on. `elements`, the cell of the first element, is handed in so
+// that a search works it out once.
+fn matches(table: &[u16], elements: usize, i: usize, stack: &[u16], from: usize, n: usize) -> bool
+    requires { ⌜ elements ≡ 4 * capacity (now table) ⌝ }
     requires { ⌜ IsNumber (now table) i ⌝ }
-    requires { ⌜ from + n ≤ 2048 ⌝ }
+    requires { ⌜ from + n ≤ length (now stack) ⌝ }
     ensures { λ r. ⌜ Told (TupleAt (now (table .entry)) (now (stack .entry)) from n i) r ⌝ }
 {
     if table[4 * i] != 10 {
@@ -167,72 +193,69 @@ fn matches(table: &[u16; 10272], i: usize, stack: &[u16; 2048], from: usize, n: 
     if cell(table, 4 * i + 2) != n {
         return false;
     }
-    alike(table, cell(table, 4 * i + 1), stack, from, n)
+    let p = cell(table, 4 * i + 1);
+    alike(table, elements + p, stack, from, n)
 }
 
-fn number_at(stack: &[u16; 2048], at: usize) -> usize
-    requires { ⌜ at < 2048 ⌝ }
-    ensures { λ r. ⌜ r ≡ getD (now (stack .entry)) at 0 ⌝ }
+fn number_at(stack: &[u16], at: usize) -> usize
+    requires { ⌜ at < length (now stack) ⌝ }
+    ensures { λ r. ⌜ (r ≡ getD (now (stack .entry)) at 0) × (r < 65536) ⌝ }
 {
     wide(stack[at])
 }
 
-// The least number from 8 on that is above all n numbers of the stack from `from` on.
-fn least_above(stack: &[u16; 2048], from: usize, n: usize) -> usize
-    requires { ⌜ Small (now stack) from n ⌝ }
-    ensures { λ r. ⌜ Least (now (stack .entry)) from n r ⌝ }
+// The hash of the Tuple of the n numbers of the stack from `from` on.
+fn hash_of(stack: &[u16], from: usize, n: usize) -> usize
+    requires { ⌜ from + n ≤ length (now stack) ⌝ }
+    ensures { λ r. ⌜ r ≡ tupleHash (take n (drop from (now (stack .entry)))) ⌝ }
 {
-    let mut low = STRUCTURED;
+    let mut h: usize = 10;
     let mut j: usize = 0;
     while j < n {
-        low = above(low, number_at(stack, from + j));
+        h = mixed(h, number_at(stack, from + j));
         j += 1;
     }
-    low
+    h
 }
 
-// The first number that is the Tuple of these, or `counts.types` where there is none: it is above its elements.
+// The number in the slot's chain that is the Tuple of these, or `counts.types` where there is none.
 fn find_tuple(
-    table: &[u16; 10272],
+    table: &[u16],
+    slot: usize,
     counts: Counts,
-    stack: &[u16; 2048],
+    stack: &[u16],
     from: usize,
     n: usize,
 ) -> usize
     requires { ⌜ Listed (tab (now table) (counts .types) (counts .elements)) (now stack) from n ⌝ }
-    ensures { λ r. ⌜ First (TupleAt (now (table .entry)) (now (stack .entry)) from n) (counts .types) r ⌝ }
+    requires { ⌜ Slot (TupleAt (now table) (now stack) from n) (now table) (counts .types) slot ⌝ }
+    ensures { λ r. ⌜ Found (TupleAt (now (table .entry)) (now (stack .entry)) from n) (counts .types) r ⌝ }
 {
-    let types = counts.types;
-    let mut i = least_above(stack, from, n);
-    while i < types {
-        if matches(table, i, stack, from, n) {
+    let elements = base(table);
+    let mut i = cell(table, slot);
+    while STRUCTURED <= i {
+        if matches(table, elements, i, stack, from, n) {
             return i;
         }
-        i += 1;
+        i = cell(table, 4 * i + 3);
     }
-    i
+    counts.types
 }
 
-// Writes the n numbers of the stack from `from` on as the elements from m on.
-fn copy(table: &mut [u16; 10272], m: usize, stack: &[u16; 2048], from: usize, n: usize)
-    requires { ⌜ (length (now table) ≡ 10272) × (m + n ≤ 2048) × (from + n ≤ 2048) ⌝ }
-    ensures { λ _. ⌜ Copied (now (table .entry)) (now (table .exit)) m (now (stack .entry)) from n ⌝ }
+// Writes the n numbers of the stack from `from` on to the cells from `at` on.
+fn copy(table: &mut [u16], at: usize, stack: &[u16], from: usize, n: usize)
+    requires { ⌜ (at + n ≤ length (now table)) × (from + n ≤ length (now stack)) ⌝ }
+    ensures { λ _. ⌜ Copied (now (table .entry)) (now (table .exit)) at (now (stack .entry)) from n ⌝ }
 {
     let mut j: usize = 0;
     while j < n {
-        table[ELEMENTS + m + j] = stack[from + j];
+        table[at + j] = stack[from + j];
         j += 1;
     }
 }
 
 // The number of the Tuple of the n numbers of the stack from `from` on: the one it has, or the next one.
-pub fn tuple_of(
-    table: &mut [u16; 10272],
-    counts: Counts,
-    stack: &[u16; 2048],
-    from: usize,
-    n: usize,
-) -> Formed
+pub fn tuple_of(table: &mut [u16], counts: Counts, stack: &[u16], from: usize, n: usize) -> Formed
     requires { ⌜ Listed (tab (now table) (counts .types) (counts .elements)) (now stack) from n ⌝ }
     ensures { λ r. ⌜ Made (tab (now (table .entry)) (counts .types) (counts .elements))
         (tab (now (table .exit)) (r .counts .types) (r .counts .elements))
@@ -243,12 +266,13 @@ pub fn tuple_of(
 {
     let types = counts.types;
     let m = counts.elements;
-    let i = find_tuple(table, counts, stack, from, n);
+    let slot = slot_of(table, hash_of(stack, from, n));
+    let i = find_tuple(table, slot, counts, stack, from, n);
     if i < types {
         Formed { number: i, counts }
     } else {
-        copy(table, m, stack, from, n);
-        put(table, types, 10, m as u16, n as u16);
+        copy(table, base(table) + m, stack, from, n);
+        add(table, slot, types, 10, m as u16, n as u16);
         Formed {
             number: types,
             counts: Counts {
@@ -260,74 +284,76 @@ pub fn tuple_of(
 }
 
 // The kind of type i.
-pub fn kind_of(table: &[u16; 10272], i: usize) -> usize
-    requires { ⌜ i < 2056 ⌝ }
+pub fn kind_of(table: &[u16], i: usize) -> usize
+    requires { ⌜ i < capacity (now table) ⌝ }
     ensures { λ r. ⌜ KindOf (now (table .entry)) i r ⌝ }
 {
     cell(table, 4 * i)
 }
 
 // The first part of type i, if that is no Tuple: 0, Unknown, if it has none.
-pub fn part_of(table: &[u16; 10272], i: usize) -> usize
-    requires { ⌜ i < 2056 ⌝ }
+pub fn part_of(table: &[u16], i: usize) -> usize
+    requires { ⌜ i < capacity (now table) ⌝ }
     ensures { λ r. ⌜ PartOf (now (table .entry)) 0 i r ⌝ }
 {
     cell(table, 4 * i + 1)
 }
 
 // The second part of type i, if that is no Tuple: 0, Unknown, if it has none.
-pub fn second_of(table: &[u16; 10272], i: usize) -> usize
-    requires { ⌜ i < 2056 ⌝ }
+pub fn second_of(table: &[u16], i: usize) -> usize
+    requires { ⌜ i < capacity (now table) ⌝ }
     ensures { λ r. ⌜ PartOf (now (table .entry)) 1 i r ⌝ }
 {
     cell(table, 4 * i + 2)
 }
 
 // How many elements the Tuple i has.
-pub fn count_of(table: &[u16; 10272], i: usize) -> usize
-    requires { ⌜ i < 2056 ⌝ }
+pub fn count_of(table: &[u16], i: usize) -> usize
+    requires { ⌜ i < capacity (now table) ⌝ }
     ensures { λ r. ⌜ CountOf (now (table .entry)) i r ⌝ }
 {
     cell(table, 4 * i + 2)
 }
 
 // The element j of the Tuple i.
-pub fn element_at(table: &[u16; 10272], i: usize, j: usize) -> usize
+pub fn element_at(table: &[u16], i: usize, j: usize) -> usize
     requires { ⌜ IsElement (now table) i j ⌝ }
     ensures { λ r. ⌜ ElementAt (now (table .entry)) i j r ⌝ }
 {
     let p = cell(table, 4 * i + 1);
-    cell(table, ELEMENTS + p + j)
+    cell(table, base(table) + p + j)
 }
 
-// The number that the q elements from p on share, or 0.
-fn shared_of(table: &[u16; 10272], p: usize, q: usize) -> usize
-    requires { ⌜ (length (now table) ≡ 10272) × (p + q ≤ 2048) ⌝ }
-    ensures { λ r. ⌜ r ≡ shared (take q (drop (8224 + p) (now (table .entry)))) ⌝ }
+// The number that the q cells from `at` on share, or 0.
+fn shared_of(table: &[u16], at: usize, q: usize) -> usize
+    requires { ⌜ at + q ≤ length (now table) ⌝ }
+    ensures { λ r. ⌜ r ≡ shared (take q (drop at (now (table .entry)))) ⌝ }
 {
     if q == 0 {
         return 0;
     }
     let mut j: usize = 1;
     while j < q {
-        if table[ELEMENTS + p + j] != table[ELEMENTS + p] {
+        if table[at + j] != table[at] {
             return 0;
         }
         j += 1;
     }
-    cell(table, ELEMENTS + p)
+    cell(table, at)
 }
 
 // The type that all elements of the Tuple i share: 0, Unknown, if there is none.
-pub fn common_of(table: &[u16; 10272], i: usize) -> usize
+pub fn common_of(table: &[u16], i: usize) -> usize
     requires { ⌜ IsTuple (now table) i ⌝ }
     ensures { λ r. ⌜ CommonOf (now (table .entry)) i r ⌝ }
 {
-    shared_of(table, cell(table, 4 * i + 1), cell(table, 4 * i + 2))
+    let p = cell(table, 4 * i + 1);
+    let q = cell(table, 4 * i + 2);
+    shared_of(table, base(table) + p, q)
 }
 
 // What a walk over a value of type i gives.
-pub fn element_of(table: &[u16; 10272], i: usize) -> Perhaps
+pub fn element_of(table: &[u16], i: usize) -> Perhaps
     requires { ⌜ IsNumber (now table) i ⌝ }
     ensures { λ r. ⌜ ElementOf (now (table .entry)) i (r .there) (r .number) ⌝ }
 {

@@ -12,12 +12,12 @@ use Rattle.sheet.proofs.write.Reads as write-reads
 -- src/lib.rt:65:9
 list-names-requires : tie.Need-list-names-requires
 list-names-requires c κs =
-    (c .before .before .before .pre .sound, (c .before .before .before .pre .fit .high, refl))
+    (c .before .before .before .before .pre .sound, (c .before .before .before .before .pre .fit .high, refl))
 
 -- src/lib.rt:66:9
 write-requires : tie.Need-write-requires
 write-requires c κs =
-    accept-listing (c .before .before .before .before .before .before .pre) (c .before .before .list-names .ensures)
+    accept-listing (c .before .before .before .before .before .before .before .pre) (c .before .before .list-names .ensures)
 
 -- src/lib.rt:68:9
 same-length : tie.Need-same-length
@@ -26,7 +26,7 @@ same-length c = search needs
 -- src/lib.rt:68:9
 returns : tie.Need-returns
 returns c =
-    accepted (c .before .before .before .before .before .before .before .before .before .before .pre) (c .before .before .before .before .before .before .list-names .ensures) (c .before .before .before .write .ensures) (c .if1 .taken)
+    accepted (c .before .before .before .before .before .before .before .before .before .before .before .pre) (c .before .before .before .before .before .before .list-names .ensures) (c .before .before .before .write .ensures) (c .if1 .taken)
 
 -- src/lib.rt:51:1
 same-length-2 : tie.Need-same-length-2
@@ -35,7 +35,7 @@ same-length-2 c = search needs
 -- src/lib.rt:51:1
 returns-2 : tie.Need-returns-2
 returns-2 c =
-    short (c .before .before .before .before .before .before .before .before .before .before .pre) (c .before .before .before .before .before .before .list-names .ensures) (c .before .before .before .write .ensures) (c .if1 .left)
+    short (c .before .before .before .before .before .before .before .before .before .before .before .pre) (c .before .before .before .before .before .before .list-names .ensures) (c .before .before .before .write .ensures) (c .if1 .left)
 
 pub accept-spec : {M : Type 1} → statement M
 accept-spec =

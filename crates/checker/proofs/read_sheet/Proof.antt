@@ -1,3 +1,5 @@
+use Rattle.types.proofs.Room.{fresh-filled}
+use Rattle.types.specs.Table.{capacity}
 use mathlib.Core.Path.{refl, sym, ap, _∙_}
 use Rattle.checker.proofs.Sheets.{reading-yes, reading-no}
 use native.Mathlib.Omega.{arith}
@@ -8,20 +10,30 @@ use Rattle.checker.proofs.read_sheet.Reads as reads
 use Rattle.checker.proofs.read_sheet.Lts as lts
 use Rattle.sheet.proofs.read.Reads as read-reads
 
+slice-aggregate-read : tie.Need-slice-aggregate-read
+slice-aggregate-read c = search needs
+
 -- src/lib.rt:179:9
 read-requires : tie.Need-read-requires
+unfolding capacity
 read-requires c κs =
-    (refl, refl)
+    (refl, refl, fresh-filled 12336 1 (omega arith) (omega arith) (omega arith))
 
 -- src/lib.rt:181:9
 returns : tie.Need-returns
 returns c =
-    reading-yes (c .before .read .ensures) (c .if1 .taken)
+    reading-yes (c .before .before .read .ensures) (c .if1 .taken)
 
 -- src/lib.rt:174:1
 returns-2 : tie.Need-returns-2
 returns-2 c =
-    reading-no (c .before .read .ensures) (c .if1 .left)
+    reading-no (c .before .before .read .ensures) (c .if1 .left)
 
 pub read-sheet-spec : {M : Type 1} → statement M
-read-sheet-spec = tie.close (tie.spec read-requires returns returns-2)
+read-sheet-spec =
+    tie.close
+    (tie.spec
+    slice-aggregate-read
+    read-requires
+    returns
+    returns-2)

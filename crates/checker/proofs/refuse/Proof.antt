@@ -12,12 +12,12 @@ use Rattle.message.proofs.write.Reads as write-reads
 -- src/lib.rt:90:9
 node-at-requires : tie.Need-node-at-requires
 node-at-requires c κs =
-    (c .before .before .pre .sound .headed, (c .before .before .pre .nodes-at, refuse-there (c .before .before .pre)))
+    (c .before .before .before .pre .sound .headed, (c .before .before .before .pre .nodes-at, refuse-there (c .before .before .before .pre)))
 
 -- src/lib.rt:91:9
 write-requires : tie.Need-write-requires
 write-requires c κs =
-    (c .before .before .before .before .pre .sound .headed, (c .before .before .before .before .pre .sound .names, refuse-tells (c .before .before .before .before .pre)))
+    (c .before .before .before .before .before .pre .sound .headed, (c .before .before .before .before .before .pre .sound .names, refuse-tells (c .before .before .before .before .before .pre)))
 
 -- src/lib.rt:75:1
 same-length : tie.Need-same-length
@@ -27,7 +27,7 @@ same-length c =
 -- src/lib.rt:75:1
 returns : tie.Need-returns
 returns c =
-    refused (c .before .before .before .before .before .before .before .pre) (c .before .before .before .before .node-at .ensures) refl refl refl refl (c .before .before .write .ensures .0) (c .before .before .write .ensures .1)
+    refused (c .before .before .before .before .before .before .before .before .pre) (c .before .before .before .before .node-at .ensures) refl refl refl refl (c .before .before .write .ensures .0) (c .before .before .write .ensures .1)
 
 pub refuse-spec : {M : Type 1} → statement M
 refuse-spec = tie.close (tie.spec node-at-requires write-requires same-length returns)

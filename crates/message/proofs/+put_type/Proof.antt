@@ -1,7 +1,7 @@
 -- `message::put_type` meets its contract: what is written and what is left make the whole; the measure is the type's number.
 use mathlib.Core.Path.{_∙_}
 use Prim.Native.Nat.{_≤_, _-_}
-use Rattle.message.proofs.Types.{known-number, known-kind}
+use Rattle.message.proofs.Types.{known-room, known-kind}
 use Rattle.message.proofs.Writing.{Left, rest, left-all, left-step, left-long, opening-fits, opened, comma-fits, comma-put, part-fits, closing-left, written}
 use borrow.Author.Needs.{needs}
 use native.Mathlib.Omega.{arith}
@@ -39,19 +39,19 @@ put-type-μ-loop table i out₀ at end₀ many j₀ out end j = many - j
 
 put-type-kind-of-requires : (t : ℕ) → put-type-lts.Need-kind-of-requires (kind-of-reads.Asked, kind-of-reads.Learnt, put-opening-reads.Asked, put-opening-reads.Learnt, parts-of-reads.Asked, parts-of-reads.Learnt, put-comma-reads.Asked, put-comma-reads.Learnt, part-at-reads.Asked, part-at-reads.Learnt, put-type-below t, put-type.Post, put-closing-reads.Asked, put-closing-reads.Learnt) (put-type-at t) put-type.Post put-type-Inv-loop put-type-μ-loop
 put-type-kind-of-requires t c κs =
-    known-number (c .before .pre .1 .0)
+    known-room (c .before .before .pre .1 .0)
 
 put-type-put-opening-requires : (t : ℕ) → put-type-lts.Need-put-opening-requires (kind-of-reads.Asked, kind-of-reads.Learnt, put-opening-reads.Asked, put-opening-reads.Learnt, parts-of-reads.Asked, parts-of-reads.Learnt, put-comma-reads.Asked, put-comma-reads.Learnt, part-at-reads.Asked, part-at-reads.Learnt, put-type-below t, put-type.Post, put-closing-reads.Asked, put-closing-reads.Learnt) (put-type-at t) put-type.Post put-type-Inv-loop put-type-μ-loop
 put-type-put-opening-requires t c κs =
-    opening-fits _ _ _ _ (known-kind (c .before .before .before .pre .1 .0) (c .before .kind-of .ensures)) (c .before .before .before .pre .1 .1)
+    opening-fits _ _ _ _ (known-kind (c .before .before .before .before .pre .1 .0) (c .before .kind-of .ensures)) (c .before .before .before .before .pre .1 .1)
 
 put-type-parts-of-requires : (t : ℕ) → put-type-lts.Need-parts-of-requires (kind-of-reads.Asked, kind-of-reads.Learnt, put-opening-reads.Asked, put-opening-reads.Learnt, parts-of-reads.Asked, parts-of-reads.Learnt, put-comma-reads.Asked, put-comma-reads.Learnt, part-at-reads.Asked, part-at-reads.Learnt, put-type-below t, put-type.Post, put-closing-reads.Asked, put-closing-reads.Learnt) (put-type-at t) put-type.Post put-type-Inv-loop put-type-μ-loop
 put-type-parts-of-requires t c κs =
-    c .before .before .before .before .before .before .pre .1 .0
+    c .before .before .before .before .before .before .before .pre .1 .0
 
 put-type-loop-holds : (t : ℕ) → put-type-lts.Need-loop-holds (kind-of-reads.Asked, kind-of-reads.Learnt, put-opening-reads.Asked, put-opening-reads.Learnt, parts-of-reads.Asked, parts-of-reads.Learnt, put-comma-reads.Asked, put-comma-reads.Learnt, part-at-reads.Asked, part-at-reads.Learnt, put-type-below t, put-type.Post, put-closing-reads.Asked, put-closing-reads.Learnt) (put-type-at t) put-type.Post put-type-Inv-loop put-type-μ-loop
 put-type-loop-holds t c =
-    (omega arith, left-all _ _ _ (opened _ _ (known-kind (c .before .before .before .before .before .before .before .pre .1 .0) (c .before .before .before .before .before .kind-of .ensures)) (c .before .before .before .before .before .before .before .pre .1 .1) (c .before .before .before .put-opening .ensures .0) (c .before .before .before .put-opening .ensures .1) .fits))
+    (omega arith, left-all _ _ _ (opened _ _ (known-kind (c .before .before .before .before .before .before .before .before .pre .1 .0) (c .before .before .before .before .before .kind-of .ensures)) (c .before .before .before .before .before .before .before .before .pre .1 .1) (c .before .before .before .put-opening .ensures .0) (c .before .before .before .put-opening .ensures .1) .fits))
 
 put-type-put-comma-requires : (t : ℕ) → put-type-lts.Need-put-comma-requires (kind-of-reads.Asked, kind-of-reads.Learnt, put-opening-reads.Asked, put-opening-reads.Learnt, parts-of-reads.Asked, parts-of-reads.Learnt, put-comma-reads.Asked, put-comma-reads.Learnt, part-at-reads.Asked, part-at-reads.Learnt, put-type-below t, put-type.Post, put-closing-reads.Asked, put-closing-reads.Learnt) (put-type-at t) put-type.Post put-type-Inv-loop put-type-μ-loop
 put-type-put-comma-requires t c κs =
@@ -59,11 +59,11 @@ put-type-put-comma-requires t c κs =
 
 put-type-part-at-requires : (t : ℕ) → put-type-lts.Need-part-at-requires (kind-of-reads.Asked, kind-of-reads.Learnt, put-opening-reads.Asked, put-opening-reads.Learnt, parts-of-reads.Asked, parts-of-reads.Learnt, put-comma-reads.Asked, put-comma-reads.Learnt, part-at-reads.Asked, part-at-reads.Learnt, put-type-below t, put-type.Post, put-closing-reads.Asked, put-closing-reads.Learnt) (put-type-at t) put-type.Post put-type-Inv-loop put-type-μ-loop
 put-type-part-at-requires t c κs =
-    (c .before .before .before .before .before .before .before .before .before .before .before .before .before .pre .1 .0, omega (arith, c .before .before .before .before .before .before .parts-of .ensures, c .before .before .before .before .loop-test .taken))
+    (c .before .before .before .before .before .before .before .before .before .before .before .before .before .before .pre .1 .0, omega (arith, c .before .before .before .before .before .before .parts-of .ensures, c .before .before .before .before .loop-test .taken))
 
 put-type-put-type-requires : (t : ℕ) → put-type-lts.Need-put-type-requires (kind-of-reads.Asked, kind-of-reads.Learnt, put-opening-reads.Asked, put-opening-reads.Learnt, parts-of-reads.Asked, parts-of-reads.Learnt, put-comma-reads.Asked, put-comma-reads.Learnt, part-at-reads.Asked, part-at-reads.Learnt, put-type-below t, put-type.Post, put-closing-reads.Asked, put-closing-reads.Learnt) (put-type-at t) put-type.Post put-type-Inv-loop put-type-μ-loop
 put-type-put-type-requires t c κs =
-    (omega (arith, c .before .before .before .before .before .before .before .before .before .before .before .before .before .before .before .pre .0, c .before .part-at .ensures .lower), (c .before .part-at .ensures .known, part-fits _ _ _ (c .before .before .before .before .before .before .before .loop .inv .1) (omega (arith, c .before .before .before .before .before .before .before .before .parts-of .ensures, c .before .before .before .before .before .before .loop-test .taken)) (c .before .before .before .before .put-comma .ensures .0) (c .before .before .before .before .put-comma .ensures .1) (c .before .part-at .ensures)))
+    (omega (arith, c .before .before .before .before .before .before .before .before .before .before .before .before .before .before .before .before .pre .0, c .before .part-at .ensures .lower), (c .before .part-at .ensures .known, part-fits _ _ _ (c .before .before .before .before .before .before .before .loop .inv .1) (omega (arith, c .before .before .before .before .before .before .before .before .parts-of .ensures, c .before .before .before .before .before .before .loop-test .taken)) (c .before .before .before .before .put-comma .ensures .0) (c .before .before .before .before .put-comma .ensures .1) (c .before .part-at .ensures)))
 
 put-type-add-j : (t : ℕ) → put-type-lts.Need-add-j (kind-of-reads.Asked, kind-of-reads.Learnt, put-opening-reads.Asked, put-opening-reads.Learnt, parts-of-reads.Asked, parts-of-reads.Learnt, put-comma-reads.Asked, put-comma-reads.Learnt, part-at-reads.Asked, part-at-reads.Learnt, put-type-below t, put-type.Post, put-closing-reads.Asked, put-closing-reads.Learnt) (put-type-at t) put-type.Post put-type-Inv-loop put-type-μ-loop
 put-type-add-j t c =
@@ -79,21 +79,21 @@ put-type-loop-again t c =
 
 put-type-kind-of-requires-2 : (t : ℕ) → put-type-lts.Need-kind-of-requires-2 (kind-of-reads.Asked, kind-of-reads.Learnt, put-opening-reads.Asked, put-opening-reads.Learnt, parts-of-reads.Asked, parts-of-reads.Learnt, put-comma-reads.Asked, put-comma-reads.Learnt, part-at-reads.Asked, part-at-reads.Learnt, put-type-below t, put-type.Post, put-closing-reads.Asked, put-closing-reads.Learnt) (put-type-at t) put-type.Post put-type-Inv-loop put-type-μ-loop
 put-type-kind-of-requires-2 t c κs =
-    known-number (c .before .before .before .before .before .before .before .before .before .pre .1 .0)
+    known-room (c .before .before .before .before .before .before .before .before .before .before .pre .1 .0)
 
 put-type-put-closing-requires : (t : ℕ) → put-type-lts.Need-put-closing-requires (kind-of-reads.Asked, kind-of-reads.Learnt, put-opening-reads.Asked, put-opening-reads.Learnt, parts-of-reads.Asked, parts-of-reads.Learnt, put-comma-reads.Asked, put-comma-reads.Learnt, part-at-reads.Asked, part-at-reads.Learnt, put-type-below t, put-type.Post, put-closing-reads.Asked, put-closing-reads.Learnt) (put-type-at t) put-type.Post put-type-Inv-loop put-type-μ-loop
 put-type-put-closing-requires t c κs =
-    closing-left _ _ _ (c .before .before .before .loop .inv .1) (omega (arith, c .before .before .before .before .parts-of .ensures, c .before .before .loop-test .left)) (known-kind (c .before .before .before .before .before .before .before .before .before .before .before .pre .1 .0) (c .before .kind-of2 .ensures)) .fits
+    closing-left _ _ _ (c .before .before .before .loop .inv .1) (omega (arith, c .before .before .before .before .parts-of .ensures, c .before .before .loop-test .left)) (known-kind (c .before .before .before .before .before .before .before .before .before .before .before .before .pre .1 .0) (c .before .kind-of2 .ensures)) .fits
 
 put-type-same-length : (t : ℕ) → put-type-lts.Need-same-length (kind-of-reads.Asked, kind-of-reads.Learnt, put-opening-reads.Asked, put-opening-reads.Learnt, parts-of-reads.Asked, parts-of-reads.Learnt, put-comma-reads.Asked, put-comma-reads.Learnt, part-at-reads.Asked, part-at-reads.Learnt, put-type-below t, put-type.Post, put-closing-reads.Asked, put-closing-reads.Learnt) (put-type-at t) put-type.Post put-type-Inv-loop put-type-μ-loop
 put-type-same-length t c =
-    left-long _ (closing-left _ _ _ (c .before .before .before .before .before .before .loop .inv .1) (omega (arith, c .before .before .before .before .before .before .before .parts-of .ensures, c .before .before .before .before .before .loop-test .left)) (known-kind (c .before .before .before .before .before .before .before .before .before .before .before .before .before .before .pre .1 .0) (c .before .before .before .before .kind-of2 .ensures))) (c .before .before .put-closing .ensures .0)
-    ∙ opened _ _ (known-kind (c .before .before .before .before .before .before .before .before .before .before .before .before .before .before .pre .1 .0) (c .before .before .before .before .before .before .before .before .before .before .before .before .kind-of .ensures)) (c .before .before .before .before .before .before .before .before .before .before .before .before .before .before .pre .1 .1) (c .before .before .before .before .before .before .before .before .before .before .put-opening .ensures .0) (c .before .before .before .before .before .before .before .before .before .before .put-opening .ensures .1) .long
+    left-long _ (closing-left _ _ _ (c .before .before .before .before .before .before .loop .inv .1) (omega (arith, c .before .before .before .before .before .before .before .parts-of .ensures, c .before .before .before .before .before .loop-test .left)) (known-kind (c .before .before .before .before .before .before .before .before .before .before .before .before .before .before .before .pre .1 .0) (c .before .before .before .before .kind-of2 .ensures))) (c .before .before .put-closing .ensures .0)
+    ∙ opened _ _ (known-kind (c .before .before .before .before .before .before .before .before .before .before .before .before .before .before .before .pre .1 .0) (c .before .before .before .before .before .before .before .before .before .before .before .before .kind-of .ensures)) (c .before .before .before .before .before .before .before .before .before .before .before .before .before .before .before .pre .1 .1) (c .before .before .before .before .before .before .before .before .before .before .put-opening .ensures .0) (c .before .before .before .before .before .before .before .before .before .before .put-opening .ensures .1) .long
 
 put-type-returns : (t : ℕ) → put-type-lts.Need-returns (kind-of-reads.Asked, kind-of-reads.Learnt, put-opening-reads.Asked, put-opening-reads.Learnt, parts-of-reads.Asked, parts-of-reads.Learnt, put-comma-reads.Asked, put-comma-reads.Learnt, part-at-reads.Asked, part-at-reads.Learnt, put-type-below t, put-type.Post, put-closing-reads.Asked, put-closing-reads.Learnt) (put-type-at t) put-type.Post put-type-Inv-loop put-type-μ-loop
 put-type-returns t c =
-    written (opened _ _ (known-kind (c .before .before .before .before .before .before .before .before .before .before .before .before .before .before .pre .1 .0) (c .before .before .before .before .before .before .before .before .before .before .before .before .kind-of .ensures)) (c .before .before .before .before .before .before .before .before .before .before .before .before .before .before .pre .1 .1) (c .before .before .before .before .before .before .before .before .before .before .put-opening .ensures .0) (c .before .before .before .before .before .before .before .before .before .before .put-opening .ensures .1))
-    (closing-left _ _ _ (c .before .before .before .before .before .before .loop .inv .1) (omega (arith, c .before .before .before .before .before .before .before .parts-of .ensures, c .before .before .before .before .before .loop-test .left)) (known-kind (c .before .before .before .before .before .before .before .before .before .before .before .before .before .before .pre .1 .0) (c .before .before .before .before .kind-of2 .ensures)))
+    written (opened _ _ (known-kind (c .before .before .before .before .before .before .before .before .before .before .before .before .before .before .before .pre .1 .0) (c .before .before .before .before .before .before .before .before .before .before .before .before .kind-of .ensures)) (c .before .before .before .before .before .before .before .before .before .before .before .before .before .before .before .pre .1 .1) (c .before .before .before .before .before .before .before .before .before .before .put-opening .ensures .0) (c .before .before .before .before .before .before .before .before .before .before .put-opening .ensures .1))
+    (closing-left _ _ _ (c .before .before .before .before .before .before .loop .inv .1) (omega (arith, c .before .before .before .before .before .before .before .parts-of .ensures, c .before .before .before .before .before .loop-test .left)) (known-kind (c .before .before .before .before .before .before .before .before .before .before .before .before .before .before .before .pre .1 .0) (c .before .before .before .before .kind-of2 .ensures)))
     (c .before .before .put-closing .ensures .0) (c .before .before .put-closing .ensures .1)
 
 pub +put-type-spec : {M : Type 1} → statement M

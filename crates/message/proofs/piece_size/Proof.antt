@@ -4,6 +4,9 @@ use borrow.Author.Needs.{needs}
 use native.Mathlib.Omega.{arith}
 use Rattle.message.proofs.piece_size.Statement.{statement}
 use Rattle.message.proofs.piece_size.Tie as tie
+use Rattle.message.proofs.piece_size.Reads as reads
+use Rattle.message.proofs.piece_size.Lts as lts
+use Rattle.words.proofs.decimal_length.Reads as decimal-length-reads
 
 enum-told : tie.Need-enum-told
 enum-told c = search needs
@@ -13,11 +16,12 @@ enum-known-piece c = search needs
 
 mul-result : tie.Need-mul-result
 mul-result c =
-    let low = small-type (rw (c .before .piece .given .1) at (c .before .before .before .pre)) in omega arith
+    let low = small-type (rw (c .before .piece .given .1) at (c .before .before .before .before .pre)) in omega (arith, c .before .before .before .before .good)
 
-element-copy-out-result : tie.Need-element-copy-out-result
-element-copy-out-result c =
-    small-type (rw (c .before .piece .given .1) at (c .before .before .before .pre))
+-- src/lib.rt:519:29
+shared-slice-read-result : tie.Need-shared-slice-read-result
+shared-slice-read-result c =
+    small-type (rw (c .before .before .piece .given .1) at (c .before .before .before .before .before .pre))
 
 enum-known-piece-2 : tie.Need-enum-known-piece-2
 enum-known-piece-2 c = search needs
@@ -79,7 +83,7 @@ piece-size-spec =
     enum-told
     enum-known-piece
     mul-result
-    element-copy-out-result
+    shared-slice-read-result
     enum-known-piece-2
     enum-known-piece-3
     decimal-length-requires

@@ -1,4 +1,5 @@
-use mathlib.Core.Path.{_∙_}
+use Rattle.nodes.proofs.Deciding.{indexed-at}
+use native.Mathlib.Omega.{arith}
 use borrow.Author.Needs.{needs}
 use Rattle.nodes.proofs.indexed.Statement.{statement}
 use Rattle.nodes.proofs.indexed.Tie as tie
@@ -8,24 +9,22 @@ use Rattle.nodes.proofs.decided.Reads as decided-reads
 use Rattle.nodes.proofs.index_place.Reads as index-place-reads
 use Rattle.rules.proofs.index.Reads as index-reads
 
--- src/lib.rt:231:9
+-- src/lib.rt:247:9
 index-requires : tie.Need-index-requires
-index-requires c κs =
-    c .pre
+index-requires c κs = search needs
 
--- src/lib.rt:232:16
+-- src/lib.rt:248:23
 index-place-requires : tie.Need-index-place-requires
 index-place-requires c κs = search needs
 
--- src/lib.rt:232:5
+-- src/lib.rt:248:5
 decided-requires : tie.Need-decided-requires
 decided-requires c κs = search needs
 
--- src/lib.rt:218:1
+-- src/lib.rt:235:1
 returns : tie.Need-returns
 returns c =
-    let e = c .decided .ensures in
-    (e .5, (rw (e .0, e .2, e .3, e .4) (c .before .before .index .ensures), e .1 ∙ rw (e .0) (c .before .index-place .ensures)))
+    indexed-at (c .before .before .before .index .ensures) (c .before .index-place .ensures) (c .decided .ensures)
 
 pub indexed-spec : {M : Type 1} → statement M
 indexed-spec = tie.close (tie.spec index-requires index-place-requires decided-requires returns)

@@ -1,3 +1,4 @@
+use Rattle.rules.proofs.Outcomes.{known-room}
 use Rattle.rules.proofs.Operations.{read-kind, binary-gives, binary-refuses, binary-equal, binary-differs}
 use native.Mathlib.Omega.{arith}
 use borrow.Author.Needs.{needs}
@@ -5,22 +6,24 @@ use Rattle.rules.proofs.binary.Statement.{statement}
 use Rattle.rules.proofs.binary.Tie as tie
 
 kind-of-requires : tie.Need-kind-of-requires
-kind-of-requires c κs = search needs
+kind-of-requires c κs =
+    known-room (c .before .pre .1 .0)
 
 kind-of-requires-2 : tie.Need-kind-of-requires-2
-kind-of-requires-2 c κs = search needs
+kind-of-requires-2 c κs =
+    known-room (c .before .before .pre .1 .1)
 
 cast-answer-of : tie.Need-cast-answer-of
 cast-answer-of c =
-    omega (arith, read-kind (c .before .before .pre .1 .0) (c .before .kind-of .ensures))
+    omega (arith, read-kind (c .before .before .before .pre .1 .0) (c .before .kind-of .ensures))
 
 cast-answer-of-2 : tie.Need-cast-answer-of-2
 cast-answer-of-2 c =
-    omega (arith, read-kind (c .before .before .pre .1 .1) (c .kind-of2 .ensures))
+    omega (arith, read-kind (c .before .before .before .pre .1 .1) (c .kind-of2 .ensures))
 
 answer-of-requires : tie.Need-answer-of-requires
 answer-of-requires c κs =
-    (c .before .before .pre .0, read-kind (c .before .before .pre .1 .0) (c .before .kind-of .ensures), read-kind (c .before .before .pre .1 .1) (c .kind-of2 .ensures))
+    (c .before .before .before .pre .0, read-kind (c .before .before .before .pre .1 .0) (c .before .kind-of .ensures), read-kind (c .before .before .before .pre .1 .1) (c .kind-of2 .ensures))
 
 cast-t11 : tie.Need-cast-t11
 cast-t11 c = search needs

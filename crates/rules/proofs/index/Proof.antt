@@ -1,32 +1,37 @@
+use Rattle.rules.proofs.Outcomes.{known-room}
 use Rattle.rules.proofs.Indexing.{known-tuple, index-unknown, index-string, index-list, index-dict, index-tuple, index-other}
 use borrow.Author.Needs.{needs}
 use Rattle.rules.proofs.index.Statement.{statement}
 use Rattle.rules.proofs.index.Tie as tie
 
 kind-of-requires : tie.Need-kind-of-requires
-kind-of-requires c κs = search needs
+kind-of-requires c κs =
+    known-room (c .before .pre)
 
 expect-requires : tie.Need-expect-requires
 expect-requires c κs = search needs
 
 part-of-requires : tie.Need-part-of-requires
-part-of-requires c κs = search needs
+part-of-requires c κs =
+    known-room (c .before .before .before .pre)
 
 expect-requires-2 : tie.Need-expect-requires-2
 expect-requires-2 c κs = search needs
 
 part-of-requires-2 : tie.Need-part-of-requires-2
-part-of-requires-2 c κs = search needs
+part-of-requires-2 c κs =
+    known-room (c .before .before .before .pre)
 
 second-of-requires : tie.Need-second-of-requires
-second-of-requires c κs = search needs
+second-of-requires c κs =
+    known-room (c .before .before .before .before .pre)
 
 key-requires : tie.Need-key-requires
 key-requires c κs = search needs
 
 common-of-requires : tie.Need-common-of-requires
 common-of-requires c κs =
-    known-tuple (c .before .before .pre) (c .before .kind-of .ensures) (c .match .keys5)
+    known-tuple (c .before .before .before .pre) (c .before .kind-of .ensures) (c .match .keys5)
 
 expect-requires-3 : tie.Need-expect-requires-3
 expect-requires-3 c κs = search needs

@@ -18,4 +18,10 @@ returns-2 c =
     sized-no (c .before .before .kind-of .ensures) (c .before .has-length .ensures) (c .if1 .left)
 
 pub len-spec : {M : Type 1} → statement M
-len-spec = tie.close (tie.spec kind-of-requires has-length-requires returns returns-2)
+len-spec =
+    tie.close
+    (tie.spec
+    kind-of-requires
+    has-length-requires
+    returns
+    returns-2)

@@ -23,4 +23,10 @@ returns-3 c =
 
 pub streamed-of-spec : {M : Type 1} → statement M
 streamed-of-spec =
-    tie.close (tie.spec kind-of-requires element-of-requires returns returns-2 returns-3)
+    tie.close
+    (tie.spec
+    kind-of-requires
+    element-of-requires
+    returns
+    returns-2
+    returns-3)

@@ -1,3 +1,4 @@
+use Rattle.rules.proofs.Outcomes.{known-room}
 use Rattle.rules.proofs.Operations.{read-kind, unary-gives, unary-refuses}
 use native.Mathlib.Omega.{arith}
 use borrow.Author.Needs.{needs}
@@ -5,15 +6,16 @@ use Rattle.rules.proofs.unary.Statement.{statement}
 use Rattle.rules.proofs.unary.Tie as tie
 
 kind-of-requires : tie.Need-kind-of-requires
-kind-of-requires c κs = search needs
+kind-of-requires c κs =
+    known-room (c .before .pre .1)
 
 cast-unary-answer-of : tie.Need-cast-unary-answer-of
 cast-unary-answer-of c =
-    omega (arith, read-kind (c .before .pre .1) (c .kind-of .ensures))
+    omega (arith, read-kind (c .before .before .pre .1) (c .kind-of .ensures))
 
 unary-answer-of-requires : tie.Need-unary-answer-of-requires
 unary-answer-of-requires c κs =
-    (c .before .pre .0, read-kind (c .before .pre .1) (c .kind-of .ensures))
+    (c .before .before .pre .0, read-kind (c .before .before .pre .1) (c .kind-of .ensures))
 
 cast-t8 : tie.Need-cast-t8
 cast-t8 c = search needs

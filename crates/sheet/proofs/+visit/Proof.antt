@@ -1,5 +1,6 @@
 -- The answers stand by name in answers/+visit.txt: the recursion falls by the type's number, the loop by the parts left.
-use Rattle.sheet.proofs.Visiting.{Walking, visit-plain, visit-known, visit-number, walk-first, walk-place, walk-lower, walk-visit, walk-next, walk-complete, walk-end}
+use Rattle.sheet.proofs.Visiting.{Walking, visit-plain, visit-known, visit-number, visit-room, walk-first, walk-place, walk-lower, walk-visit, walk-next, walk-complete, walk-end}
+use mathlib.Core.Logic.{⊎-elim}
 use Prim.Native.Nat.{ℕ, _<_, _-_}
 use native.Mathlib.Omega.{arith}
 use borrow.Author.Needs.{needs}
@@ -32,32 +33,32 @@ visit-μ-loop table i marks₀ n j₀ marks j = n - j
 -- src/lib.rt:80:9
 visit-returns : (t : ℕ) → visit-lts.Need-returns (parts-of-reads.Asked, parts-of-reads.Learnt, part-at-reads.Asked, part-at-reads.Learnt, visit-below t, visit.Post, complete-reads.Asked, complete-reads.Learnt) (visit-at t) visit.Post visit-Inv-loop visit-μ-loop
 visit-returns t c =
-    visit-plain (c .before .pre .1) (c .if1 .taken)
+    visit-plain (c .before .before .pre .1) (c .if1 .taken)
 
 -- src/lib.rt:82:8
 visit-mul-if2 : (t : ℕ) → visit-lts.Need-mul-if2 (parts-of-reads.Asked, parts-of-reads.Learnt, part-at-reads.Asked, part-at-reads.Learnt, visit-below t, visit.Post, complete-reads.Asked, complete-reads.Learnt) (visit-at t) visit.Post visit-Inv-loop visit-μ-loop
 visit-mul-if2 t c =
-    omega (arith, visit-number (c .before .pre .1))
+    omega (arith, visit-number (c .before .before .pre .1))
 
 -- src/lib.rt:82:8
 visit-element-copy-out-if2 : (t : ℕ) → visit-lts.Need-element-copy-out-if2 (parts-of-reads.Asked, parts-of-reads.Learnt, part-at-reads.Asked, part-at-reads.Learnt, visit-below t, visit.Post, complete-reads.Asked, complete-reads.Learnt) (visit-at t) visit.Post visit-Inv-loop visit-μ-loop
 visit-element-copy-out-if2 t c =
-    omega (arith, visit-number (c .before .pre .1))
+    omega (arith, visit-number (c .before .before .pre .1))
 
 -- src/lib.rt:83:9
 visit-returns-2 : (t : ℕ) → visit-lts.Need-returns-2 (parts-of-reads.Asked, parts-of-reads.Learnt, part-at-reads.Asked, part-at-reads.Learnt, visit-below t, visit.Post, complete-reads.Asked, complete-reads.Learnt) (visit-at t) visit.Post visit-Inv-loop visit-μ-loop
 visit-returns-2 t c =
-    visit-known (c .before .before .before .pre .1) (c .if2 .taken)
+    visit-known (c .before .before .before .before .pre .1) (c .if2 .taken)
 
 -- src/lib.rt:85:9
 visit-parts-of-requires : (t : ℕ) → visit-lts.Need-parts-of-requires (parts-of-reads.Asked, parts-of-reads.Learnt, part-at-reads.Asked, part-at-reads.Learnt, visit-below t, visit.Post, complete-reads.Asked, complete-reads.Learnt) (visit-at t) visit.Post visit-Inv-loop visit-μ-loop
 visit-parts-of-requires t c κs =
-    visit-number (c .before .before .before .pre .1)
+    visit-room (c .before .before .before .before .pre .1)
 
 -- src/lib.rt:87:5
 visit-loop-holds : (t : ℕ) → visit-lts.Need-loop-holds (parts-of-reads.Asked, parts-of-reads.Learnt, part-at-reads.Asked, part-at-reads.Learnt, visit-below t, visit.Post, complete-reads.Asked, complete-reads.Learnt) (visit-at t) visit.Post visit-Inv-loop visit-μ-loop
 visit-loop-holds t c =
-    walk-first (c .before .before .before .before .pre .1) (λ h. absurd (omega (arith, c .before .before .before .if1 .left))) (c .parts-of .ensures)
+    walk-first (c .before .before .before .before .before .pre .1) (λ h. absurd (omega (arith, c .before .before .before .if1 .left))) (c .parts-of .ensures)
 
 -- src/lib.rt:88:22
 visit-part-at-requires : (t : ℕ) → visit-lts.Need-part-at-requires (parts-of-reads.Asked, parts-of-reads.Learnt, part-at-reads.Asked, part-at-reads.Learnt, visit-below t, visit.Post, complete-reads.Asked, complete-reads.Learnt) (visit-at t) visit.Post visit-Inv-loop visit-μ-loop
@@ -67,7 +68,7 @@ visit-part-at-requires t c κs =
 -- src/lib.rt:88:9
 visit-visit-requires : (t : ℕ) → visit-lts.Need-visit-requires (parts-of-reads.Asked, parts-of-reads.Learnt, part-at-reads.Asked, part-at-reads.Learnt, visit-below t, visit.Post, complete-reads.Asked, complete-reads.Learnt) (visit-at t) visit.Post visit-Inv-loop visit-μ-loop
 visit-visit-requires t c κs =
-    (omega (arith, c .before .before .before .before .before .before .before .before .pre .0, walk-lower (c .before .before .before .loop .inv) (c .before .before .loop-test .taken) (c .before .part-at .ensures)), walk-visit (c .before .before .before .loop .inv) (c .before .before .loop-test .taken) (c .before .part-at .ensures))
+    (omega (arith, c .before .before .before .before .before .before .before .before .before .before .pre .0, walk-lower (c .before .before .before .before .loop .inv) (c .before .before .before .loop-test .taken) (c .before .before .part-at .ensures)), walk-visit (c .before .before .before .before .loop .inv) (c .before .before .before .loop-test .taken) (c .before .before .part-at .ensures))
 
 -- src/lib.rt:89:9
 visit-add-j : (t : ℕ) → visit-lts.Need-add-j (parts-of-reads.Asked, parts-of-reads.Learnt, part-at-reads.Asked, part-at-reads.Learnt, visit-below t, visit.Post, complete-reads.Asked, complete-reads.Learnt) (visit-at t) visit.Post visit-Inv-loop visit-μ-loop
@@ -80,7 +81,9 @@ visit-loop-less t c = search needs
 -- src/lib.rt:87:5
 visit-loop-again : (t : ℕ) → visit-lts.Need-loop-again (parts-of-reads.Asked, parts-of-reads.Learnt, part-at-reads.Asked, part-at-reads.Learnt, visit-below t, visit.Post, complete-reads.Asked, complete-reads.Learnt) (visit-at t) visit.Post visit-Inv-loop visit-μ-loop
 visit-loop-again t c =
-    walk-next (c .before .before .before .before .loop .inv) (c .before .before .before .loop-test .taken) (c .before .before .part-at .ensures) (c .visit .ensures)
+    ⊎-elim (λ w. rw (w .3) (walk-next (c .before .before .before .loop .inv) (c .before .before .loop-test .taken) (c .before .part-at .ensures) (w .2 .ensures)))
+    (λ w. rw (w .1) (walk-next (c .before .before .before .loop .inv) (c .before .before .loop-test .taken) (c .before .part-at .ensures) (visit-plain (walk-visit (c .before .before .before .loop .inv) (c .before .before .loop-test .taken) (c .before .part-at .ensures)) (omega (arith, w .0 .left)))))
+    (c .if3 .came)
 
 -- src/lib.rt:91:5
 visit-complete-requires : (t : ℕ) → visit-lts.Need-complete-requires (parts-of-reads.Asked, parts-of-reads.Learnt, part-at-reads.Asked, part-at-reads.Learnt, visit-below t, visit.Post, complete-reads.Asked, complete-reads.Learnt) (visit-at t) visit.Post visit-Inv-loop visit-μ-loop

@@ -25,17 +25,17 @@ mark-requires c κs =
 -- src/lib.rt:140:5
 loop-holds : tie.Need-loop-holds Inv-loop μ-loop
 loop-holds c =
-    sum-first (c .before .pre) (c .mark .ensures .0)
+    sum-first (c .before .before .pre) (c .mark .ensures .0)
 
 -- src/lib.rt:141:47
 add-mark : tie.Need-add-mark Inv-loop μ-loop
 add-mark c =
-    omega (arith, c .loop-test .taken, c .before .before .mark .ensures .0, c .before .before .before .pre .few)
+    omega (arith, c .loop-test .taken, c .before .before .mark .ensures .0, c .before .before .before .before .pre .few)
 
 -- src/lib.rt:141:35
 mark-requires-2 : tie.Need-mark-requires-2 Inv-loop μ-loop
 mark-requires-2 c κs =
-    omega (arith, c .loop-test .taken, c .before .before .mark .ensures .0, c .before .before .before .pre .few)
+    omega (arith, c .loop-test .taken, c .before .before .mark .ensures .0, c .before .before .before .before .pre .few)
 
 -- src/lib.rt:141:16
 elements-in-requires : tie.Need-elements-in-requires Inv-loop μ-loop
@@ -50,7 +50,7 @@ add-sum c =
 -- src/lib.rt:142:9
 add-k : tie.Need-add-k Inv-loop μ-loop
 add-k c =
-    omega (arith, c .before .before .loop-test .taken, c .before .before .before .before .mark .ensures .0, c .before .before .before .before .before .pre .few)
+    omega (arith, c .before .before .loop-test .taken, c .before .before .before .before .mark .ensures .0, c .before .before .before .before .before .before .pre .few)
 
 -- src/lib.rt:140:5
 loop-less : tie.Need-loop-less Inv-loop μ-loop

@@ -19,22 +19,22 @@ abbrev μ-loop : tie.MeasureT-loop
 -- src/lib.rt:112:5
 loop-holds : tie.Need-loop-holds Inv-loop μ-loop
 loop-holds c =
-    meet-first (c .pre)
+    meet-first (c .before .pre)
 
 -- src/lib.rt:113:39
 mul-name-cell : tie.Need-mul-name-cell Inv-loop μ-loop
 mul-name-cell c =
-    omega (arith, c .loop-test .taken, c .before .before .pre .few)
+    omega (arith, c .loop-test .taken, c .before .before .before .pre .few)
 
 -- src/lib.rt:113:39
 add-name-cell : tie.Need-add-name-cell Inv-loop μ-loop
 add-name-cell c =
-    omega (arith, c .loop-test .taken, c .before .before .pre .few)
+    omega (arith, c .loop-test .taken, c .before .before .before .pre .few)
 
 -- src/lib.rt:113:22
 name-cell-requires : tie.Need-name-cell-requires Inv-loop μ-loop
 name-cell-requires c κs =
-    omega (arith, c .loop-test .taken, c .before .before .pre .few)
+    omega (arith, c .loop-test .taken, c .before .before .before .pre .few)
 
 -- src/lib.rt:113:9
 visit-requires : tie.Need-visit-requires Inv-loop μ-loop
@@ -44,7 +44,7 @@ visit-requires c κs =
 -- src/lib.rt:114:9
 add-k : tie.Need-add-k Inv-loop μ-loop
 add-k c =
-    omega (arith, c .before .before .before .loop-test .taken, c .before .before .before .before .before .pre .few)
+    omega (arith, c .before .before .before .loop-test .taken, c .before .before .before .before .before .before .pre .few)
 
 -- src/lib.rt:112:5
 loop-less : tie.Need-loop-less Inv-loop μ-loop

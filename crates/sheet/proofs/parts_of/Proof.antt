@@ -1,5 +1,6 @@
 -- The answers stand by name in answers/parts_of.txt.
 use Rattle.sheet.proofs.Places.{parts-tuple, parts-dict, parts-one}
+use Rattle.types.proofs.Room.{record-within}
 use native.Mathlib.Omega.{arith}
 use borrow.Author.Needs.{needs}
 use Rattle.sheet.proofs.parts_of.Statement.{statement}
@@ -10,23 +11,28 @@ use Rattle.sheet.proofs.cell.Reads as cell-reads
 
 -- src/lib.rt:36:28
 mul-cell : tie.Need-mul-cell
-mul-cell c = search needs
+mul-cell c =
+    omega (arith, record-within (c .before .args .table .now) (c .before .pre))
 
 -- src/lib.rt:36:9
 cell-requires : tie.Need-cell-requires
-cell-requires c κs = search needs
+cell-requires c κs =
+    omega (arith, record-within (c .before .args .table .now) (c .before .pre))
 
 -- src/lib.rt:38:28
 mul-cell-2 : tie.Need-mul-cell-2
-mul-cell-2 c = search needs
+mul-cell-2 c =
+    omega (arith, record-within (c .before .before .before .args .table .now) (c .before .before .before .pre))
 
 -- src/lib.rt:38:28
 add-cell : tie.Need-add-cell
-add-cell c = search needs
+add-cell c =
+    omega (arith, record-within (c .before .before .before .args .table .now) (c .before .before .before .pre))
 
 -- src/lib.rt:38:9
 cell-requires-2 : tie.Need-cell-requires-2
-cell-requires-2 c κs = search needs
+cell-requires-2 c κs =
+    omega (arith, record-within (c .before .before .before .args .table .now) (c .before .before .before .pre))
 
 -- src/lib.rt:38:9
 returns : tie.Need-returns

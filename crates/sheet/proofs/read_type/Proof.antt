@@ -50,12 +50,16 @@ word-at-requires-3 c κs = search needs
 -- src/lib.rt:564:13
 form-other-requires : tie.Need-form-other-requires
 form-other-requires c κs =
-    typing-forming (c .before .before .before .before .before .before .pre) (c .before .before .before .before .word-at .ensures .0) (c .before .before .before .word-at2 .ensures .0) (c .before .before .word-at3 .ensures .0) (c .before .if1 .taken)
+    typing-forming (c .before .before .before .before .before .before .before .pre) (c .before .before .before .before .word-at .ensures .0) (c .before .before .before .word-at2 .ensures .0) (c .before .before .word-at3 .ensures .0) (c .before .if1 .taken)
+
+-- src/lib.rt:575:9
+same-length : tie.Need-same-length
+same-length c = search needs
 
 -- src/lib.rt:566:9
 returns : tie.Need-returns
 returns c =
-    told-yes (typed-other (c .before .before .before .before .before .before .before .before .pre) (c .before .before .before .before .before .before .word-at .ensures .0) (c .before .before .before .before .before .word-at2 .ensures .0) (c .before .before .before .before .word-at3 .ensures .0) (c .before .before .before .if1 .taken) (c .before .form-other .ensures))
+    told-yes (typed-other (c .before .before .before .before .before .before .before .before .before .before .before .pre) (c .before .before .before .before .before .before .before .before .word-at .ensures .0) (c .before .before .before .before .before .before .before .word-at2 .ensures .0) (c .before .before .before .before .before .before .word-at3 .ensures .0) (c .before .before .before .before .before .if1 .taken) (c .before .before .before .form-other .ensures))
 
 -- src/lib.rt:573:9
 word-at-requires-4 : tie.Need-word-at-requires-4
@@ -68,7 +72,7 @@ add-if2 c = search needs
 -- src/lib.rt:575:9
 returns-2 : tie.Need-returns-2
 returns-2 c =
-    told-no (refuse-inside (c .before .before .before .before .before .before .before .pre) (c .before .before .before .before .before .word-at .ensures .0) (c .before .before .before .before .word-at2 .ensures .0) (c .before .before .before .word-at3 .ensures .0) (c .before .before .if1 .left) (c .before .word-at4 .ensures .0) (c .if2 .taken))
+    told-no (refuse-inside (c .before .before .before .before .before .before .before .before .pre) (c .before .before .before .before .before .word-at .ensures .0) (c .before .before .before .before .word-at2 .ensures .0) (c .before .before .before .word-at3 .ensures .0) (c .before .before .if1 .left) (c .before .word-at4 .ensures .0) (c .if2 .taken))
 
 -- src/lib.rt:582:19
 add-if3 : tie.Need-add-if3
@@ -77,7 +81,7 @@ add-if3 c = search needs
 -- src/lib.rt:583:9
 returns-3 : tie.Need-returns-3
 returns-3 c =
-    told-no (refuse-sum (c .before .before .before .before .before .before .before .before .pre) (c .before .before .before .before .before .before .word-at .ensures .0) (c .before .before .before .before .before .word-at2 .ensures .0) (c .before .before .before .before .word-at3 .ensures .0) (c .before .before .before .if1 .left) (c .before .before .word-at4 .ensures .0) (c .if3 .taken))
+    told-no (refuse-sum (c .before .before .before .before .before .before .before .before .before .pre) (c .before .before .before .before .before .before .word-at .ensures .0) (c .before .before .before .before .before .word-at2 .ensures .0) (c .before .before .before .before .word-at3 .ensures .0) (c .before .before .before .if1 .left) (c .before .before .word-at4 .ensures .0) (c .if3 .taken))
 
 -- src/lib.rt:590:24
 word-at-requires-5 : tie.Need-word-at-requires-5
@@ -102,16 +106,20 @@ add-at-2 c = search needs
 -- src/lib.rt:591:9
 form-tuple-requires : tie.Need-form-tuple-requires
 form-tuple-requires c κs =
-    typing-tupling (c .before .before .before .before .before .before .before .before .before .before .pre) (c .before .before .before .before .before .before .before .before .word-at .ensures .0) (c .before .before .before .before .before .before .before .word-at2 .ensures .0) (c .before .before .before .before .before .before .word-at3 .ensures .0) (c .before .before .before .before .before .if1 .left) (c .before .before .before .before .word-at4 .ensures .0) (not-lt (c .before .before .before .if2 .left)) (not-lt (c .before .before .if3 .left)) (c .before .word-at5 .ensures .0)
+    typing-tupling (c .before .before .before .before .before .before .before .before .before .before .before .pre) (c .before .before .before .before .before .before .before .before .word-at .ensures .0) (c .before .before .before .before .before .before .before .word-at2 .ensures .0) (c .before .before .before .before .before .before .word-at3 .ensures .0) (c .before .before .before .before .before .if1 .left) (c .before .before .before .before .word-at4 .ensures .0) (not-lt (c .before .before .before .if2 .left)) (not-lt (c .before .before .if3 .left)) (c .before .word-at5 .ensures .0)
 
 -- src/lib.rt:596:15
 add-t16 : tie.Need-add-t16
 add-t16 c = search needs
 
+-- src/lib.rt:554:1
+same-length-2 : tie.Need-same-length-2
+same-length-2 c = search needs
+
 -- src/lib.rt:545:1
 returns-4 : tie.Need-returns-4
 returns-4 c =
-    told-yes (typed-tuple (c .before .before .before .before .before .before .before .before .before .before .before .before .pre) (c .before .before .before .before .before .before .before .before .before .before .word-at .ensures .0) (c .before .before .before .before .before .before .before .before .before .word-at2 .ensures .0) (c .before .before .before .before .before .before .before .before .word-at3 .ensures .0) (c .before .before .before .before .before .before .before .if1 .left) (c .before .before .before .before .before .before .word-at4 .ensures .0) (not-lt (c .before .before .before .before .before .if2 .left)) (not-lt (c .before .before .before .before .if3 .left)) (c .before .before .before .word-at5 .ensures .0) (c .before .form-tuple .ensures))
+    told-yes (typed-tuple (c .before .before .before .before .before .before .before .before .before .before .before .before .before .before .before .pre) (c .before .before .before .before .before .before .before .before .before .before .before .before .word-at .ensures .0) (c .before .before .before .before .before .before .before .before .before .before .before .word-at2 .ensures .0) (c .before .before .before .before .before .before .before .before .before .before .word-at3 .ensures .0) (c .before .before .before .before .before .before .before .before .before .if1 .left) (c .before .before .before .before .before .before .before .before .word-at4 .ensures .0) (not-lt (c .before .before .before .before .before .before .before .if2 .left)) (not-lt (c .before .before .before .before .before .before .if3 .left)) (c .before .before .before .before .before .word-at5 .ensures .0) (c .before .before .before .form-tuple .ensures))
 
 pub read-type-spec : {M : Type 1} → statement M
 read-type-spec =
@@ -127,6 +135,7 @@ read-type-spec =
     add-word-at-3
     word-at-requires-3
     form-other-requires
+    same-length
     returns
     word-at-requires-4
     add-if2
@@ -140,4 +149,5 @@ read-type-spec =
     add-at-2
     form-tuple-requires
     add-t16
+    same-length-2
     returns-4)

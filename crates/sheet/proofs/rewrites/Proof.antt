@@ -20,7 +20,7 @@ slice-aggregate-write c = search needs
 -- src/lib.rt:709:9
 write-requires : tie.Need-write-requires
 write-requires c κs =
-    c .before .before .pre
+    c .before .before .before .pre
 
 -- src/lib.rt:711:9
 returns : tie.Need-returns

@@ -25,17 +25,17 @@ mark-requires c κs =
 -- src/lib.rt:262:5
 loop-holds : tie.Need-loop-holds Inv-loop μ-loop
 loop-holds c =
-    elements-first (c .before .before .pre .0) (c .before .before .pre .1) (c .mark .ensures .0)
+    elements-first (c .before .before .before .pre .0) (c .before .before .before .pre .1) (c .mark .ensures .0)
 
 -- src/lib.rt:263:52
 add-mark : tie.Need-add-mark Inv-loop μ-loop
 add-mark c =
-    omega (arith, c .loop-test .taken, c .before .before .mark .ensures .0, c .before .before .before .before .pre .0 .few)
+    omega (arith, c .loop-test .taken, c .before .before .mark .ensures .0, c .before .before .before .before .before .pre .0 .few)
 
 -- src/lib.rt:263:40
 mark-requires-2 : tie.Need-mark-requires-2 Inv-loop μ-loop
 mark-requires-2 c κs =
-    omega (arith, c .loop-test .taken, c .before .before .mark .ensures .0, c .before .before .before .before .pre .0 .few)
+    omega (arith, c .loop-test .taken, c .before .before .mark .ensures .0, c .before .before .before .before .before .pre .0 .few)
 
 -- src/lib.rt:263:9
 write-parts-requires : tie.Need-write-parts-requires Inv-loop μ-loop
@@ -45,7 +45,7 @@ write-parts-requires c κs =
 -- src/lib.rt:264:9
 add-k : tie.Need-add-k Inv-loop μ-loop
 add-k c =
-    omega (arith, c .before .before .before .before .before .loop-test .taken, c .before .before .before .before .before .before .before .mark .ensures .0, c .before .before .before .before .before .before .before .before .before .pre .0 .few)
+    omega (arith, c .before .before .before .before .before .loop-test .taken, c .before .before .before .before .before .before .before .mark .ensures .0, c .before .before .before .before .before .before .before .before .before .before .pre .0 .few)
 
 -- src/lib.rt:262:5
 loop-less : tie.Need-loop-less Inv-loop μ-loop

@@ -1,5 +1,5 @@
 -- The answers stand by name in answers/write_parts.txt.
-use Rattle.sheet.proofs.Areas.{PartsLoop, parts-first, parts-place, parts-small, parts-room, parts-next, parts-end, put-one, met-small}
+use Rattle.sheet.proofs.Areas.{PartsLoop, parts-first, parts-place, parts-small, parts-room, parts-next, parts-end, put-one, met-room}
 use Prim.Native.Nat.{_-_}
 use native.Mathlib.Omega.{arith}
 use borrow.Author.Needs.{needs}
@@ -21,12 +21,12 @@ abbrev μ-loop : tie.MeasureT-loop
 -- src/lib.rt:244:9
 elements-in-requires : tie.Need-elements-in-requires Inv-loop μ-loop
 elements-in-requires c κs =
-    met-small (c .before .pre .0)
+    met-room (c .before .before .pre .0)
 
 -- src/lib.rt:246:5
 loop-holds : tie.Need-loop-holds Inv-loop μ-loop
 loop-holds c =
-    parts-first (c .before .before .pre .0) (c .before .before .pre .1) (c .elements-in .ensures)
+    parts-first (c .before .before .before .pre .0) (c .before .before .before .pre .1) (c .elements-in .ensures)
 
 -- src/lib.rt:247:34
 part-at-requires : tie.Need-part-at-requires Inv-loop μ-loop

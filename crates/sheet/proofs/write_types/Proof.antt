@@ -1,5 +1,5 @@
 -- The answers stand by name in answers/write_types.txt.
-use Rattle.sheet.proofs.Areas.{TypesLoop, types-first, types-met, types-room, types-sum, types-next, types-end, met-small}
+use Rattle.sheet.proofs.Areas.{TypesLoop, types-first, types-met, types-room, types-sum, types-next, types-end, met-room}
 use Rattle.sheet.specs.Marks.{tabOf}
 use Prim.Native.Nat.{_-_}
 use native.Mathlib.Omega.{arith}
@@ -26,27 +26,27 @@ mark-requires c κs =
 -- src/lib.rt:223:5
 loop-holds : tie.Need-loop-holds Inv-loop μ-loop
 loop-holds c =
-    types-first (c .before .before .pre .0) (c .before .before .pre .1) (c .mark .ensures .0)
+    types-first (c .before .before .before .pre .0) (c .before .before .before .pre .1) (c .mark .ensures .0)
 
 -- src/lib.rt:224:29
 add-mark : tie.Need-add-mark Inv-loop μ-loop
 add-mark c =
-    omega (arith, c .loop-test .taken, c .before .before .mark .ensures .0, c .before .before .before .before .pre .0 .few)
+    omega (arith, c .loop-test .taken, c .before .before .mark .ensures .0, c .before .before .before .before .before .pre .0 .few)
 
 -- src/lib.rt:224:13
 mark-requires-2 : tie.Need-mark-requires-2 Inv-loop μ-loop
 mark-requires-2 c κs =
-    omega (arith, c .loop-test .taken, c .before .before .mark .ensures .0, c .before .before .before .before .pre .0 .few)
+    omega (arith, c .loop-test .taken, c .before .before .mark .ensures .0, c .before .before .before .before .before .pre .0 .few)
 
 -- src/lib.rt:225:53
 mul-write-type : tie.Need-mul-write-type Inv-loop μ-loop
 mul-write-type c =
-    omega (arith, c .before .before .loop-test .taken, c .before .before .before .before .mark .ensures .0, c .before .before .before .before .before .before .pre .0 .few)
+    omega (arith, c .before .before .loop-test .taken, c .before .before .before .before .mark .ensures .0, c .before .before .before .before .before .before .before .pre .0 .few)
 
 -- src/lib.rt:225:48
 add-write-type : tie.Need-add-write-type Inv-loop μ-loop
 add-write-type c =
-    omega (arith, c .before .before .loop-test .taken, c .before .before .before .before .mark .ensures .0, c .before .before .before .before .before .before .pre .0 .few)
+    omega (arith, c .before .before .loop-test .taken, c .before .before .before .before .mark .ensures .0, c .before .before .before .before .before .before .before .pre .0 .few)
 
 -- src/lib.rt:225:9
 write-type-requires : tie.Need-write-type-requires Inv-loop μ-loop
@@ -56,7 +56,7 @@ write-type-requires c κs =
 -- src/lib.rt:226:17
 elements-in-requires : tie.Need-elements-in-requires Inv-loop μ-loop
 elements-in-requires c κs =
-    met-small (types-met (c .before .before .before .before .before .before .loop .inv) (c .before .before .before .before .before .loop-test .taken) (c .before .before .before .before .mark2 .ensures .0))
+    met-room (types-met (c .before .before .before .before .before .before .loop .inv) (c .before .before .before .before .before .loop-test .taken) (c .before .before .before .before .mark2 .ensures .0))
 
 -- src/lib.rt:226:9
 add-from : tie.Need-add-from Inv-loop μ-loop
@@ -66,7 +66,7 @@ add-from c =
 -- src/lib.rt:227:9
 add-k : tie.Need-add-k Inv-loop μ-loop
 add-k c =
-    omega (arith, c .before .before .before .before .before .before .loop-test .taken, c .before .before .before .before .before .before .before .before .mark .ensures .0, c .before .before .before .before .before .before .before .before .before .before .pre .0 .few)
+    omega (arith, c .before .before .before .before .before .before .loop-test .taken, c .before .before .before .before .before .before .before .before .mark .ensures .0, c .before .before .before .before .before .before .before .before .before .before .before .pre .0 .few)
 
 -- src/lib.rt:223:5
 loop-less : tie.Need-loop-less Inv-loop μ-loop

@@ -1,15 +1,17 @@
 -- The walk over the statements meets its contracts: the depth that is left falls. In a Block what is left ends as all of it ends; in an If
 -- the branches so far are told of; the measure of both loops is what is left.
-use Prim.Native.Nat.{_*_, _+_, _<_, ℕ}
+use Prim.Native.Nat.{_*_, _+_, _-_, _<_, ℕ}
+use Rattle.nodes.proofs.Noting.{kept-noting, refused-kept, went-ill, went-well}
+use Rattle.nodes.specs.Notes.{Noting, retIn, tabIn, topIn}
 use Rattle.stmt.proofs.Bodies.{Loop, bodiless, loop-at, loop-deep, loop-end, loop-first, loop-next, loop-standing, loop-wrong, stmt-done, stmt-here}
-use Rattle.stmt.proofs.Branching.{Choosing, arm-bad, arm-done, arm-last, choosing-branch, choosing-end, choosing-first, choosing-next, choosing-out, choosing-standing, last-standing, when-at, when-ready, when-standing}
+use Rattle.stmt.proofs.Branching.{Choosing, arm-bad, arm-done, arm-last, choosing-as, choosing-branch, choosing-end, choosing-first, choosing-next, choosing-out, choosing-standing, clash-small, last-standing, when-at, when-ready, when-standing}
+use Rattle.stmt.proofs.Cells.{acted-from, armed-ends, armed-from, body-from, done-ends, done-moved, done-refused, moved-noting, moved-trans, ret-back, ret-clear, small-node, standing-as, tab-moved, tells-deep, tells-kept, tells-moved, tells-self, tells-shallow, tells-zero, top-down, top-set, verdict-zero, well-shallow}
 use Rattle.stmt.proofs.Compound.{def-at-block, def-bad, def-deep, def-done, def-some, def-standing, def-within, first-ready, for-bad, for-done, for-name, for-small, for-standing, second-at, second-standing, while-bad, while-done}
-use Rattle.stmt.proofs.Laws.{few-nodes, never, pair-for, pair-while, some-depth}
-use Rattle.types.specs.Table.{tab}
+use Rattle.stmt.proofs.Laws.{done-any, few-nodes, never, pair-for, pair-while, some-depth}
 use borrow.Author.Tests.{not-false, not-true}
 use mathlib.Core.Bool.{true}
 use mathlib.Core.Logic.{inl, inr, ⊎-elim}
-use mathlib.Core.Path.{_∙_, ap, refl, sym}
+use mathlib.Core.Path.{_∙_, _≡_, ap, refl, sym}
 use native.Mathlib.Omega.{arith}
 use borrow.Author.Needs.{needs}
 use borrow.Fn.Kinds.{In}
@@ -40,6 +42,8 @@ use Rattle.frames.proofs.clear.Reads as clear-reads
 use Rattle.frames.proofs.commit.Reads as commit-reads
 use Rattle.frames.proofs.note_branch.Reads as note-branch-reads
 use Rattle.image.proofs.node_at.Reads as node-at-reads
+use Rattle.nodes.proofs.refused.Reads as refused-reads
+use Rattle.nodes.proofs.small.Reads as small-reads
 use Rattle.nodes.proofs.stop_of.Reads as stop-of-reads
 use Rattle.stmt.proofs.after_arm.Reads as after-arm-reads
 use Rattle.stmt.proofs.cell_of.Reads as cell-of-reads
@@ -48,636 +52,801 @@ use Rattle.stmt.proofs.elements.Reads as elements-reads
 use Rattle.stmt.proofs.fewer.Reads as fewer-reads
 use Rattle.stmt.proofs.parameters.Reads as parameters-reads
 use Rattle.stmt.proofs.simple.Reads as simple-reads
-use Rattle.stmt.proofs.told.Reads as told-reads
+use Rattle.stmt.proofs.wide.Reads as wide-reads
 use Rattle.stmt.proofs.+block+choices+define+each+one_arm+repeat+stmt.{statement}
 use Rattle.stmt.proofs.+block+choices+define+each+one_arm+repeat+stmt.Tie.{close}
 
-abbrev μ-block : Measures 4 block-kinds.ps ℕ
-μ-block κs a = 3 * (a .1 .1 .1 .1 .1 .1 .1 .1 .1 .0)
+abbrev μ-block : Measures 5 block-kinds.ps ℕ
+μ-block κs a = 3 * (a .1 .1 .1 .1 .1 .1 .1 .0)
 
-abbrev μ-choices : Measures 4 choices-kinds.ps ℕ
-μ-choices κs a = 3 * (a .1 .1 .1 .1 .1 .1 .1 .1 .1 .1 .0) + 2
+abbrev μ-choices : Measures 5 choices-kinds.ps ℕ
+μ-choices κs a = 3 * (a .1 .1 .1 .1 .1 .1 .1 .0) + 2
 
-abbrev μ-define : Measures 4 define-kinds.ps ℕ
-μ-define κs a = 3 * (a .1 .1 .1 .1 .1 .1 .1 .1 .1 .1 .0) + 1
+abbrev μ-define : Measures 5 define-kinds.ps ℕ
+μ-define κs a = 3 * (a .1 .1 .1 .1 .1 .1 .1 .0) + 1
 
-abbrev μ-each : Measures 4 each-kinds.ps ℕ
-μ-each κs a = 3 * (a .1 .1 .1 .1 .1 .1 .1 .1 .1 .1 .0) + 1
+abbrev μ-each : Measures 5 each-kinds.ps ℕ
+μ-each κs a = 3 * (a .1 .1 .1 .1 .1 .1 .1 .0) + 1
 
-abbrev μ-one-arm : Measures 4 one-arm-kinds.ps ℕ
-μ-one-arm κs a = 3 * (a .1 .1 .1 .1 .1 .1 .1 .1 .1 .1 .0) + 1
+abbrev μ-one-arm : Measures 5 one-arm-kinds.ps ℕ
+μ-one-arm κs a = 3 * (a .1 .1 .1 .1 .1 .1 .1 .1 .0) + 1
 
-abbrev μ-repeat : Measures 4 repeat-kinds.ps ℕ
-μ-repeat κs a = 3 * (a .1 .1 .1 .1 .1 .1 .1 .1 .1 .0) + 1
+abbrev μ-repeat : Measures 5 repeat-kinds.ps ℕ
+μ-repeat κs a = 3 * (a .1 .1 .1 .1 .1 .1 .1 .0) + 1
 
-abbrev μ-stmt : Measures 4 stmt-kinds.ps ℕ
-μ-stmt κs a = 3 * (a .1 .1 .1 .1 .1 .1 .1 .1 .1 .0) + 2
+abbrev μ-stmt : Measures 5 stmt-kinds.ps ℕ
+μ-stmt κs a = 3 * (a .1 .1 .1 .1 .1 .1 .1 .0) + 2
 
-abbrev block-at : ℕ → In 4 block-kinds.ps
-block-at t = and 4 block-kinds.ps (is 4 block-kinds.ps μ-block t) block.Pre
+abbrev block-at : ℕ → In 5 block-kinds.ps
+block-at t = and 5 block-kinds.ps (is 5 block-kinds.ps μ-block t) block.Pre
 
-abbrev block-below : ℕ → In 4 block-kinds.ps
-block-below t = and 4 block-kinds.ps (falls 4 block-kinds.ps _<_ μ-block t) block.Pre
+abbrev block-below : ℕ → In 5 block-kinds.ps
+block-below t = and 5 block-kinds.ps (falls 5 block-kinds.ps _<_ μ-block t) block.Pre
 
-abbrev choices-at : ℕ → In 4 choices-kinds.ps
-choices-at t = and 4 choices-kinds.ps (is 4 choices-kinds.ps μ-choices t) choices.Pre
+abbrev choices-at : ℕ → In 5 choices-kinds.ps
+choices-at t = and 5 choices-kinds.ps (is 5 choices-kinds.ps μ-choices t) choices.Pre
 
-abbrev choices-below : ℕ → In 4 choices-kinds.ps
-choices-below t = and 4 choices-kinds.ps (falls 4 choices-kinds.ps _<_ μ-choices t) choices.Pre
+abbrev choices-below : ℕ → In 5 choices-kinds.ps
+choices-below t = and 5 choices-kinds.ps (falls 5 choices-kinds.ps _<_ μ-choices t) choices.Pre
 
-abbrev define-at : ℕ → In 4 define-kinds.ps
-define-at t = and 4 define-kinds.ps (is 4 define-kinds.ps μ-define t) define.Pre
+abbrev define-at : ℕ → In 5 define-kinds.ps
+define-at t = and 5 define-kinds.ps (is 5 define-kinds.ps μ-define t) define.Pre
 
-abbrev define-below : ℕ → In 4 define-kinds.ps
-define-below t = and 4 define-kinds.ps (falls 4 define-kinds.ps _<_ μ-define t) define.Pre
+abbrev define-below : ℕ → In 5 define-kinds.ps
+define-below t = and 5 define-kinds.ps (falls 5 define-kinds.ps _<_ μ-define t) define.Pre
 
-abbrev each-at : ℕ → In 4 each-kinds.ps
-each-at t = and 4 each-kinds.ps (is 4 each-kinds.ps μ-each t) each.Pre
+abbrev each-at : ℕ → In 5 each-kinds.ps
+each-at t = and 5 each-kinds.ps (is 5 each-kinds.ps μ-each t) each.Pre
 
-abbrev each-below : ℕ → In 4 each-kinds.ps
-each-below t = and 4 each-kinds.ps (falls 4 each-kinds.ps _<_ μ-each t) each.Pre
+abbrev each-below : ℕ → In 5 each-kinds.ps
+each-below t = and 5 each-kinds.ps (falls 5 each-kinds.ps _<_ μ-each t) each.Pre
 
-abbrev one-arm-at : ℕ → In 4 one-arm-kinds.ps
-one-arm-at t = and 4 one-arm-kinds.ps (is 4 one-arm-kinds.ps μ-one-arm t) one-arm.Pre
+abbrev one-arm-at : ℕ → In 5 one-arm-kinds.ps
+one-arm-at t = and 5 one-arm-kinds.ps (is 5 one-arm-kinds.ps μ-one-arm t) one-arm.Pre
 
-abbrev one-arm-below : ℕ → In 4 one-arm-kinds.ps
-one-arm-below t = and 4 one-arm-kinds.ps (falls 4 one-arm-kinds.ps _<_ μ-one-arm t) one-arm.Pre
+abbrev one-arm-below : ℕ → In 5 one-arm-kinds.ps
+one-arm-below t = and 5 one-arm-kinds.ps (falls 5 one-arm-kinds.ps _<_ μ-one-arm t) one-arm.Pre
 
-abbrev repeat-at : ℕ → In 4 repeat-kinds.ps
-repeat-at t = and 4 repeat-kinds.ps (is 4 repeat-kinds.ps μ-repeat t) repeat.Pre
+abbrev repeat-at : ℕ → In 5 repeat-kinds.ps
+repeat-at t = and 5 repeat-kinds.ps (is 5 repeat-kinds.ps μ-repeat t) repeat.Pre
 
-abbrev repeat-below : ℕ → In 4 repeat-kinds.ps
-repeat-below t = and 4 repeat-kinds.ps (falls 4 repeat-kinds.ps _<_ μ-repeat t) repeat.Pre
+abbrev repeat-below : ℕ → In 5 repeat-kinds.ps
+repeat-below t = and 5 repeat-kinds.ps (falls 5 repeat-kinds.ps _<_ μ-repeat t) repeat.Pre
 
-abbrev stmt-at : ℕ → In 4 stmt-kinds.ps
-stmt-at t = and 4 stmt-kinds.ps (is 4 stmt-kinds.ps μ-stmt t) stmt.Pre
+abbrev stmt-at : ℕ → In 5 stmt-kinds.ps
+stmt-at t = and 5 stmt-kinds.ps (is 5 stmt-kinds.ps μ-stmt t) stmt.Pre
 
-abbrev stmt-below : ℕ → In 4 stmt-kinds.ps
-stmt-below t = and 4 stmt-kinds.ps (falls 4 stmt-kinds.ps _<_ μ-stmt t) stmt.Pre
+abbrev stmt-below : ℕ → In 5 stmt-kinds.ps
+stmt-below t = and 5 stmt-kinds.ps (falls 5 stmt-kinds.ps _<_ μ-stmt t) stmt.Pre
 
 abbrev block-Inv-loop : block-lts.InvT-loop
-block-Inv-loop image nodes rows₀ top table₀ stack₀ ret at depth looped drops d types₀ elements₀ high₀ got₀ j₀ left₀ rows table stack types elements high got j left = Loop image nodes (tab table₀ types₀ elements₀) rows₀ top ret at depth looped drops (tab table types elements) rows high got stack j left
+block-Inv-loop image nodes rows₀ table₀ notes₀ stack₀ at depth looped drops d j₀ left₀ rows table notes stack j left =
+    Loop image nodes (tabIn table₀ notes₀) rows₀ (topIn notes₀) (retIn notes₀) at depth looped drops (tabIn table notes) rows (topIn notes) (retIn notes) stack j left × Noting notes
 
 abbrev block-μ-loop : block-lts.MeasureT-loop
-block-μ-loop image nodes rows₀ top table₀ stack₀ ret at depth looped drops d types₀ elements₀ high₀ got₀ j₀ left₀ rows table stack types elements high got j left = left
+block-μ-loop image nodes rows₀ table₀ notes₀ stack₀ at depth looped drops d j₀ left₀ rows table notes stack j left = left
 
--- src/lib.rt:506:9
-block-node-at-requires : (t : ℕ) → block-lts.Need-node-at-requires (node-at-reads.Asked, node-at-reads.Learnt, stmt-below t, stmt.Post, stop-of-reads.Asked, stop-of-reads.Learnt, told-reads.Asked, told-reads.Learnt) (block-at t) block.Post block-Inv-loop block-μ-loop
+block-node-at-requires : (t : ℕ) → block-lts.Need-node-at-requires (node-at-reads.Asked, node-at-reads.Learnt, stmt-below t, stmt.Post, stop-of-reads.Asked, stop-of-reads.Learnt) (block-at t) block.Post block-Inv-loop block-μ-loop
 block-node-at-requires t c κs =
-    (c .before .pre .1 .0 .ready .sound .headed, (c .before .pre .1 .0 .ready .nodes-at, c .before .pre .1 .1 .there))
+    (c .before .before .pre .1 .1 .0 .ready .sound .headed, (c .before .before .pre .1 .1 .0 .ready .nodes-at, c .before .before .pre .1 .1 .1 .there))
 
--- src/lib.rt:507:13
-block-sub-d : (t : ℕ) → block-lts.Need-sub-d (node-at-reads.Asked, node-at-reads.Learnt, stmt-below t, stmt.Post, stop-of-reads.Asked, stop-of-reads.Learnt, told-reads.Asked, told-reads.Learnt) (block-at t) block.Post block-Inv-loop block-μ-loop
+block-sub-d : (t : ℕ) → block-lts.Need-sub-d (node-at-reads.Asked, node-at-reads.Learnt, stmt-below t, stmt.Post, stop-of-reads.Asked, stop-of-reads.Learnt) (block-at t) block.Post block-Inv-loop block-μ-loop
 block-sub-d t c =
-    let h = some-depth (c .before .before .pre .1 .0 .ready .sound) (c .before .before .pre .1 .1) in
+    let h = some-depth (c .before .before .before .pre .1 .1 .0 .ready .sound) (c .before .before .before .pre .1 .1 .1) in
     omega arith
 
--- src/lib.rt:512:17
-block-add-j : (t : ℕ) → block-lts.Need-add-j (node-at-reads.Asked, node-at-reads.Learnt, stmt-below t, stmt.Post, stop-of-reads.Asked, stop-of-reads.Learnt, told-reads.Asked, told-reads.Learnt) (block-at t) block.Post block-Inv-loop block-μ-loop
+block-add-j : (t : ℕ) → block-lts.Need-add-j (node-at-reads.Asked, node-at-reads.Learnt, stmt-below t, stmt.Post, stop-of-reads.Asked, stop-of-reads.Learnt) (block-at t) block.Post block-Inv-loop block-μ-loop
 block-add-j t c =
-    omega (arith, few-nodes (c .before .before .pre .1 .0 .ready .sound), c .before .before .pre .1 .1 .there)
+    omega (arith, few-nodes (c .before .before .before .pre .1 .1 .0 .ready .sound), c .before .before .before .pre .1 .1 .1 .there)
 
--- src/lib.rt:513:20
-block-cast-left : (t : ℕ) → block-lts.Need-cast-left (node-at-reads.Asked, node-at-reads.Learnt, stmt-below t, stmt.Post, stop-of-reads.Asked, stop-of-reads.Learnt, told-reads.Asked, told-reads.Learnt) (block-at t) block.Post block-Inv-loop block-μ-loop
+block-cast-left : (t : ℕ) → block-lts.Need-cast-left (node-at-reads.Asked, node-at-reads.Learnt, stmt-below t, stmt.Post, stop-of-reads.Asked, stop-of-reads.Learnt) (block-at t) block.Post block-Inv-loop block-μ-loop
 block-cast-left t c = search needs
 
--- src/lib.rt:514:5
-block-loop-holds : (t : ℕ) → block-lts.Need-loop-holds (node-at-reads.Asked, node-at-reads.Learnt, stmt-below t, stmt.Post, stop-of-reads.Asked, stop-of-reads.Learnt, told-reads.Asked, told-reads.Learnt) (block-at t) block.Post block-Inv-loop block-μ-loop
+block-loop-holds : (t : ℕ) → block-lts.Need-loop-holds (node-at-reads.Asked, node-at-reads.Learnt, stmt-below t, stmt.Post, stop-of-reads.Asked, stop-of-reads.Learnt) (block-at t) block.Post block-Inv-loop block-μ-loop
 block-loop-holds t c =
-    loop-first _ _ (c .before .before .before .pre .1 .0) (c .before .before .before .pre .1 .1) (ap (λ d. d .children) (c .before .node-at .ensures))
+    (loop-first _ _ (c .before .before .before .before .pre .1 .1 .0) (c .before .before .before .before .pre .1 .1 .1) (ap (λ d. d .children) (c .before .node-at .ensures)), c .before .before .before .before .pre .1 .0)
 
--- src/lib.rt:516:13
-block-stmt-requires : (t : ℕ) → block-lts.Need-stmt-requires (node-at-reads.Asked, node-at-reads.Learnt, stmt-below t, stmt.Post, stop-of-reads.Asked, stop-of-reads.Learnt, told-reads.Asked, told-reads.Learnt) (block-at t) block.Post block-Inv-loop block-μ-loop
+block-stmt-requires : (t : ℕ) → block-lts.Need-stmt-requires (node-at-reads.Asked, node-at-reads.Learnt, stmt-below t, stmt.Post, stop-of-reads.Asked, stop-of-reads.Learnt) (block-at t) block.Post block-Inv-loop block-μ-loop
 block-stmt-requires t c κs =
-    let h = some-depth (c .before .before .before .before .before .before .before .before .pre .1 .0 .ready .sound) (c .before .before .before .before .before .before .before .before .pre .1 .1) in
-    (omega (arith, c .before .before .before .before .before .before .before .before .pre .0, h), (loop-standing (c .before .before .before .before .loop .inv) (c .before .before .before .loop-test .taken), loop-at (c .before .before .before .before .loop .inv) (c .before .before .before .loop-test .taken)))
+    let h = some-depth (c .before .before .before .before .before .before .before .before .before .before .pre .1 .1 .0 .ready .sound) (c .before .before .before .before .before .before .before .before .before .before .pre .1 .1 .1) in
+    (omega (arith, c .before .before .before .before .before .before .before .before .before .before .pre .0, h), (c .before .before .before .before .before .loop .inv .1, (loop-standing (c .before .before .before .before .before .loop .inv .0) (c .before .before .before .before .loop-test .taken), loop-at (c .before .before .before .before .before .loop .inv .0) (c .before .before .before .before .loop-test .taken))))
 
--- src/lib.rt:519:13
-block-returns : (t : ℕ) → block-lts.Need-returns (node-at-reads.Asked, node-at-reads.Learnt, stmt-below t, stmt.Post, stop-of-reads.Asked, stop-of-reads.Learnt, told-reads.Asked, told-reads.Learnt) (block-at t) block.Post block-Inv-loop block-μ-loop
+block-element-copy-out-if2 : (t : ℕ) → block-lts.Need-element-copy-out-if2 (node-at-reads.Asked, node-at-reads.Learnt, stmt-below t, stmt.Post, stop-of-reads.Asked, stop-of-reads.Learnt) (block-at t) block.Post block-Inv-loop block-μ-loop
+block-element-copy-out-if2 t c = search needs
+
+block-same-length : (t : ℕ) → block-lts.Need-same-length (node-at-reads.Asked, node-at-reads.Learnt, stmt-below t, stmt.Post, stop-of-reads.Asked, stop-of-reads.Learnt) (block-at t) block.Post block-Inv-loop block-μ-loop
+block-same-length t c = search needs
+
+block-returns : (t : ℕ) → block-lts.Need-returns (node-at-reads.Asked, node-at-reads.Learnt, stmt-below t, stmt.Post, stop-of-reads.Asked, stop-of-reads.Learnt) (block-at t) block.Post block-Inv-loop block-μ-loop
 block-returns t c =
-    (loop-deep (c .before .before .before .before .before .before .loop .inv) (c .before .before .before .before .before .loop-test .taken) (c .before .stmt .ensures) (c .if1 .taken), λ y n. absurd (n (c .if1 .taken)))
+    let e = tells-deep (c .before .before .before .before .before .stmt .ensures .1) (c .before .before .if1 .taken) (c .if2 .taken) in
+    (loop-deep (c .before .before .before .before .before .before .before .before .before .before .before .loop .inv .0) (c .before .before .before .before .before .before .before .before .before .before .loop-test .taken) (c .before .before .before .before .before .stmt .ensures .0) e, (c .before .before .before .before .before .stmt .ensures .1, λ y n. absurd (n e)))
 
--- src/lib.rt:523:17
-block-returns-2 : (t : ℕ) → block-lts.Need-returns-2 (node-at-reads.Asked, node-at-reads.Learnt, stmt-below t, stmt.Post, stop-of-reads.Asked, stop-of-reads.Learnt, told-reads.Asked, told-reads.Learnt) (block-at t) block.Post block-Inv-loop block-μ-loop
-block-returns-2 t c = (
-  loop-wrong (c .before .before .before .before .before .before .before .before .loop .inv) (c .before .before .before .before .before .before .before .loop-test .taken) (c .before .before .before .stmt .ensures) (c .before .if2 .taken) (c .before .before .if1 .left) (not-true _ (c .if3 .taken)),
-  λ y. never (sym (not-true _ (c .if3 .taken)) ∙ y),
-)
+block-same-length-2 : (t : ℕ) → block-lts.Need-same-length-2 (node-at-reads.Asked, node-at-reads.Learnt, stmt-below t, stmt.Post, stop-of-reads.Asked, stop-of-reads.Learnt) (block-at t) block.Post block-Inv-loop block-μ-loop
+block-same-length-2 t c = search needs
 
--- src/lib.rt:531:9
-block-stop-of-requires : (t : ℕ) → block-lts.Need-stop-of-requires (node-at-reads.Asked, node-at-reads.Learnt, stmt-below t, stmt.Post, stop-of-reads.Asked, stop-of-reads.Learnt, told-reads.Asked, told-reads.Learnt) (block-at t) block.Post block-Inv-loop block-μ-loop
+block-returns-2 : (t : ℕ) → block-lts.Need-returns-2 (node-at-reads.Asked, node-at-reads.Learnt, stmt-below t, stmt.Post, stop-of-reads.Asked, stop-of-reads.Learnt) (block-at t) block.Post block-Inv-loop block-μ-loop
+block-returns-2 t c =
+    let k = c .before .before .before .before .before .before .stmt .ensures .1 in (
+      loop-wrong (c .before .before .before .before .before .before .before .before .before .before .before .before .loop .inv .0) (c .before .before .before .before .before .before .before .before .before .before .before .loop-test .taken) (c .before .before .before .before .before .before .stmt .ensures .0) (went-ill (tells-self k) (c .before .before .before .if1 .taken)) (tells-shallow k (c .before .before .before .if1 .taken) (c .before .if2 .left)) (not-true _ (c .if3 .taken)),
+      (k, λ y. never (sym (not-true _ (c .if3 .taken)) ∙ y)),
+    )
+
+block-stop-of-requires : (t : ℕ) → block-lts.Need-stop-of-requires (node-at-reads.Asked, node-at-reads.Learnt, stmt-below t, stmt.Post, stop-of-reads.Asked, stop-of-reads.Learnt) (block-at t) block.Post block-Inv-loop block-μ-loop
 block-stop-of-requires t c κs =
-    (c .before .before .before .before .before .before .before .before .before .before .before .before .pre .1 .0 .ready .sound .headed, (c .before .before .before .before .before .before .before .before .before .before .before .before .pre .1 .0 .ready .nodes-at, loop-at (c .before .before .before .before .before .before .before .before .loop .inv) (c .before .before .before .before .before .before .before .loop-test .taken) .there))
+    (c .before .before .before .before .before .before .before .before .before .before .before .before .before .before .pre .1 .1 .0 .ready .sound .headed, (c .before .before .before .before .before .before .before .before .before .before .before .before .before .before .pre .1 .1 .0 .ready .nodes-at, loop-at (c .before .before .before .before .before .before .before .before .before .loop .inv .0) (c .before .before .before .before .before .before .before .before .loop-test .taken) .there))
 
--- src/lib.rt:532:9
-block-sub-left : (t : ℕ) → block-lts.Need-sub-left (node-at-reads.Asked, node-at-reads.Learnt, stmt-below t, stmt.Post, stop-of-reads.Asked, stop-of-reads.Learnt, told-reads.Asked, told-reads.Learnt) (block-at t) block.Post block-Inv-loop block-μ-loop
+block-sub-left : (t : ℕ) → block-lts.Need-sub-left (node-at-reads.Asked, node-at-reads.Learnt, stmt-below t, stmt.Post, stop-of-reads.Asked, stop-of-reads.Learnt) (block-at t) block.Post block-Inv-loop block-μ-loop
 block-sub-left t c = search needs
 
--- src/lib.rt:514:5
-block-loop-less : (t : ℕ) → block-lts.Need-loop-less (node-at-reads.Asked, node-at-reads.Learnt, stmt-below t, stmt.Post, stop-of-reads.Asked, stop-of-reads.Learnt, told-reads.Asked, told-reads.Learnt) (block-at t) block.Post block-Inv-loop block-μ-loop
+block-loop-less : (t : ℕ) → block-lts.Need-loop-less (node-at-reads.Asked, node-at-reads.Learnt, stmt-below t, stmt.Post, stop-of-reads.Asked, stop-of-reads.Learnt) (block-at t) block.Post block-Inv-loop block-μ-loop
 block-loop-less t c = search needs
 
--- src/lib.rt:514:5
-block-loop-again : (t : ℕ) → block-lts.Need-loop-again (node-at-reads.Asked, node-at-reads.Learnt, stmt-below t, stmt.Post, stop-of-reads.Asked, stop-of-reads.Learnt, told-reads.Asked, told-reads.Learnt) (block-at t) block.Post block-Inv-loop block-μ-loop
+block-loop-again : (t : ℕ) → block-lts.Need-loop-again (node-at-reads.Asked, node-at-reads.Learnt, stmt-below t, stmt.Post, stop-of-reads.Asked, stop-of-reads.Learnt) (block-at t) block.Post block-Inv-loop block-μ-loop
 block-loop-again t c =
-    loop-next (c .before .before .before .before .before .before .before .before .before .loop .inv) (c .before .before .before .before .before .before .before .before .loop-test .taken) (c .before .before .before .before .stmt .ensures) (c .stop-of .ensures) (c .before .before .before .if1 .left)
-    (⊎-elim (λ w. inr (not-false _ (w .1 .left))) (λ w. inl (w .left)) (c .before .before .if2 .came))
+    let k = c .before .before .before .before .stmt .ensures .1 in (
+      loop-next (c .before .before .before .before .before .before .before .before .before .before .loop .inv .0) (c .before .before .before .before .before .before .before .before .before .loop-test .taken) (c .before .before .before .before .stmt .ensures .0) (c .stop-of .ensures)
+          (⊎-elim (λ w. tells-shallow k (w .0 .taken) (w .2 .left)) (λ w. well-shallow k (w .left)) (c .before .if1 .came))
+          (⊎-elim (λ w. inr (not-false _ (w .3 .left))) (λ w. inl (went-well (tells-self k) (w .left))) (c .before .if1 .came)),
+      k .noting,
+    )
 
--- src/lib.rt:535:5
-block-told-requires : (t : ℕ) → block-lts.Need-told-requires (node-at-reads.Asked, node-at-reads.Learnt, stmt-below t, stmt.Post, stop-of-reads.Asked, stop-of-reads.Learnt, told-reads.Asked, told-reads.Learnt) (block-at t) block.Post block-Inv-loop block-μ-loop
-block-told-requires t c κs =
-    search needs
+block-same-length-3 : (t : ℕ) → block-lts.Need-same-length-3 (node-at-reads.Asked, node-at-reads.Learnt, stmt-below t, stmt.Post, stop-of-reads.Asked, stop-of-reads.Learnt) (block-at t) block.Post block-Inv-loop block-μ-loop
+block-same-length-3 t c = search needs
 
--- src/lib.rt:482:1
-block-returns-3 : (t : ℕ) → block-lts.Need-returns-3 (node-at-reads.Asked, node-at-reads.Learnt, stmt-below t, stmt.Post, stop-of-reads.Asked, stop-of-reads.Learnt, told-reads.Asked, told-reads.Learnt) (block-at t) block.Post block-Inv-loop block-μ-loop
+block-returns-3 : (t : ℕ) → block-lts.Need-returns-3 (node-at-reads.Asked, node-at-reads.Learnt, stmt-below t, stmt.Post, stop-of-reads.Asked, stop-of-reads.Learnt) (block-at t) block.Post block-Inv-loop block-μ-loop
 block-returns-3 t c =
-    rw (c .told .ensures) ((loop-end (c .before .before .loop .inv) (c .before .loop-test .left), λ y n. refl))
+    (done-any refl (verdict-zero _) (loop-end (c .before .loop .inv .0) (c .loop-test .left)), (tells-zero (c .before .loop .inv .1), λ y n. verdict-zero _))
 
 abbrev choices-Inv-loop : choices-lts.InvT-loop
-choices-Inv-loop image nodes rows top table₀ stack₀ ret at n depth looped merged₀ clashes₀ types₀ elements₀ gathered₀ j₀ left₀ table stack merged clashes types elements gathered j left = Choosing image nodes (tab table₀ types₀ elements₀) rows top ret at depth looped (tab table types elements) gathered stack merged clashes j left
+choices-Inv-loop image nodes rows table₀ notes₀ stack₀ at depth looped merged₀ clashes₀ top j₀ left₀ table notes stack merged clashes j left =
+    Choosing image nodes (tabIn table₀ notes₀) rows top (retIn notes₀) at depth looped (tabIn table notes) (retIn notes) stack merged clashes j left × (topIn notes ≡ top) × Noting notes
 
 abbrev choices-μ-loop : choices-lts.MeasureT-loop
-choices-μ-loop image nodes rows top table₀ stack₀ ret at n depth looped merged₀ clashes₀ types₀ elements₀ gathered₀ j₀ left₀ table stack merged clashes types elements gathered j left = left
+choices-μ-loop image nodes rows table₀ notes₀ stack₀ at depth looped merged₀ clashes₀ top j₀ left₀ table notes stack merged clashes j left = left
 
--- src/lib.rt:567:17
-choices-add-j : (t : ℕ) → choices-lts.Need-add-j (one-arm-below t, one-arm.Post, told-reads.Asked, told-reads.Learnt, note-branch-reads.Asked, note-branch-reads.Learnt, after-arm-reads.Asked, after-arm-reads.Learnt, fewer-reads.Asked, fewer-reads.Learnt, commit-reads.Asked, commit-reads.Learnt) (choices-at t) choices.Post choices-Inv-loop choices-μ-loop
-choices-add-j t c =
-    omega (arith, few-nodes (c .before .pre .1 .0 .ready .sound), c .before .pre .1 .1 .0 .there)
+choices-node-at-requires : (t : ℕ) → choices-lts.Need-node-at-requires (node-at-reads.Asked, node-at-reads.Learnt, wide-reads.Asked, wide-reads.Learnt, one-arm-below t, one-arm.Post, small-reads.Asked, small-reads.Learnt, note-branch-reads.Asked, note-branch-reads.Learnt, after-arm-reads.Asked, after-arm-reads.Learnt, fewer-reads.Asked, fewer-reads.Learnt, commit-reads.Asked, commit-reads.Learnt, refused-reads.Asked, refused-reads.Learnt) (choices-at t) choices.Post choices-Inv-loop choices-μ-loop
+choices-node-at-requires t c κs =
+    (c .before .before .pre .1 .1 .0 .ready .sound .headed, (c .before .before .pre .1 .1 .0 .ready .nodes-at, c .before .before .pre .1 .1 .1 .there))
 
--- src/lib.rt:569:5
-choices-loop-holds : (t : ℕ) → choices-lts.Need-loop-holds (one-arm-below t, one-arm.Post, told-reads.Asked, told-reads.Learnt, note-branch-reads.Asked, note-branch-reads.Learnt, after-arm-reads.Asked, after-arm-reads.Learnt, fewer-reads.Asked, fewer-reads.Learnt, commit-reads.Asked, commit-reads.Learnt) (choices-at t) choices.Post choices-Inv-loop choices-μ-loop
-choices-loop-holds t c =
-    choosing-first _ (c .before .pre .1 .0) (c .before .pre .1 .1 .0) (c .before .pre .1 .1 .1)
+choices-element-copy-out-wide : (t : ℕ) → choices-lts.Need-element-copy-out-wide (node-at-reads.Asked, node-at-reads.Learnt, wide-reads.Asked, wide-reads.Learnt, one-arm-below t, one-arm.Post, small-reads.Asked, small-reads.Learnt, note-branch-reads.Asked, note-branch-reads.Learnt, after-arm-reads.Asked, after-arm-reads.Learnt, fewer-reads.Asked, fewer-reads.Learnt, commit-reads.Asked, commit-reads.Learnt, refused-reads.Asked, refused-reads.Learnt) (choices-at t) choices.Post choices-Inv-loop choices-μ-loop
+choices-element-copy-out-wide t c = search needs
 
--- src/lib.rt:572:13
-choices-one-arm-requires : (t : ℕ) → choices-lts.Need-one-arm-requires (one-arm-below t, one-arm.Post, told-reads.Asked, told-reads.Learnt, note-branch-reads.Asked, note-branch-reads.Learnt, after-arm-reads.Asked, after-arm-reads.Learnt, fewer-reads.Asked, fewer-reads.Learnt, commit-reads.Asked, commit-reads.Learnt) (choices-at t) choices.Post choices-Inv-loop choices-μ-loop
-choices-one-arm-requires t c κs =
-    (omega (arith, c .before .before .before .before .before .before .before .pre .0), (choosing-standing (c .before .before .before .before .before .loop .inv) (c .before .before .before .before .loop-test .taken), choosing-branch (c .before .before .before .before .before .loop .inv) (c .before .before .before .before .loop-test .taken)))
-
--- src/lib.rt:589:13
-choices-told-requires : (t : ℕ) → choices-lts.Need-told-requires (one-arm-below t, one-arm.Post, told-reads.Asked, told-reads.Learnt, note-branch-reads.Asked, note-branch-reads.Learnt, after-arm-reads.Asked, after-arm-reads.Learnt, fewer-reads.Asked, fewer-reads.Learnt, commit-reads.Asked, commit-reads.Learnt) (choices-at t) choices.Post choices-Inv-loop choices-μ-loop
-choices-told-requires t c κs =
+choices-wide-requires : (t : ℕ) → choices-lts.Need-wide-requires (node-at-reads.Asked, node-at-reads.Learnt, wide-reads.Asked, wide-reads.Learnt, one-arm-below t, one-arm.Post, small-reads.Asked, small-reads.Learnt, note-branch-reads.Asked, note-branch-reads.Learnt, after-arm-reads.Asked, after-arm-reads.Learnt, fewer-reads.Asked, fewer-reads.Learnt, commit-reads.Asked, commit-reads.Learnt, refused-reads.Asked, refused-reads.Learnt) (choices-at t) choices.Post choices-Inv-loop choices-μ-loop
+choices-wide-requires t c κs =
     search needs
 
--- src/lib.rt:589:13
-choices-returns : (t : ℕ) → choices-lts.Need-returns (one-arm-below t, one-arm.Post, told-reads.Asked, told-reads.Learnt, note-branch-reads.Asked, note-branch-reads.Learnt, after-arm-reads.Asked, after-arm-reads.Learnt, fewer-reads.Asked, fewer-reads.Learnt, commit-reads.Asked, commit-reads.Learnt) (choices-at t) choices.Post choices-Inv-loop choices-μ-loop
+choices-add-j : (t : ℕ) → choices-lts.Need-add-j (node-at-reads.Asked, node-at-reads.Learnt, wide-reads.Asked, wide-reads.Learnt, one-arm-below t, one-arm.Post, small-reads.Asked, small-reads.Learnt, note-branch-reads.Asked, note-branch-reads.Learnt, after-arm-reads.Asked, after-arm-reads.Learnt, fewer-reads.Asked, fewer-reads.Learnt, commit-reads.Asked, commit-reads.Learnt, refused-reads.Asked, refused-reads.Learnt) (choices-at t) choices.Post choices-Inv-loop choices-μ-loop
+choices-add-j t c =
+    omega (arith, few-nodes (c .before .before .before .before .before .pre .1 .1 .0 .ready .sound), c .before .before .before .before .before .pre .1 .1 .1 .there)
+
+choices-cast-left : (t : ℕ) → choices-lts.Need-cast-left (node-at-reads.Asked, node-at-reads.Learnt, wide-reads.Asked, wide-reads.Learnt, one-arm-below t, one-arm.Post, small-reads.Asked, small-reads.Learnt, note-branch-reads.Asked, note-branch-reads.Learnt, after-arm-reads.Asked, after-arm-reads.Learnt, fewer-reads.Asked, fewer-reads.Learnt, commit-reads.Asked, commit-reads.Learnt, refused-reads.Asked, refused-reads.Learnt) (choices-at t) choices.Post choices-Inv-loop choices-μ-loop
+choices-cast-left t c = search needs
+
+choices-loop-holds : (t : ℕ) → choices-lts.Need-loop-holds (node-at-reads.Asked, node-at-reads.Learnt, wide-reads.Asked, wide-reads.Learnt, one-arm-below t, one-arm.Post, small-reads.Asked, small-reads.Learnt, note-branch-reads.Asked, note-branch-reads.Learnt, after-arm-reads.Asked, after-arm-reads.Learnt, fewer-reads.Asked, fewer-reads.Learnt, commit-reads.Asked, commit-reads.Learnt, refused-reads.Asked, refused-reads.Learnt) (choices-at t) choices.Post choices-Inv-loop choices-μ-loop
+choices-loop-holds t c = (
+  choosing-first _ (standing-as refl (c .before .wide .ensures) refl (c .before .before .before .before .before .before .pre .1 .1 .0)) (c .before .before .before .before .before .before .pre .1 .1 .1) (ap (λ d. d .children) (c .before .before .before .node-at .ensures)),
+  sym (c .before .wide .ensures),
+  c .before .before .before .before .before .before .pre .1 .0,
+)
+
+choices-one-arm-requires : (t : ℕ) → choices-lts.Need-one-arm-requires (node-at-reads.Asked, node-at-reads.Learnt, wide-reads.Asked, wide-reads.Learnt, one-arm-below t, one-arm.Post, small-reads.Asked, small-reads.Learnt, note-branch-reads.Asked, note-branch-reads.Learnt, after-arm-reads.Asked, after-arm-reads.Learnt, fewer-reads.Asked, fewer-reads.Learnt, commit-reads.Asked, commit-reads.Learnt, refused-reads.Asked, refused-reads.Learnt) (choices-at t) choices.Post choices-Inv-loop choices-μ-loop
+choices-one-arm-requires t c κs = (
+  omega (arith, c .before .before .before .before .before .before .before .before .before .before .before .before .before .pre .0),
+  (
+    c .before .before .before .before .before .before .loop .inv .2,
+    (
+      standing-as refl (c .before .before .before .before .before .before .loop .inv .1) refl (choosing-standing (c .before .before .before .before .before .before .loop .inv .0) (c .before .before .before .before .before .loop-test .taken)),
+      choosing-branch (c .before .before .before .before .before .before .loop .inv .0) (c .before .before .before .before .before .loop-test .taken),
+    ),
+  ),
+)
+
+choices-element-copy-out-wide-2 : (t : ℕ) → choices-lts.Need-element-copy-out-wide-2 (node-at-reads.Asked, node-at-reads.Learnt, wide-reads.Asked, wide-reads.Learnt, one-arm-below t, one-arm.Post, small-reads.Asked, small-reads.Learnt, note-branch-reads.Asked, note-branch-reads.Learnt, after-arm-reads.Asked, after-arm-reads.Learnt, fewer-reads.Asked, fewer-reads.Learnt, commit-reads.Asked, commit-reads.Learnt, refused-reads.Asked, refused-reads.Learnt) (choices-at t) choices.Post choices-Inv-loop choices-μ-loop
+choices-element-copy-out-wide-2 t c = search needs
+
+choices-wide-requires-2 : (t : ℕ) → choices-lts.Need-wide-requires-2 (node-at-reads.Asked, node-at-reads.Learnt, wide-reads.Asked, wide-reads.Learnt, one-arm-below t, one-arm.Post, small-reads.Asked, small-reads.Learnt, note-branch-reads.Asked, note-branch-reads.Learnt, after-arm-reads.Asked, after-arm-reads.Learnt, fewer-reads.Asked, fewer-reads.Learnt, commit-reads.Asked, commit-reads.Learnt, refused-reads.Asked, refused-reads.Learnt) (choices-at t) choices.Post choices-Inv-loop choices-μ-loop
+choices-wide-requires-2 t c κs =
+    search needs
+
+choices-small-requires : (t : ℕ) → choices-lts.Need-small-requires (node-at-reads.Asked, node-at-reads.Learnt, wide-reads.Asked, wide-reads.Learnt, one-arm-below t, one-arm.Post, small-reads.Asked, small-reads.Learnt, note-branch-reads.Asked, note-branch-reads.Learnt, after-arm-reads.Asked, after-arm-reads.Learnt, fewer-reads.Asked, fewer-reads.Learnt, commit-reads.Asked, commit-reads.Learnt, refused-reads.Asked, refused-reads.Learnt) (choices-at t) choices.Post choices-Inv-loop choices-μ-loop
+choices-small-requires t c κs =
+    omega (arith, c .before .before .before .before .before .before .before .before .before .before .before .loop .inv .0 .spent .fit .high)
+
+choices-element-write-notes : (t : ℕ) → choices-lts.Need-element-write-notes (node-at-reads.Asked, node-at-reads.Learnt, wide-reads.Asked, wide-reads.Learnt, one-arm-below t, one-arm.Post, small-reads.Asked, small-reads.Learnt, note-branch-reads.Asked, note-branch-reads.Learnt, after-arm-reads.Asked, after-arm-reads.Learnt, fewer-reads.Asked, fewer-reads.Learnt, commit-reads.Asked, commit-reads.Learnt, refused-reads.Asked, refused-reads.Learnt) (choices-at t) choices.Post choices-Inv-loop choices-μ-loop
+choices-element-write-notes t c = search needs
+
+choices-same-length : (t : ℕ) → choices-lts.Need-same-length (node-at-reads.Asked, node-at-reads.Learnt, wide-reads.Asked, wide-reads.Learnt, one-arm-below t, one-arm.Post, small-reads.Asked, small-reads.Learnt, note-branch-reads.Asked, note-branch-reads.Learnt, after-arm-reads.Asked, after-arm-reads.Learnt, fewer-reads.Asked, fewer-reads.Learnt, commit-reads.Asked, commit-reads.Learnt, refused-reads.Asked, refused-reads.Learnt) (choices-at t) choices.Post choices-Inv-loop choices-μ-loop
+choices-same-length t c = search needs
+
+choices-returns : (t : ℕ) → choices-lts.Need-returns (node-at-reads.Asked, node-at-reads.Learnt, wide-reads.Asked, wide-reads.Learnt, one-arm-below t, one-arm.Post, small-reads.Asked, small-reads.Learnt, note-branch-reads.Asked, note-branch-reads.Learnt, after-arm-reads.Asked, after-arm-reads.Learnt, fewer-reads.Asked, fewer-reads.Learnt, commit-reads.Asked, commit-reads.Learnt, refused-reads.Asked, refused-reads.Learnt) (choices-at t) choices.Post choices-Inv-loop choices-μ-loop
 choices-returns t c =
-    rw (c .told .ensures) (choosing-out (c .before .before .before .before .before .before .before .before .before .loop .inv) (c .before .before .before .before .before .before .before .before .loop-test .taken) (c .before .before .before .one-arm .ensures) (c .before .if1 .taken))
+    let k = c .before .before .before .before .before .before .one-arm .ensures .1 in
+    let s = top-set (k .noting) (c .before .small .ensures) in
+    let g = armed-from _ _ _ _ _ (c .before .before .before .before .before .before .before .before .before .before .before .before .before .loop .inv .1) (c .before .before .before .before .before .before .one-arm .ensures .0) in (
+      acted-from _ _ _ _ _ _ (c .before .before .before .before .before .before .before .before .before .before .before .before .before .before .before .wide .ensures) (done-moved (s .moved) _ (s .top-is) (s .ret-kept)
+          (choosing-out (c .before .before .before .before .before .before .before .before .before .before .before .before .before .loop .inv .0) (c .before .before .before .before .before .before .before .before .before .before .before .before .loop-test .taken) g (went-ill (tells-self k) (c .if1 .taken)))),
+      tells-moved (s .moved) k,
+    )
 
--- src/lib.rt:591:9
-choices-note-branch-requires : (t : ℕ) → choices-lts.Need-note-branch-requires (one-arm-below t, one-arm.Post, told-reads.Asked, told-reads.Learnt, note-branch-reads.Asked, note-branch-reads.Learnt, after-arm-reads.Asked, after-arm-reads.Learnt, fewer-reads.Asked, fewer-reads.Learnt, commit-reads.Asked, commit-reads.Learnt) (choices-at t) choices.Post choices-Inv-loop choices-μ-loop
+choices-note-branch-requires : (t : ℕ) → choices-lts.Need-note-branch-requires (node-at-reads.Asked, node-at-reads.Learnt, wide-reads.Asked, wide-reads.Learnt, one-arm-below t, one-arm.Post, small-reads.Asked, small-reads.Learnt, note-branch-reads.Asked, note-branch-reads.Learnt, after-arm-reads.Asked, after-arm-reads.Learnt, fewer-reads.Asked, fewer-reads.Learnt, commit-reads.Asked, commit-reads.Learnt, refused-reads.Asked, refused-reads.Learnt) (choices-at t) choices.Post choices-Inv-loop choices-μ-loop
 choices-note-branch-requires t c κs =
-    let f = c .before .before .before .before .before .before .one-arm .ensures .done .fine (λ z. omega arith) in
-    ((c .before .before .before .before .before .before .before .before .before .before .before .before .loop .inv .spent .fit .high, f .left .fit .high), (c .before .before .before .before .before .before .before .before .before .before .before .before .loop .inv .tally .lm, c .before .before .before .before .before .before .before .before .before .before .before .before .loop .inv .tally .lc))
+    let f = c .before .before .before .before .before .before .before .before .before .before .one-arm .ensures .0 .done .fine (well-shallow (c .before .before .before .before .before .before .before .before .before .before .one-arm .ensures .1) (c .before .before .before .before .if1 .left)) in
+    ((c .before .before .before .before .before .before .before .before .before .before .before .before .before .before .before .before .before .loop .inv .0 .spent .fit .high, omega (arith, c .before .before .before .before .before .before .wide2 .ensures, f .left .fit .high)), (c .before .before .before .before .before .before .before .before .before .before .before .before .before .before .before .before .before .loop .inv .0 .tally .lm, c .before .before .before .before .before .before .before .before .before .before .before .before .before .before .before .before .before .loop .inv .0 .tally .lc))
 
--- src/lib.rt:595:9
-choices-after-arm-requires : (t : ℕ) → choices-lts.Need-after-arm-requires (one-arm-below t, one-arm.Post, told-reads.Asked, told-reads.Learnt, note-branch-reads.Asked, note-branch-reads.Learnt, after-arm-reads.Asked, after-arm-reads.Learnt, fewer-reads.Asked, fewer-reads.Learnt, commit-reads.Asked, commit-reads.Learnt) (choices-at t) choices.Post choices-Inv-loop choices-μ-loop
+choices-after-arm-requires : (t : ℕ) → choices-lts.Need-after-arm-requires (node-at-reads.Asked, node-at-reads.Learnt, wide-reads.Asked, wide-reads.Learnt, one-arm-below t, one-arm.Post, small-reads.Asked, small-reads.Learnt, note-branch-reads.Asked, note-branch-reads.Learnt, after-arm-reads.Asked, after-arm-reads.Learnt, fewer-reads.Asked, fewer-reads.Learnt, commit-reads.Asked, commit-reads.Learnt, refused-reads.Asked, refused-reads.Learnt) (choices-at t) choices.Post choices-Inv-loop choices-μ-loop
 choices-after-arm-requires t c κs =
-    let b = choosing-branch (c .before .before .before .before .before .before .before .before .before .before .before .before .before .loop .inv) (c .before .before .before .before .before .before .before .before .before .before .before .before .loop-test .taken) in
-    (c .before .before .before .before .before .before .before .before .before .before .before .before .before .before .before .pre .1 .0 .ready .sound .headed, (c .before .before .before .before .before .before .before .before .before .before .before .before .before .before .before .pre .1 .0 .ready .nodes-at, b .first .there, b .block .there))
+    let b = choosing-branch (c .before .before .before .before .before .before .before .before .before .before .before .before .before .before .before .before .before .before .loop .inv .0) (c .before .before .before .before .before .before .before .before .before .before .before .before .before .before .before .before .before .loop-test .taken) in
+    (c .before .before .before .before .before .before .before .before .before .before .before .before .before .before .before .before .before .before .before .before .before .before .before .before .before .pre .1 .1 .0 .ready .sound .headed, (c .before .before .before .before .before .before .before .before .before .before .before .before .before .before .before .before .before .before .before .before .before .before .before .before .before .pre .1 .1 .0 .ready .nodes-at, b .first .there, b .block .there))
 
--- src/lib.rt:596:9
-choices-fewer-requires : (t : ℕ) → choices-lts.Need-fewer-requires (one-arm-below t, one-arm.Post, told-reads.Asked, told-reads.Learnt, note-branch-reads.Asked, note-branch-reads.Learnt, after-arm-reads.Asked, after-arm-reads.Learnt, fewer-reads.Asked, fewer-reads.Learnt, commit-reads.Asked, commit-reads.Learnt) (choices-at t) choices.Post choices-Inv-loop choices-μ-loop
+choices-fewer-requires : (t : ℕ) → choices-lts.Need-fewer-requires (node-at-reads.Asked, node-at-reads.Learnt, wide-reads.Asked, wide-reads.Learnt, one-arm-below t, one-arm.Post, small-reads.Asked, small-reads.Learnt, note-branch-reads.Asked, note-branch-reads.Learnt, after-arm-reads.Asked, after-arm-reads.Learnt, fewer-reads.Asked, fewer-reads.Learnt, commit-reads.Asked, commit-reads.Learnt, refused-reads.Asked, refused-reads.Learnt) (choices-at t) choices.Post choices-Inv-loop choices-μ-loop
 choices-fewer-requires t c κs =
     search needs
 
--- src/lib.rt:569:5
-choices-loop-less : (t : ℕ) → choices-lts.Need-loop-less (one-arm-below t, one-arm.Post, told-reads.Asked, told-reads.Learnt, note-branch-reads.Asked, note-branch-reads.Learnt, after-arm-reads.Asked, after-arm-reads.Learnt, fewer-reads.Asked, fewer-reads.Learnt, commit-reads.Asked, commit-reads.Learnt) (choices-at t) choices.Post choices-Inv-loop choices-μ-loop
+choices-loop-less : (t : ℕ) → choices-lts.Need-loop-less (node-at-reads.Asked, node-at-reads.Learnt, wide-reads.Asked, wide-reads.Learnt, one-arm-below t, one-arm.Post, small-reads.Asked, small-reads.Learnt, note-branch-reads.Asked, note-branch-reads.Learnt, after-arm-reads.Asked, after-arm-reads.Learnt, fewer-reads.Asked, fewer-reads.Learnt, commit-reads.Asked, commit-reads.Learnt, refused-reads.Asked, refused-reads.Learnt) (choices-at t) choices.Post choices-Inv-loop choices-μ-loop
 choices-loop-less t c =
-    omega (arith, c .fewer .ensures, c .before .before .before .before .before .before .before .before .before .before .before .before .before .before .loop-test .taken)
+    omega (arith, c .fewer .ensures, c .before .before .before .before .before .before .before .before .before .before .before .before .before .before .before .before .before .before .before .loop-test .taken)
 
--- src/lib.rt:569:5
-choices-loop-again : (t : ℕ) → choices-lts.Need-loop-again (one-arm-below t, one-arm.Post, told-reads.Asked, told-reads.Learnt, note-branch-reads.Asked, note-branch-reads.Learnt, after-arm-reads.Asked, after-arm-reads.Learnt, fewer-reads.Asked, fewer-reads.Learnt, commit-reads.Asked, commit-reads.Learnt) (choices-at t) choices.Post choices-Inv-loop choices-μ-loop
+choices-loop-again : (t : ℕ) → choices-lts.Need-loop-again (node-at-reads.Asked, node-at-reads.Learnt, wide-reads.Asked, wide-reads.Learnt, one-arm-below t, one-arm.Post, small-reads.Asked, small-reads.Learnt, note-branch-reads.Asked, note-branch-reads.Learnt, after-arm-reads.Asked, after-arm-reads.Learnt, fewer-reads.Asked, fewer-reads.Learnt, commit-reads.Asked, commit-reads.Learnt, refused-reads.Asked, refused-reads.Learnt) (choices-at t) choices.Post choices-Inv-loop choices-μ-loop
 choices-loop-again t c =
-    choosing-next (c .before .before .before .before .before .before .before .before .before .before .before .before .before .before .before .loop .inv) (c .before .before .before .before .before .before .before .before .before .before .before .before .before .before .loop-test .taken) (c .before .before .before .before .before .before .before .before .before .one-arm .ensures) (c .before .after-arm .ensures) (c .fewer .ensures) (c .before .before .before .before .before .before .before .if1 .left) (c .before .before .note-branch .ensures)
+    let k = c .before .before .before .before .before .before .before .before .before .before .before .before .before .one-arm .ensures .1 in
+    let s = top-set (k .noting) (c .before .before .before .before .before .before .before .before .small .ensures) in
+    let g = armed-from _ _ _ _ _ (c .before .before .before .before .before .before .before .before .before .before .before .before .before .before .before .before .before .before .before .before .loop .inv .1) (c .before .before .before .before .before .before .before .before .before .before .before .before .before .one-arm .ensures .0) in (
+      choosing-as (tab-moved (s .moved) _) (s .ret-kept)
+          (choosing-next (c .before .before .before .before .before .before .before .before .before .before .before .before .before .before .before .before .before .before .before .before .loop .inv .0) (c .before .before .before .before .before .before .before .before .before .before .before .before .before .before .before .before .before .before .before .loop-test .taken) g (c .before .after-arm .ensures) (c .fewer .ensures) (went-well (tells-self k) (c .before .before .before .before .before .before .before .if1 .left)) (c .before .before .before .before .before .before .before .before .before .wide2 .ensures) (c .before .before .note-branch .ensures)),
+      s .top-is,
+      moved-noting (s .moved),
+    )
 
--- src/lib.rt:598:50
-choices-add-commit : (t : ℕ) → choices-lts.Need-add-commit (one-arm-below t, one-arm.Post, told-reads.Asked, told-reads.Learnt, note-branch-reads.Asked, note-branch-reads.Learnt, after-arm-reads.Asked, after-arm-reads.Learnt, fewer-reads.Asked, fewer-reads.Learnt, commit-reads.Asked, commit-reads.Learnt) (choices-at t) choices.Post choices-Inv-loop choices-μ-loop
+choices-add-commit : (t : ℕ) → choices-lts.Need-add-commit (node-at-reads.Asked, node-at-reads.Learnt, wide-reads.Asked, wide-reads.Learnt, one-arm-below t, one-arm.Post, small-reads.Asked, small-reads.Learnt, note-branch-reads.Asked, note-branch-reads.Learnt, after-arm-reads.Asked, after-arm-reads.Learnt, fewer-reads.Asked, fewer-reads.Learnt, commit-reads.Asked, commit-reads.Learnt, refused-reads.Asked, refused-reads.Learnt) (choices-at t) choices.Post choices-Inv-loop choices-μ-loop
 choices-add-commit t c =
-    omega (arith, few-nodes (c .before .before .before .before .before .before .pre .1 .0 .ready .sound), c .before .before .before .before .before .before .pre .1 .1 .0 .there)
+    omega (arith, few-nodes (c .before .before .before .before .before .before .before .before .before .before .before .pre .1 .1 .0 .ready .sound), c .before .before .before .before .before .before .before .before .before .before .before .pre .1 .1 .1 .there)
 
--- src/lib.rt:598:9
-choices-commit-requires : (t : ℕ) → choices-lts.Need-commit-requires (one-arm-below t, one-arm.Post, told-reads.Asked, told-reads.Learnt, note-branch-reads.Asked, note-branch-reads.Learnt, after-arm-reads.Asked, after-arm-reads.Learnt, fewer-reads.Asked, fewer-reads.Learnt, commit-reads.Asked, commit-reads.Learnt) (choices-at t) choices.Post choices-Inv-loop choices-μ-loop
+choices-commit-requires : (t : ℕ) → choices-lts.Need-commit-requires (node-at-reads.Asked, node-at-reads.Learnt, wide-reads.Asked, wide-reads.Learnt, one-arm-below t, one-arm.Post, small-reads.Asked, small-reads.Learnt, note-branch-reads.Asked, note-branch-reads.Learnt, after-arm-reads.Asked, after-arm-reads.Learnt, fewer-reads.Asked, fewer-reads.Learnt, commit-reads.Asked, commit-reads.Learnt, refused-reads.Asked, refused-reads.Learnt) (choices-at t) choices.Post choices-Inv-loop choices-μ-loop
 choices-commit-requires t c κs =
-    (c .before .before .before .before .loop .inv .spent .fit .high, c .before .before .before .before .loop .inv .spent .fit .long)
+    (c .before .before .before .before .loop .inv .0 .spent .fit .high, c .before .before .before .before .loop .inv .0 .spent .fit .long)
 
--- src/lib.rt:600:18
-choices-add-told : (t : ℕ) → choices-lts.Need-add-told (one-arm-below t, one-arm.Post, told-reads.Asked, told-reads.Learnt, note-branch-reads.Asked, note-branch-reads.Learnt, after-arm-reads.Asked, after-arm-reads.Learnt, fewer-reads.Asked, fewer-reads.Learnt, commit-reads.Asked, commit-reads.Learnt) (choices-at t) choices.Post choices-Inv-loop choices-μ-loop
-choices-add-told t c =
-    omega (arith, few-nodes (c .before .before .before .before .before .before .before .pre .1 .0 .ready .sound), c .before .before .before .before .before .before .before .pre .1 .1 .0 .there)
+choices-add-refused : (t : ℕ) → choices-lts.Need-add-refused (node-at-reads.Asked, node-at-reads.Learnt, wide-reads.Asked, wide-reads.Learnt, one-arm-below t, one-arm.Post, small-reads.Asked, small-reads.Learnt, note-branch-reads.Asked, note-branch-reads.Learnt, after-arm-reads.Asked, after-arm-reads.Learnt, fewer-reads.Asked, fewer-reads.Learnt, commit-reads.Asked, commit-reads.Learnt, refused-reads.Asked, refused-reads.Learnt) (choices-at t) choices.Post choices-Inv-loop choices-μ-loop
+choices-add-refused t c =
+    omega (arith, few-nodes (c .before .before .before .before .before .before .before .before .before .before .before .before .before .before .before .pre .1 .1 .0 .ready .sound), c .before .before .before .before .before .before .before .before .before .before .before .before .before .before .before .pre .1 .1 .1 .there)
 
--- src/lib.rt:600:5
-choices-told-requires-2 : (t : ℕ) → choices-lts.Need-told-requires-2 (one-arm-below t, one-arm.Post, told-reads.Asked, told-reads.Learnt, note-branch-reads.Asked, note-branch-reads.Learnt, after-arm-reads.Asked, after-arm-reads.Learnt, fewer-reads.Asked, fewer-reads.Learnt, commit-reads.Asked, commit-reads.Learnt) (choices-at t) choices.Post choices-Inv-loop choices-μ-loop
-choices-told-requires-2 t c κs =
-    search needs
+choices-refused-requires : (t : ℕ) → choices-lts.Need-refused-requires (node-at-reads.Asked, node-at-reads.Learnt, wide-reads.Asked, wide-reads.Learnt, one-arm-below t, one-arm.Post, small-reads.Asked, small-reads.Learnt, note-branch-reads.Asked, note-branch-reads.Learnt, after-arm-reads.Asked, after-arm-reads.Learnt, fewer-reads.Asked, fewer-reads.Learnt, commit-reads.Asked, commit-reads.Learnt, refused-reads.Asked, refused-reads.Learnt) (choices-at t) choices.Post choices-Inv-loop choices-μ-loop
+choices-refused-requires t c κs =
+    c .before .before .before .before .before .before .before .before .loop .inv .2
 
--- src/lib.rt:539:1
-choices-returns-2 : (t : ℕ) → choices-lts.Need-returns-2 (one-arm-below t, one-arm.Post, told-reads.Asked, told-reads.Learnt, note-branch-reads.Asked, note-branch-reads.Learnt, after-arm-reads.Asked, after-arm-reads.Learnt, fewer-reads.Asked, fewer-reads.Learnt, commit-reads.Asked, commit-reads.Learnt) (choices-at t) choices.Post choices-Inv-loop choices-μ-loop
+choices-same-length-2 : (t : ℕ) → choices-lts.Need-same-length-2 (node-at-reads.Asked, node-at-reads.Learnt, wide-reads.Asked, wide-reads.Learnt, one-arm-below t, one-arm.Post, small-reads.Asked, small-reads.Learnt, note-branch-reads.Asked, note-branch-reads.Learnt, after-arm-reads.Asked, after-arm-reads.Learnt, fewer-reads.Asked, fewer-reads.Learnt, commit-reads.Asked, commit-reads.Learnt, refused-reads.Asked, refused-reads.Learnt) (choices-at t) choices.Post choices-Inv-loop choices-μ-loop
+choices-same-length-2 t c = search needs
+
+choices-returns-2 : (t : ℕ) → choices-lts.Need-returns-2 (node-at-reads.Asked, node-at-reads.Learnt, wide-reads.Asked, wide-reads.Learnt, one-arm-below t, one-arm.Post, small-reads.Asked, small-reads.Learnt, note-branch-reads.Asked, note-branch-reads.Learnt, after-arm-reads.Asked, after-arm-reads.Learnt, fewer-reads.Asked, fewer-reads.Learnt, commit-reads.Asked, commit-reads.Learnt, refused-reads.Asked, refused-reads.Learnt) (choices-at t) choices.Post choices-Inv-loop choices-μ-loop
 choices-returns-2 t c =
-    rw (c .told2 .ensures) (choosing-end (c .before .before .before .before .before .before .before .before .pre .1 .1 .0) (c .before .before .before .before .before .before .loop .inv) (c .before .before .before .before .before .loop-test .left) (c .before .commit .ensures))
+    let f = c .refused .ensures in
+    let h = few-nodes (c .before .before .before .before .before .before .before .before .before .before .before .before .before .before .before .before .pre .1 .1 .0 .ready .sound) in
+    let i = c .before .before .before .before .before .before .before .before .before .before .before .before .before .before .before .before .pre .1 .1 .1 .there in (
+      acted-from _ _ _ _ _ _ (c .before .before .before .before .before .before .before .before .before .before .before .wide .ensures)
+          (done-refused f (omega arith) (clash-small (c .before .before .before .before .commit .ensures) (c .before .before .if2 .taken)) (omega arith) (f .top ∙ c .before .before .before .before .before .before .before .before .before .loop .inv .1) (f .ret)
+          (choosing-end (c .before .before .before .before .before .before .before .before .before .before .before .before .before .before .before .before .pre .1 .1 .1) (c .before .before .before .before .before .before .before .before .before .loop .inv .0) (c .before .before .before .before .before .before .before .before .loop-test .left) (c .before .before .before .before .commit .ensures))),
+      tells-kept (refused-kept (c .before .before .if2 .taken) f),
+    )
 
--- src/lib.rt:691:9
-define-told-requires : (t : ℕ) → define-lts.Need-told-requires (told-reads.Asked, told-reads.Learnt, clear-reads.Asked, clear-reads.Learnt, parameters-reads.Asked, parameters-reads.Learnt, block-below t, block.Post) (define-at t) define.Post
-define-told-requires t c κs =
+choices-same-length-3 : (t : ℕ) → choices-lts.Need-same-length-3 (node-at-reads.Asked, node-at-reads.Learnt, wide-reads.Asked, wide-reads.Learnt, one-arm-below t, one-arm.Post, small-reads.Asked, small-reads.Learnt, note-branch-reads.Asked, note-branch-reads.Learnt, after-arm-reads.Asked, after-arm-reads.Learnt, fewer-reads.Asked, fewer-reads.Learnt, commit-reads.Asked, commit-reads.Learnt, refused-reads.Asked, refused-reads.Learnt) (choices-at t) choices.Post choices-Inv-loop choices-μ-loop
+choices-same-length-3 t c = search needs
+
+choices-returns-3 : (t : ℕ) → choices-lts.Need-returns-3 (node-at-reads.Asked, node-at-reads.Learnt, wide-reads.Asked, wide-reads.Learnt, one-arm-below t, one-arm.Post, small-reads.Asked, small-reads.Learnt, note-branch-reads.Asked, note-branch-reads.Learnt, after-arm-reads.Asked, after-arm-reads.Learnt, fewer-reads.Asked, fewer-reads.Learnt, commit-reads.Asked, commit-reads.Learnt, refused-reads.Asked, refused-reads.Learnt) (choices-at t) choices.Post choices-Inv-loop choices-μ-loop
+choices-returns-3 t c = (
+  acted-from _ _ _ _ _ _ (c .before .before .before .before .before .before .before .before .before .wide .ensures) (done-any (c .if2 .left) (verdict-zero _) (done-ends refl (c .before .before .before .before .before .before .before .loop .inv .1) refl
+      (choosing-end (c .before .before .before .before .before .before .before .before .before .before .before .before .before .before .pre .1 .1 .1) (c .before .before .before .before .before .before .before .loop .inv .0) (c .before .before .before .before .before .before .loop-test .left) (c .before .before .commit .ensures)))),
+  tells-zero (c .before .before .before .before .before .before .before .loop .inv .2),
+)
+
+define-element-copy-out-wide : (t : ℕ) → define-lts.Need-element-copy-out-wide (wide-reads.Asked, wide-reads.Learnt, refused-reads.Asked, refused-reads.Learnt, node-at-reads.Asked, node-at-reads.Learnt, clear-reads.Asked, clear-reads.Learnt, parameters-reads.Asked, parameters-reads.Learnt, small-reads.Asked, small-reads.Learnt, block-below t, block.Post) (define-at t) define.Post
+define-element-copy-out-wide t c = search needs
+
+define-wide-requires : (t : ℕ) → define-lts.Need-wide-requires (wide-reads.Asked, wide-reads.Learnt, refused-reads.Asked, refused-reads.Learnt, node-at-reads.Asked, node-at-reads.Learnt, clear-reads.Asked, clear-reads.Learnt, parameters-reads.Asked, parameters-reads.Learnt, small-reads.Asked, small-reads.Learnt, block-below t, block.Post) (define-at t) define.Post
+define-wide-requires t c κs =
     search needs
 
--- src/lib.rt:691:9
-define-returns : (t : ℕ) → define-lts.Need-returns (told-reads.Asked, told-reads.Learnt, clear-reads.Asked, clear-reads.Learnt, parameters-reads.Asked, parameters-reads.Learnt, block-below t, block.Post) (define-at t) define.Post
+define-element-copy-out-ret : (t : ℕ) → define-lts.Need-element-copy-out-ret (wide-reads.Asked, wide-reads.Learnt, refused-reads.Asked, refused-reads.Learnt, node-at-reads.Asked, node-at-reads.Learnt, clear-reads.Asked, clear-reads.Learnt, parameters-reads.Asked, parameters-reads.Learnt, small-reads.Asked, small-reads.Learnt, block-below t, block.Post) (define-at t) define.Post
+define-element-copy-out-ret t c = search needs
+
+define-refused-requires : (t : ℕ) → define-lts.Need-refused-requires (wide-reads.Asked, wide-reads.Learnt, refused-reads.Asked, refused-reads.Learnt, node-at-reads.Asked, node-at-reads.Learnt, clear-reads.Asked, clear-reads.Learnt, parameters-reads.Asked, parameters-reads.Learnt, small-reads.Asked, small-reads.Learnt, block-below t, block.Post) (define-at t) define.Post
+define-refused-requires t c κs =
+    c .before .before .before .before .before .before .before .pre .1 .0
+
+define-returns : (t : ℕ) → define-lts.Need-returns (wide-reads.Asked, wide-reads.Learnt, refused-reads.Asked, refused-reads.Learnt, node-at-reads.Asked, node-at-reads.Learnt, clear-reads.Asked, clear-reads.Learnt, parameters-reads.Asked, parameters-reads.Learnt, small-reads.Asked, small-reads.Learnt, block-below t, block.Post) (define-at t) define.Post
 define-returns t c =
-    rw (c .told .ensures) (def-deep (c .before .before .before .pre .1 .0) (c .before .before .before .pre .1 .1 .0) (c .before .before .before .pre .1 .1 .1) (c .before .if1 .taken))
+    let f = c .refused .ensures in
+    let r = c .before .before .before .before .before .before .before .before .pre .1 .1 .0 in (
+      (λ loop. done-refused f (small-node (r .ready .sound) (c .before .before .before .before .before .before .before .before .pre .1 .1 .1 .there)) (omega arith) (omega arith) (f .top) (f .ret)
+          (def-deep r (c .before .before .before .before .before .before .before .before .pre .1 .1 .1) refl (omega (arith, c .before .before .before .before .wide .ensures, c .before .before .if1 .taken)) loop)),
+      tells-kept (refused-kept (λ z. omega arith) f),
+    )
 
--- src/lib.rt:693:17
-define-add-clear : (t : ℕ) → define-lts.Need-add-clear (told-reads.Asked, told-reads.Learnt, clear-reads.Asked, clear-reads.Learnt, parameters-reads.Asked, parameters-reads.Learnt, block-below t, block.Post) (define-at t) define.Post
+define-node-at-requires : (t : ℕ) → define-lts.Need-node-at-requires (wide-reads.Asked, wide-reads.Learnt, refused-reads.Asked, refused-reads.Learnt, node-at-reads.Asked, node-at-reads.Learnt, clear-reads.Asked, clear-reads.Learnt, parameters-reads.Asked, parameters-reads.Learnt, small-reads.Asked, small-reads.Learnt, block-below t, block.Post) (define-at t) define.Post
+define-node-at-requires t c κs =
+    (c .before .before .before .before .before .before .pre .1 .1 .0 .ready .sound .headed, (c .before .before .before .before .before .before .pre .1 .1 .0 .ready .nodes-at, c .before .before .before .before .before .before .pre .1 .1 .1 .there))
+
+define-cast-n : (t : ℕ) → define-lts.Need-cast-n (wide-reads.Asked, wide-reads.Learnt, refused-reads.Asked, refused-reads.Learnt, node-at-reads.Asked, node-at-reads.Learnt, clear-reads.Asked, clear-reads.Learnt, parameters-reads.Asked, parameters-reads.Learnt, small-reads.Asked, small-reads.Learnt, block-below t, block.Post) (define-at t) define.Post
+define-cast-n t c = search needs
+
+define-add-clear : (t : ℕ) → define-lts.Need-add-clear (wide-reads.Asked, wide-reads.Learnt, refused-reads.Asked, refused-reads.Learnt, node-at-reads.Asked, node-at-reads.Learnt, clear-reads.Asked, clear-reads.Learnt, parameters-reads.Asked, parameters-reads.Learnt, small-reads.Asked, small-reads.Learnt, block-below t, block.Post) (define-at t) define.Post
 define-add-clear t c =
-    omega (arith, c .before .if1 .left)
-
--- src/lib.rt:693:5
-define-clear-requires : (t : ℕ) → define-lts.Need-clear-requires (told-reads.Asked, told-reads.Learnt, clear-reads.Asked, clear-reads.Learnt, parameters-reads.Asked, parameters-reads.Learnt, block-below t, block.Post) (define-at t) define.Post
-define-clear-requires t c κs =
-    omega (arith, c .before .if1 .left)
-
--- src/lib.rt:694:44
-define-add-parameters : (t : ℕ) → define-lts.Need-add-parameters (told-reads.Asked, told-reads.Learnt, clear-reads.Asked, clear-reads.Learnt, parameters-reads.Asked, parameters-reads.Learnt, block-below t, block.Post) (define-at t) define.Post
-define-add-parameters t c =
     omega (arith, c .before .before .before .if1 .left)
 
--- src/lib.rt:694:57
-define-sub-parameters : (t : ℕ) → define-lts.Need-sub-parameters (told-reads.Asked, told-reads.Learnt, clear-reads.Asked, clear-reads.Learnt, parameters-reads.Asked, parameters-reads.Learnt, block-below t, block.Post) (define-at t) define.Post
-define-sub-parameters t c =
-    omega (arith, def-some (c .before .before .before .before .before .pre .1 .0) (c .before .before .before .before .before .pre .1 .1 .0) (c .before .before .before .before .before .pre .1 .1 .1))
+define-clear-requires : (t : ℕ) → define-lts.Need-clear-requires (wide-reads.Asked, wide-reads.Learnt, refused-reads.Asked, refused-reads.Learnt, node-at-reads.Asked, node-at-reads.Learnt, clear-reads.Asked, clear-reads.Learnt, parameters-reads.Asked, parameters-reads.Learnt, small-reads.Asked, small-reads.Learnt, block-below t, block.Post) (define-at t) define.Post
+define-clear-requires t c κs =
+    omega (arith, c .before .before .before .if1 .left)
 
--- src/lib.rt:694:9
-define-parameters-requires : (t : ℕ) → define-lts.Need-parameters-requires (told-reads.Asked, told-reads.Learnt, clear-reads.Asked, clear-reads.Learnt, parameters-reads.Asked, parameters-reads.Learnt, block-below t, block.Post) (define-at t) define.Post
-define-parameters-requires t c κs = (
-  c .before .before .before .before .before .pre .1 .0 .ready .sound,
-  (
-    c .before .before .before .before .before .pre .1 .0 .ready .nodes-at,
-    omega (arith, c .before .before .before .if1 .left),
-    def-within (c .before .before .before .before .before .pre .1 .0) (c .before .before .before .before .before .pre .1 .1 .0) (c .before .before .before .before .before .pre .1 .1 .1),
-  ),
-)
-
--- src/lib.rt:699:9
-define-add-block : (t : ℕ) → define-lts.Need-add-block (told-reads.Asked, told-reads.Learnt, clear-reads.Asked, clear-reads.Learnt, parameters-reads.Asked, parameters-reads.Learnt, block-below t, block.Post) (define-at t) define.Post
-define-add-block t c =
+define-add-parameters : (t : ℕ) → define-lts.Need-add-parameters (wide-reads.Asked, wide-reads.Learnt, refused-reads.Asked, refused-reads.Learnt, node-at-reads.Asked, node-at-reads.Learnt, clear-reads.Asked, clear-reads.Learnt, parameters-reads.Asked, parameters-reads.Learnt, small-reads.Asked, small-reads.Learnt, block-below t, block.Post) (define-at t) define.Post
+define-add-parameters t c =
     omega (arith, c .before .before .before .before .before .if1 .left)
 
--- src/lib.rt:695:9
-define-block-requires : (t : ℕ) → define-lts.Need-block-requires (told-reads.Asked, told-reads.Learnt, clear-reads.Asked, clear-reads.Learnt, parameters-reads.Asked, parameters-reads.Learnt, block-below t, block.Post) (define-at t) define.Post
-define-block-requires t c κs =
-    let r = c .before .before .before .before .before .before .before .before .before .pre .1 .0 in
-    let q = c .before .before .before .before .before .before .before .before .before .pre .1 .1 .0 in
-    let m = c .before .before .before .before .before .before .before .before .before .pre .1 .1 .1 in (
-      omega (arith, c .before .before .before .before .before .before .before .before .before .pre .0),
-      (
-        def-standing r q m (c .before .before .before .before .before .before .before .if1 .left) (c .before .before .before .before .before .clear .ensures) (c .before .before .before .parameters .ensures .1) (c .before .before .before .parameters .ensures .0),
-        def-at-block r q m (c .before .before .before .before .before .before .before .if1 .left) (c .before .before .before .before .before .clear .ensures) (c .before .before .before .parameters .ensures .1) (c .before .before .before .parameters .ensures .0),
-      ),
-    )
+define-sub-parameters : (t : ℕ) → define-lts.Need-sub-parameters (wide-reads.Asked, wide-reads.Learnt, refused-reads.Asked, refused-reads.Learnt, node-at-reads.Asked, node-at-reads.Learnt, clear-reads.Asked, clear-reads.Learnt, parameters-reads.Asked, parameters-reads.Learnt, small-reads.Asked, small-reads.Learnt, block-below t, block.Post) (define-at t) define.Post
+define-sub-parameters t c =
+    omega (arith, def-some (c .before .before .before .before .before .before .before .before .before .before .before .pre .1 .1 .0) (c .before .before .before .before .before .before .before .before .before .before .before .pre .1 .1 .1) (ap (λ d. d .children) (c .before .before .before .before .node-at .ensures)))
 
--- src/lib.rt:713:39
-define-sub-told : (t : ℕ) → define-lts.Need-sub-told (told-reads.Asked, told-reads.Learnt, clear-reads.Asked, clear-reads.Learnt, parameters-reads.Asked, parameters-reads.Learnt, block-below t, block.Post) (define-at t) define.Post
-define-sub-told t c =
-    let f = c .before .before .block .ensures .0 .fine (λ z. omega arith) in
-    omega (arith, f .raised)
-
--- src/lib.rt:713:9
-define-told-requires-2 : (t : ℕ) → define-lts.Need-told-requires-2 (told-reads.Asked, told-reads.Learnt, clear-reads.Asked, clear-reads.Learnt, parameters-reads.Asked, parameters-reads.Learnt, block-below t, block.Post) (define-at t) define.Post
-define-told-requires-2 t c κs =
-    search needs
-
--- src/lib.rt:713:9
-define-returns-2 : (t : ℕ) → define-lts.Need-returns-2 (told-reads.Asked, told-reads.Learnt, clear-reads.Asked, clear-reads.Learnt, parameters-reads.Asked, parameters-reads.Learnt, block-below t, block.Post) (define-at t) define.Post
-define-returns-2 t c =
-    rw (c .told2 .ensures) (def-done (c .before .before .before .before .before .before .before .before .before .before .before .before .before .pre .1 .0) (c .before .before .before .before .before .before .before .before .before .before .before .before .before .pre .1 .1 .0) (c .before .before .before .before .before .before .before .before .before .before .before .before .before .pre .1 .1 .1) (c .before .before .before .before .before .before .before .before .before .before .before .if1 .left) (c .before .before .before .before .before .before .before .before .before .clear .ensures) (c .before .before .before .before .before .before .before .parameters .ensures .1) (c .before .before .before .before .before .before .before .parameters .ensures .0) (c .before .before .before .block .ensures .0) (c .before .if2 .taken))
-
--- src/lib.rt:715:5
-define-told-requires-3 : (t : ℕ) → define-lts.Need-told-requires-3 (told-reads.Asked, told-reads.Learnt, clear-reads.Asked, clear-reads.Learnt, parameters-reads.Asked, parameters-reads.Learnt, block-below t, block.Post) (define-at t) define.Post
-define-told-requires-3 t c κs =
-    search needs
-
--- src/lib.rt:668:1
-define-returns-3 : (t : ℕ) → define-lts.Need-returns-3 (told-reads.Asked, told-reads.Learnt, clear-reads.Asked, clear-reads.Learnt, parameters-reads.Asked, parameters-reads.Learnt, block-below t, block.Post) (define-at t) define.Post
-define-returns-3 t c =
-    rw (c .told3 .ensures) (def-bad (c .before .before .before .before .before .before .before .before .before .before .before .before .before .pre .1 .0) (c .before .before .before .before .before .before .before .before .before .before .before .before .before .pre .1 .1 .0) (c .before .before .before .before .before .before .before .before .before .before .before .before .before .pre .1 .1 .1) (c .before .before .before .before .before .before .before .before .before .before .before .if1 .left) (c .before .before .before .before .before .before .before .before .before .clear .ensures) (c .before .before .before .before .before .before .before .parameters .ensures .1) (c .before .before .before .before .before .before .before .parameters .ensures .0) (c .before .before .before .block .ensures .0) (c .before .if2 .left))
-
--- src/lib.rt:741:69
-each-add-elements : (t : ℕ) → each-lts.Need-add-elements (elements-reads.Asked, elements-reads.Learnt, told-reads.Asked, told-reads.Learnt, cell-of-reads.Asked, cell-of-reads.Learnt, bind-reads.Asked, bind-reads.Learnt, stop-of-reads.Asked, stop-of-reads.Learnt, block-below t, block.Post) (each-at t) each.Post
-each-add-elements t c =
-    omega (arith, few-nodes (c .before .before .before .pre .1 .0 .ready .sound), c .before .before .before .pre .1 .1 .0 .there)
-
--- src/lib.rt:741:9
-each-elements-requires : (t : ℕ) → each-lts.Need-elements-requires (elements-reads.Asked, elements-reads.Learnt, told-reads.Asked, told-reads.Learnt, cell-of-reads.Asked, cell-of-reads.Learnt, bind-reads.Asked, bind-reads.Learnt, stop-of-reads.Asked, stop-of-reads.Learnt, block-below t, block.Post) (each-at t) each.Post
-each-elements-requires t c κs =
-    let r = c .before .before .before .pre .1 .0 in
-    let p = pair-for (r .ready .sound) (c .before .before .before .pre .1 .1 .0) in
-    (first-ready r p, p .first)
-
--- src/lib.rt:745:9
-each-told-requires : (t : ℕ) → each-lts.Need-told-requires (elements-reads.Asked, elements-reads.Learnt, told-reads.Asked, told-reads.Learnt, cell-of-reads.Asked, cell-of-reads.Learnt, bind-reads.Asked, bind-reads.Learnt, stop-of-reads.Asked, stop-of-reads.Learnt, block-below t, block.Post) (each-at t) each.Post
-each-told-requires t c κs =
-    search needs
-
--- src/lib.rt:745:9
-each-returns : (t : ℕ) → each-lts.Need-returns (elements-reads.Asked, elements-reads.Learnt, told-reads.Asked, told-reads.Learnt, cell-of-reads.Asked, cell-of-reads.Learnt, bind-reads.Asked, bind-reads.Learnt, stop-of-reads.Asked, stop-of-reads.Learnt, block-below t, block.Post) (each-at t) each.Post
-each-returns t c =
-    rw (c .told .ensures) (for-bad (c .before .before .before .before .before .before .before .pre .1 .0) (c .before .before .before .before .before .before .before .pre .1 .1 .0) (c .before .before .before .before .before .before .before .pre .1 .1 .1) (c .before .before .before .elements .ensures) (c .before .if1 .taken))
-
--- src/lib.rt:747:9
-each-cell-of-requires : (t : ℕ) → each-lts.Need-cell-of-requires (elements-reads.Asked, elements-reads.Learnt, told-reads.Asked, told-reads.Learnt, cell-of-reads.Asked, cell-of-reads.Learnt, bind-reads.Asked, bind-reads.Learnt, stop-of-reads.Asked, stop-of-reads.Learnt, block-below t, block.Post) (each-at t) each.Post
-each-cell-of-requires t c κs =
-    for-small (c .before .before .before .before .before .before .pre .1 .0) (c .before .before .before .before .before .before .pre .1 .1 .0) (c .before .before .before .before .before .before .pre .1 .1 .1) (c .before .before .elements .ensures) (c .if1 .left)
-
--- src/lib.rt:749:5
-each-bind-requires : (t : ℕ) → each-lts.Need-bind-requires (elements-reads.Asked, elements-reads.Learnt, told-reads.Asked, told-reads.Learnt, cell-of-reads.Asked, cell-of-reads.Learnt, bind-reads.Asked, bind-reads.Learnt, stop-of-reads.Asked, stop-of-reads.Learnt, block-below t, block.Post) (each-at t) each.Post
-each-bind-requires t c κs =
-    (c .before .before .before .before .before .before .before .before .before .pre .1 .0 .ready .fit .high, for-name (c .before .before .before .before .before .before .before .before .before .pre .1 .0) (c .before .before .before .before .before .before .before .before .before .pre .1 .1 .0) (c .before .before .before .before .before .before .before .before .before .pre .1 .1 .1) (c .before .before .before .before .before .elements .ensures))
-
--- src/lib.rt:750:35
-each-add-stop-of : (t : ℕ) → each-lts.Need-add-stop-of (elements-reads.Asked, elements-reads.Learnt, told-reads.Asked, told-reads.Learnt, cell-of-reads.Asked, cell-of-reads.Learnt, bind-reads.Asked, bind-reads.Learnt, stop-of-reads.Asked, stop-of-reads.Learnt, block-below t, block.Post) (each-at t) each.Post
-each-add-stop-of t c =
-    let h = few-nodes (c .before .before .before .before .before .before .before .before .before .before .pre .1 .0 .ready .sound) in
-    let k = c .before .before .before .before .before .before .before .before .before .before .pre .1 .1 .0 .there in
-    omega arith
-
--- src/lib.rt:750:9
-each-stop-of-requires : (t : ℕ) → each-lts.Need-stop-of-requires (elements-reads.Asked, elements-reads.Learnt, told-reads.Asked, told-reads.Learnt, cell-of-reads.Asked, cell-of-reads.Learnt, bind-reads.Asked, bind-reads.Learnt, stop-of-reads.Asked, stop-of-reads.Learnt, block-below t, block.Post) (each-at t) each.Post
-each-stop-of-requires t c κs =
-    let r = c .before .before .before .before .before .before .before .before .before .before .pre .1 .0 in
-    (r .ready .sound .headed, (r .ready .nodes-at, pair-for (r .ready .sound) (c .before .before .before .before .before .before .before .before .before .before .pre .1 .1 .0) .first .there))
-
--- src/lib.rt:751:9
-each-block-requires : (t : ℕ) → each-lts.Need-block-requires (elements-reads.Asked, elements-reads.Learnt, told-reads.Asked, told-reads.Learnt, cell-of-reads.Asked, cell-of-reads.Learnt, bind-reads.Asked, bind-reads.Learnt, stop-of-reads.Asked, stop-of-reads.Learnt, block-below t, block.Post) (each-at t) each.Post
-each-block-requires t c κs =
-    let r = c .before .before .before .before .before .before .before .before .before .before .before .before .before .before .pre .1 .0 in
-    let q = c .before .before .before .before .before .before .before .before .before .before .before .before .before .before .pre .1 .1 .0 in (
-      omega (arith, c .before .before .before .before .before .before .before .before .before .before .before .before .before .before .pre .0),
-      (
-        for-standing r q (c .before .before .before .before .before .before .before .before .before .before .before .before .before .before .pre .1 .1 .1) (c .before .before .before .before .before .before .before .before .before .before .elements .ensures) (c .before .before .before .before .before .before .before .before .if1 .left) (c .before .before .before .before .before .before .before .cell-of .ensures) (c .before .before .before .before .bind .ensures) (c .before .before .before .stop-of .ensures),
-        second-at r (pair-for (r .ready .sound) q) (c .before .before .before .stop-of .ensures),
-      ),
-    )
-
--- src/lib.rt:766:5
-each-told-requires-2 : (t : ℕ) → each-lts.Need-told-requires-2 (elements-reads.Asked, elements-reads.Learnt, told-reads.Asked, told-reads.Learnt, cell-of-reads.Asked, cell-of-reads.Learnt, bind-reads.Asked, bind-reads.Learnt, stop-of-reads.Asked, stop-of-reads.Learnt, block-below t, block.Post) (each-at t) each.Post
-each-told-requires-2 t c κs =
-    search needs
-
--- src/lib.rt:719:1
-each-returns-2 : (t : ℕ) → each-lts.Need-returns-2 (elements-reads.Asked, elements-reads.Learnt, told-reads.Asked, told-reads.Learnt, cell-of-reads.Asked, cell-of-reads.Learnt, bind-reads.Asked, bind-reads.Learnt, stop-of-reads.Asked, stop-of-reads.Learnt, block-below t, block.Post) (each-at t) each.Post
-each-returns-2 t c =
-    rw (c .told2 .ensures) (for-done (c .before .before .before .before .before .before .before .before .before .before .before .before .before .before .before .before .before .pre .1 .0) (c .before .before .before .before .before .before .before .before .before .before .before .before .before .before .before .before .before .pre .1 .1 .0) (c .before .before .before .before .before .before .before .before .before .before .before .before .before .before .before .before .before .pre .1 .1 .1) (c .before .before .before .before .before .before .before .before .before .before .before .before .before .elements .ensures) (c .before .before .before .before .before .before .before .before .before .before .before .if1 .left) (c .before .before .before .before .before .before .before .before .before .before .cell-of .ensures) (c .before .before .before .before .before .before .before .bind .ensures) (c .before .before .before .before .before .before .stop-of .ensures) (c .before .before .block .ensures .0))
-
--- src/lib.rt:629:13
-one-arm-condition-requires : (t : ℕ) → one-arm-lts.Need-condition-requires (condition-reads.Asked, condition-reads.Learnt, told-reads.Asked, told-reads.Learnt, stop-of-reads.Asked, stop-of-reads.Learnt, block-below t, block.Post) (one-arm-at t) one-arm.Post
-one-arm-condition-requires t c κs =
-    (when-ready true (c .before .before .before .before .before .pre .1 .0) (c .before .before .before .before .before .pre .1 .1) (c .before .before .before .if1 .taken), c .before .before .before .before .before .pre .1 .1 .first)
-
--- src/lib.rt:633:13
-one-arm-told-requires : (t : ℕ) → one-arm-lts.Need-told-requires (condition-reads.Asked, condition-reads.Learnt, told-reads.Asked, told-reads.Learnt, stop-of-reads.Asked, stop-of-reads.Learnt, block-below t, block.Post) (one-arm-at t) one-arm.Post
-one-arm-told-requires t c κs =
-    search needs
-
--- src/lib.rt:633:13
-one-arm-returns : (t : ℕ) → one-arm-lts.Need-returns (condition-reads.Asked, condition-reads.Learnt, told-reads.Asked, told-reads.Learnt, stop-of-reads.Asked, stop-of-reads.Learnt, block-below t, block.Post) (one-arm-at t) one-arm.Post
-one-arm-returns t c =
-    rw (c .told .ensures) (arm-bad _ (c .before .before .before .before .before .before .before .before .before .pre .1 .0) (c .before .before .before .before .before .before .before .before .before .pre .1 .1) (c .before .before .before .before .before .before .before .if1 .taken) (c .before .before .before .condition .ensures) (c .before .if2 .taken))
-
--- src/lib.rt:635:13
-one-arm-stop-of-requires : (t : ℕ) → one-arm-lts.Need-stop-of-requires (condition-reads.Asked, condition-reads.Learnt, told-reads.Asked, told-reads.Learnt, stop-of-reads.Asked, stop-of-reads.Learnt, block-below t, block.Post) (one-arm-at t) one-arm.Post
-one-arm-stop-of-requires t c κs =
-    (c .before .before .before .before .before .before .before .before .pre .1 .0 .ready .sound .headed, (c .before .before .before .before .before .before .before .before .pre .1 .0 .ready .nodes-at, c .before .before .before .before .before .before .before .before .pre .1 .1 .first .there))
-
--- src/lib.rt:636:9
-one-arm-block-requires : (t : ℕ) → one-arm-lts.Need-block-requires (condition-reads.Asked, condition-reads.Learnt, told-reads.Asked, told-reads.Learnt, stop-of-reads.Asked, stop-of-reads.Learnt, block-below t, block.Post) (one-arm-at t) one-arm.Post
-one-arm-block-requires t c κs = (
-  omega (arith, c .before .before .before .before .before .before .before .before .before .before .before .before .pre .0),
+define-parameters-requires : (t : ℕ) → define-lts.Need-parameters-requires (wide-reads.Asked, wide-reads.Learnt, refused-reads.Asked, refused-reads.Learnt, node-at-reads.Asked, node-at-reads.Learnt, clear-reads.Asked, clear-reads.Learnt, parameters-reads.Asked, parameters-reads.Learnt, small-reads.Asked, small-reads.Learnt, block-below t, block.Post) (define-at t) define.Post
+define-parameters-requires t c κs = (
+  c .before .before .before .before .before .before .before .before .before .before .before .pre .1 .1 .0 .ready .sound,
   (
-    when-standing true (c .before .before .before .before .before .before .before .before .before .before .before .before .pre .1 .0) (c .before .before .before .before .before .before .before .before .before .before .before .before .pre .1 .1) (c .before .before .before .before .before .before .before .before .before .before .if1 .taken) (c .before .before .before .before .before .before .condition .ensures) (c .before .before .before .stop-of .ensures),
-    when-at true (c .before .before .before .before .before .before .before .before .before .before .before .before .pre .1 .0) (c .before .before .before .before .before .before .before .before .before .before .before .before .pre .1 .1) (c .before .before .before .before .before .before .before .before .before .before .if1 .taken) (c .before .before .before .before .before .before .condition .ensures) (c .before .before .before .stop-of .ensures),
+    c .before .before .before .before .before .before .before .before .before .before .before .pre .1 .1 .0 .ready .nodes-at,
+    omega (arith, c .before .before .before .before .before .if1 .left),
+    def-within (c .before .before .before .before .before .before .before .before .before .before .before .pre .1 .1 .0) (c .before .before .before .before .before .before .before .before .before .before .before .pre .1 .1 .1) (ap (λ d. d .children) (c .before .before .before .before .node-at .ensures)),
   ),
 )
 
--- src/lib.rt:636:9
-one-arm-returns-2 : (t : ℕ) → one-arm-lts.Need-returns-2 (condition-reads.Asked, condition-reads.Learnt, told-reads.Asked, told-reads.Learnt, stop-of-reads.Asked, stop-of-reads.Learnt, block-below t, block.Post) (one-arm-at t) one-arm.Post
+define-add-small : (t : ℕ) → define-lts.Need-add-small (wide-reads.Asked, wide-reads.Learnt, refused-reads.Asked, refused-reads.Learnt, node-at-reads.Asked, node-at-reads.Learnt, clear-reads.Asked, clear-reads.Learnt, parameters-reads.Asked, parameters-reads.Learnt, small-reads.Asked, small-reads.Learnt, block-below t, block.Post) (define-at t) define.Post
+define-add-small t c =
+    omega (arith, c .before .before .before .before .before .before .if1 .left)
+
+define-small-requires : (t : ℕ) → define-lts.Need-small-requires (wide-reads.Asked, wide-reads.Learnt, refused-reads.Asked, refused-reads.Learnt, node-at-reads.Asked, node-at-reads.Learnt, clear-reads.Asked, clear-reads.Learnt, parameters-reads.Asked, parameters-reads.Learnt, small-reads.Asked, small-reads.Learnt, block-below t, block.Post) (define-at t) define.Post
+define-small-requires t c κs =
+    omega (arith, c .before .before .before .before .before .before .if1 .left)
+
+define-element-write-notes : (t : ℕ) → define-lts.Need-element-write-notes (wide-reads.Asked, wide-reads.Learnt, refused-reads.Asked, refused-reads.Learnt, node-at-reads.Asked, node-at-reads.Learnt, clear-reads.Asked, clear-reads.Learnt, parameters-reads.Asked, parameters-reads.Learnt, small-reads.Asked, small-reads.Learnt, block-below t, block.Post) (define-at t) define.Post
+define-element-write-notes t c = search needs
+
+define-element-write-notes-2 : (t : ℕ) → define-lts.Need-element-write-notes-2 (wide-reads.Asked, wide-reads.Learnt, refused-reads.Asked, refused-reads.Learnt, node-at-reads.Asked, node-at-reads.Learnt, clear-reads.Asked, clear-reads.Learnt, parameters-reads.Asked, parameters-reads.Learnt, small-reads.Asked, small-reads.Learnt, block-below t, block.Post) (define-at t) define.Post
+define-element-write-notes-2 t c = search needs
+
+define-block-requires : (t : ℕ) → define-lts.Need-block-requires (wide-reads.Asked, wide-reads.Learnt, refused-reads.Asked, refused-reads.Learnt, node-at-reads.Asked, node-at-reads.Learnt, clear-reads.Asked, clear-reads.Learnt, parameters-reads.Asked, parameters-reads.Learnt, small-reads.Asked, small-reads.Learnt, block-below t, block.Post) (define-at t) define.Post
+define-block-requires t c κs =
+    let r = standing-as refl (c .before .before .before .before .before .before .before .before .before .before .before .before .before .wide .ensures) refl (c .before .before .before .before .before .before .before .before .before .before .before .before .before .before .before .before .before .pre .1 .1 .0) in
+    let q = c .before .before .before .before .before .before .before .before .before .before .before .before .before .before .before .before .before .pre .1 .1 .1 in
+    let m = ap (λ d. d .children) (c .before .before .before .before .before .before .before .before .before .before .node-at .ensures) in
+    let a = top-set (c .before .before .before .before .before .before .before .before .before .before .before .before .before .before .before .before .before .pre .1 .0) (c .before .before .before .before .small .ensures) in
+    let b = ret-clear (moved-noting (a .moved)) in
+    let o = moved-trans (a .moved) (b .moved) in (
+      omega (arith, c .before .before .before .before .before .before .before .before .before .before .before .before .before .before .before .before .before .pre .0),
+      (
+        moved-noting o,
+        (
+          standing-as (tab-moved o _) (b .top-kept ∙ a .top-is) (b .ret-is) (def-standing r q m (c .before .before .before .before .before .before .before .before .before .before .before .if1 .left) (c .before .before .before .before .before .before .before .clear .ensures) (c .before .before .before .before .before .parameters .ensures .1) (c .before .before .before .before .before .parameters .ensures .0)),
+          def-at-block r q m (c .before .before .before .before .before .before .before .before .before .before .before .if1 .left) (c .before .before .before .before .before .before .before .clear .ensures) (c .before .before .before .before .before .parameters .ensures .1) (c .before .before .before .before .before .parameters .ensures .0),
+        ),
+      ),
+    )
+
+define-element-write-notes-3 : (t : ℕ) → define-lts.Need-element-write-notes-3 (wide-reads.Asked, wide-reads.Learnt, refused-reads.Asked, refused-reads.Learnt, node-at-reads.Asked, node-at-reads.Learnt, clear-reads.Asked, clear-reads.Learnt, parameters-reads.Asked, parameters-reads.Learnt, small-reads.Asked, small-reads.Learnt, block-below t, block.Post) (define-at t) define.Post
+define-element-write-notes-3 t c = search needs
+
+define-same-length : (t : ℕ) → define-lts.Need-same-length (wide-reads.Asked, wide-reads.Learnt, refused-reads.Asked, refused-reads.Learnt, node-at-reads.Asked, node-at-reads.Learnt, clear-reads.Asked, clear-reads.Learnt, parameters-reads.Asked, parameters-reads.Learnt, small-reads.Asked, small-reads.Learnt, block-below t, block.Post) (define-at t) define.Post
+define-same-length t c = search needs
+
+define-returns-2 : (t : ℕ) → define-lts.Need-returns-2 (wide-reads.Asked, wide-reads.Learnt, refused-reads.Asked, refused-reads.Learnt, node-at-reads.Asked, node-at-reads.Learnt, clear-reads.Asked, clear-reads.Learnt, parameters-reads.Asked, parameters-reads.Learnt, small-reads.Asked, small-reads.Learnt, block-below t, block.Post) (define-at t) define.Post
+define-returns-2 t c =
+    let r = standing-as refl (c .before .before .before .before .before .before .before .before .before .before .before .before .before .before .before .before .before .wide .ensures) refl (c .before .before .before .before .before .before .before .before .before .before .before .before .before .before .before .before .before .before .before .before .before .pre .1 .1 .0) in
+    let q = c .before .before .before .before .before .before .before .before .before .before .before .before .before .before .before .before .before .before .before .before .before .pre .1 .1 .1 in
+    let m = ap (λ d. d .children) (c .before .before .before .before .before .before .before .before .before .before .before .before .before .before .node-at .ensures) in
+    let a = top-set (c .before .before .before .before .before .before .before .before .before .before .before .before .before .before .before .before .before .before .before .before .before .pre .1 .0) (c .before .before .before .before .before .before .before .before .small .ensures) in
+    let b = ret-clear (moved-noting (a .moved)) in
+    let d = body-from _ _ _ _ _ _ (tab-moved (moved-trans (a .moved) (b .moved)) _) (b .top-kept ∙ a .top-is) (b .ret-is) (c .before .before .before .block .ensures .0) in
+    let k = c .before .before .before .block .ensures .1 .0 in
+    let z = ret-back (c .before .before .before .before .before .before .before .before .before .before .before .before .before .before .before .before .before .before .before .before .before .pre .1 .0) (k .noting) in (
+      (λ loop. acted-from _ _ _ _ _ _ (c .before .before .before .before .before .before .before .before .before .before .before .before .before .before .before .before .before .wide .ensures) (done-moved (z .moved) _ (z .top-kept) (z .ret-is)
+          (def-bad r q m (c .before .before .before .before .before .before .before .before .before .before .before .before .before .before .before .if1 .left) (c .before .before .before .before .before .before .before .before .before .before .before .clear .ensures) (c .before .before .before .before .before .before .before .before .before .parameters .ensures .1) (c .before .before .before .before .before .before .before .before .before .parameters .ensures .0) d (went-ill (tells-self k) (c .if2 .taken)) loop))),
+      tells-moved (z .moved) k,
+    )
+
+define-element-copy-out-notes : (t : ℕ) → define-lts.Need-element-copy-out-notes (wide-reads.Asked, wide-reads.Learnt, refused-reads.Asked, refused-reads.Learnt, node-at-reads.Asked, node-at-reads.Learnt, clear-reads.Asked, clear-reads.Learnt, parameters-reads.Asked, parameters-reads.Learnt, small-reads.Asked, small-reads.Learnt, block-below t, block.Post) (define-at t) define.Post
+define-element-copy-out-notes t c = search needs
+
+define-sub-notes : (t : ℕ) → define-lts.Need-sub-notes (wide-reads.Asked, wide-reads.Learnt, refused-reads.Asked, refused-reads.Learnt, node-at-reads.Asked, node-at-reads.Learnt, clear-reads.Asked, clear-reads.Learnt, parameters-reads.Asked, parameters-reads.Learnt, small-reads.Asked, small-reads.Learnt, block-below t, block.Post) (define-at t) define.Post
+define-sub-notes t c =
+    let k = c .before .before .before .before .block .ensures .1 .0 in
+    let a = top-set (c .before .before .before .before .before .before .before .before .before .before .before .before .before .before .before .before .before .before .before .before .before .before .pre .1 .0) (c .before .before .before .before .before .before .before .before .before .small .ensures) in
+    let b = ret-clear (moved-noting (a .moved)) in
+    let z = ret-back (c .before .before .before .before .before .before .before .before .before .before .before .before .before .before .before .before .before .before .before .before .before .before .pre .1 .0) (k .noting) in
+    let f = c .before .before .before .before .block .ensures .0 .fine (well-shallow k (c .before .if2 .left)) in
+    omega (arith, f .raised, z .top-kept, b .top-kept, a .top-is)
+
+define-element-write-notes-4 : (t : ℕ) → define-lts.Need-element-write-notes-4 (wide-reads.Asked, wide-reads.Learnt, refused-reads.Asked, refused-reads.Learnt, node-at-reads.Asked, node-at-reads.Learnt, clear-reads.Asked, clear-reads.Learnt, parameters-reads.Asked, parameters-reads.Learnt, small-reads.Asked, small-reads.Learnt, block-below t, block.Post) (define-at t) define.Post
+define-element-write-notes-4 t c = search needs
+
+define-same-length-2 : (t : ℕ) → define-lts.Need-same-length-2 (wide-reads.Asked, wide-reads.Learnt, refused-reads.Asked, refused-reads.Learnt, node-at-reads.Asked, node-at-reads.Learnt, clear-reads.Asked, clear-reads.Learnt, parameters-reads.Asked, parameters-reads.Learnt, small-reads.Asked, small-reads.Learnt, block-below t, block.Post) (define-at t) define.Post
+define-same-length-2 t c = search needs
+
+define-returns-3 : (t : ℕ) → define-lts.Need-returns-3 (wide-reads.Asked, wide-reads.Learnt, refused-reads.Asked, refused-reads.Learnt, node-at-reads.Asked, node-at-reads.Learnt, clear-reads.Asked, clear-reads.Learnt, parameters-reads.Asked, parameters-reads.Learnt, small-reads.Asked, small-reads.Learnt, block-below t, block.Post) (define-at t) define.Post
+define-returns-3 t c =
+    let r = standing-as refl (c .before .before .before .before .before .before .before .before .before .before .before .before .before .before .before .before .before .before .wide .ensures) refl (c .before .before .before .before .before .before .before .before .before .before .before .before .before .before .before .before .before .before .before .before .before .before .pre .1 .1 .0) in
+    let q = c .before .before .before .before .before .before .before .before .before .before .before .before .before .before .before .before .before .before .before .before .before .before .pre .1 .1 .1 in
+    let m = ap (λ d. d .children) (c .before .before .before .before .before .before .before .before .before .before .before .before .before .before .before .node-at .ensures) in
+    let a = top-set (c .before .before .before .before .before .before .before .before .before .before .before .before .before .before .before .before .before .before .before .before .before .before .pre .1 .0) (c .before .before .before .before .before .before .before .before .before .small .ensures) in
+    let b = ret-clear (moved-noting (a .moved)) in
+    let d = body-from _ _ _ _ _ _ (tab-moved (moved-trans (a .moved) (b .moved)) _) (b .top-kept ∙ a .top-is) (b .ret-is) (c .before .before .before .before .block .ensures .0) in
+    let k = c .before .before .before .before .block .ensures .1 .0 in
+    let z = ret-back (c .before .before .before .before .before .before .before .before .before .before .before .before .before .before .before .before .before .before .before .before .before .before .pre .1 .0) (k .noting) in
+    let y = top-down (moved-noting (z .moved)) in (
+      (λ loop. acted-from _ _ _ _ _ _ (c .before .before .before .before .before .before .before .before .before .before .before .before .before .before .before .before .before .before .wide .ensures) (done-any refl (verdict-zero _)
+          (done-ends (tab-moved (moved-trans (z .moved) (y .moved)) _) (y .top-is ∙ ap (λ h. h - 1) (z .top-kept)) (y .ret-kept ∙ z .ret-is)
+          (def-done r q m (c .before .before .before .before .before .before .before .before .before .before .before .before .before .before .before .before .if1 .left) (c .before .before .before .before .before .before .before .before .before .before .before .before .clear .ensures) (c .before .before .before .before .before .before .before .before .before .before .parameters .ensures .1) (c .before .before .before .before .before .before .before .before .before .before .parameters .ensures .0) d (went-well (tells-self k) (c .before .if2 .left)) loop)))),
+      tells-zero (moved-noting (y .moved)),
+    )
+
+each-element-copy-out-wide : (t : ℕ) → each-lts.Need-element-copy-out-wide (wide-reads.Asked, wide-reads.Learnt, elements-reads.Asked, elements-reads.Learnt, node-at-reads.Asked, node-at-reads.Learnt, cell-of-reads.Asked, cell-of-reads.Learnt, bind-reads.Asked, bind-reads.Learnt, stop-of-reads.Asked, stop-of-reads.Learnt, block-below t, block.Post, small-reads.Asked, small-reads.Learnt) (each-at t) each.Post
+each-element-copy-out-wide t c = search needs
+
+each-wide-requires : (t : ℕ) → each-lts.Need-wide-requires (wide-reads.Asked, wide-reads.Learnt, elements-reads.Asked, elements-reads.Learnt, node-at-reads.Asked, node-at-reads.Learnt, cell-of-reads.Asked, cell-of-reads.Learnt, bind-reads.Asked, bind-reads.Learnt, stop-of-reads.Asked, stop-of-reads.Learnt, block-below t, block.Post, small-reads.Asked, small-reads.Learnt) (each-at t) each.Post
+each-wide-requires t c κs =
+    search needs
+
+each-add-elements : (t : ℕ) → each-lts.Need-add-elements (wide-reads.Asked, wide-reads.Learnt, elements-reads.Asked, elements-reads.Learnt, node-at-reads.Asked, node-at-reads.Learnt, cell-of-reads.Asked, cell-of-reads.Learnt, bind-reads.Asked, bind-reads.Learnt, stop-of-reads.Asked, stop-of-reads.Learnt, block-below t, block.Post, small-reads.Asked, small-reads.Learnt) (each-at t) each.Post
+each-add-elements t c =
+    omega (arith, few-nodes (c .before .before .before .before .before .before .before .pre .1 .1 .0 .ready .sound), c .before .before .before .before .before .before .before .pre .1 .1 .1 .there)
+
+each-elements-requires : (t : ℕ) → each-lts.Need-elements-requires (wide-reads.Asked, wide-reads.Learnt, elements-reads.Asked, elements-reads.Learnt, node-at-reads.Asked, node-at-reads.Learnt, cell-of-reads.Asked, cell-of-reads.Learnt, bind-reads.Asked, bind-reads.Learnt, stop-of-reads.Asked, stop-of-reads.Learnt, block-below t, block.Post, small-reads.Asked, small-reads.Learnt) (each-at t) each.Post
+each-elements-requires t c κs =
+    let r = standing-as refl (c .before .before .before .wide .ensures) refl (c .before .before .before .before .before .before .before .pre .1 .1 .0) in
+    let p = pair-for (r .ready .sound) (c .before .before .before .before .before .before .before .pre .1 .1 .1) in
+    (c .before .before .before .before .before .before .before .pre .1 .0, (first-ready r p, p .first))
+
+each-same-length : (t : ℕ) → each-lts.Need-same-length (wide-reads.Asked, wide-reads.Learnt, elements-reads.Asked, elements-reads.Learnt, node-at-reads.Asked, node-at-reads.Learnt, cell-of-reads.Asked, cell-of-reads.Learnt, bind-reads.Asked, bind-reads.Learnt, stop-of-reads.Asked, stop-of-reads.Learnt, block-below t, block.Post, small-reads.Asked, small-reads.Learnt) (each-at t) each.Post
+each-same-length t c = search needs
+
+each-returns : (t : ℕ) → each-lts.Need-returns (wide-reads.Asked, wide-reads.Learnt, elements-reads.Asked, elements-reads.Learnt, node-at-reads.Asked, node-at-reads.Learnt, cell-of-reads.Asked, cell-of-reads.Learnt, bind-reads.Asked, bind-reads.Learnt, stop-of-reads.Asked, stop-of-reads.Learnt, block-below t, block.Post, small-reads.Asked, small-reads.Learnt) (each-at t) each.Post
+each-returns t c =
+    let r = standing-as refl (c .before .before .before .before .before .before .before .wide .ensures) refl (c .before .before .before .before .before .before .before .before .before .before .before .pre .1 .1 .0) in
+    let k = c .before .before .before .elements .ensures .1 in (
+      (λ loop. acted-from _ _ _ _ _ _ (c .before .before .before .before .before .before .before .wide .ensures) (done-ends refl (k .top ∙ sym (c .before .before .before .before .before .before .before .wide .ensures)) (k .ret)
+          (for-bad r (c .before .before .before .before .before .before .before .before .before .before .before .pre .1 .1 .1) refl (c .before .before .before .elements .ensures .0) (went-ill k (c .if1 .taken)) loop))),
+      tells-kept k,
+    )
+
+each-node-at-requires : (t : ℕ) → each-lts.Need-node-at-requires (wide-reads.Asked, wide-reads.Learnt, elements-reads.Asked, elements-reads.Learnt, node-at-reads.Asked, node-at-reads.Learnt, cell-of-reads.Asked, cell-of-reads.Learnt, bind-reads.Asked, bind-reads.Learnt, stop-of-reads.Asked, stop-of-reads.Learnt, block-below t, block.Post, small-reads.Asked, small-reads.Learnt) (each-at t) each.Post
+each-node-at-requires t c κs =
+    (c .before .before .before .before .before .before .before .before .before .before .before .pre .1 .1 .0 .ready .sound .headed, (c .before .before .before .before .before .before .before .before .before .before .before .pre .1 .1 .0 .ready .nodes-at, c .before .before .before .before .before .before .before .before .before .before .before .pre .1 .1 .1 .there))
+
+each-cell-of-requires : (t : ℕ) → each-lts.Need-cell-of-requires (wide-reads.Asked, wide-reads.Learnt, elements-reads.Asked, elements-reads.Learnt, node-at-reads.Asked, node-at-reads.Learnt, cell-of-reads.Asked, cell-of-reads.Learnt, bind-reads.Asked, bind-reads.Learnt, stop-of-reads.Asked, stop-of-reads.Learnt, block-below t, block.Post, small-reads.Asked, small-reads.Learnt) (each-at t) each.Post
+each-cell-of-requires t c κs =
+    let r = standing-as refl (c .before .before .before .before .before .before .before .before .wide .ensures) refl (c .before .before .before .before .before .before .before .before .before .before .before .before .pre .1 .1 .0) in
+    for-small r (c .before .before .before .before .before .before .before .before .before .before .before .before .pre .1 .1 .1) refl (c .before .before .before .before .elements .ensures .0) (went-well (c .before .before .before .before .elements .ensures .1) (c .before .if1 .left))
+
+each-cast-bind : (t : ℕ) → each-lts.Need-cast-bind (wide-reads.Asked, wide-reads.Learnt, elements-reads.Asked, elements-reads.Learnt, node-at-reads.Asked, node-at-reads.Learnt, cell-of-reads.Asked, cell-of-reads.Learnt, bind-reads.Asked, bind-reads.Learnt, stop-of-reads.Asked, stop-of-reads.Learnt, block-below t, block.Post, small-reads.Asked, small-reads.Learnt) (each-at t) each.Post
+each-cast-bind t c = search needs
+
+each-bind-requires : (t : ℕ) → each-lts.Need-bind-requires (wide-reads.Asked, wide-reads.Learnt, elements-reads.Asked, elements-reads.Learnt, node-at-reads.Asked, node-at-reads.Learnt, cell-of-reads.Asked, cell-of-reads.Learnt, bind-reads.Asked, bind-reads.Learnt, stop-of-reads.Asked, stop-of-reads.Learnt, block-below t, block.Post, small-reads.Asked, small-reads.Learnt) (each-at t) each.Post
+each-bind-requires t c κs =
+    let r = standing-as refl (c .before .before .before .before .before .before .before .before .before .before .before .before .wide .ensures) refl (c .before .before .before .before .before .before .before .before .before .before .before .before .before .before .before .before .pre .1 .1 .0) in
+    (r .ready .fit .high, for-name r (c .before .before .before .before .before .before .before .before .before .before .before .before .before .before .before .before .pre .1 .1 .1) (ap (λ d. d .arg) (c .before .before .before .before .node-at .ensures)) (c .before .before .before .before .before .before .before .before .elements .ensures .0))
+
+each-add-stop-of : (t : ℕ) → each-lts.Need-add-stop-of (wide-reads.Asked, wide-reads.Learnt, elements-reads.Asked, elements-reads.Learnt, node-at-reads.Asked, node-at-reads.Learnt, cell-of-reads.Asked, cell-of-reads.Learnt, bind-reads.Asked, bind-reads.Learnt, stop-of-reads.Asked, stop-of-reads.Learnt, block-below t, block.Post, small-reads.Asked, small-reads.Learnt) (each-at t) each.Post
+each-add-stop-of t c =
+    let h = few-nodes (c .before .before .before .before .before .before .before .before .before .before .before .before .before .before .before .before .before .pre .1 .1 .0 .ready .sound) in
+    let k = c .before .before .before .before .before .before .before .before .before .before .before .before .before .before .before .before .before .pre .1 .1 .1 .there in
+    omega arith
+
+each-stop-of-requires : (t : ℕ) → each-lts.Need-stop-of-requires (wide-reads.Asked, wide-reads.Learnt, elements-reads.Asked, elements-reads.Learnt, node-at-reads.Asked, node-at-reads.Learnt, cell-of-reads.Asked, cell-of-reads.Learnt, bind-reads.Asked, bind-reads.Learnt, stop-of-reads.Asked, stop-of-reads.Learnt, block-below t, block.Post, small-reads.Asked, small-reads.Learnt) (each-at t) each.Post
+each-stop-of-requires t c κs =
+    let r = c .before .before .before .before .before .before .before .before .before .before .before .before .before .before .before .before .before .pre .1 .1 .0 in
+    (r .ready .sound .headed, (r .ready .nodes-at, pair-for (r .ready .sound) (c .before .before .before .before .before .before .before .before .before .before .before .before .before .before .before .before .before .pre .1 .1 .1) .first .there))
+
+each-block-requires : (t : ℕ) → each-lts.Need-block-requires (wide-reads.Asked, wide-reads.Learnt, elements-reads.Asked, elements-reads.Learnt, node-at-reads.Asked, node-at-reads.Learnt, cell-of-reads.Asked, cell-of-reads.Learnt, bind-reads.Asked, bind-reads.Learnt, stop-of-reads.Asked, stop-of-reads.Learnt, block-below t, block.Post, small-reads.Asked, small-reads.Learnt) (each-at t) each.Post
+each-block-requires t c κs =
+    let r = standing-as refl (c .before .before .before .before .before .before .before .before .before .before .before .before .before .before .before .before .before .before .wide .ensures) refl (c .before .before .before .before .before .before .before .before .before .before .before .before .before .before .before .before .before .before .before .before .before .before .pre .1 .1 .0) in
+    let q = c .before .before .before .before .before .before .before .before .before .before .before .before .before .before .before .before .before .before .before .before .before .before .pre .1 .1 .1 in
+    let k = c .before .before .before .before .before .before .before .before .before .before .before .before .before .before .elements .ensures .1 in
+    let m = ap (λ d. d .arg) (c .before .before .before .before .before .before .before .before .before .before .node-at .ensures) in (
+      omega (arith, c .before .before .before .before .before .before .before .before .before .before .before .before .before .before .before .before .before .before .before .before .before .before .pre .0),
+      (
+        kept-noting k,
+        (
+          standing-as refl (k .top ∙ sym (c .before .before .before .before .before .before .before .before .before .before .before .before .before .before .before .before .before .before .wide .ensures)) (k .ret)
+              (for-standing r q m (c .before .before .before .before .before .before .before .before .before .before .before .before .before .before .elements .ensures .0) (went-well k (c .before .before .before .before .before .before .before .before .before .before .before .if1 .left)) (c .before .before .before .before .before .before .before .before .before .cell-of .ensures) (c .before .before .before .before .before .bind .ensures) (c .before .before .before .before .stop-of .ensures)),
+          second-at r (pair-for (r .ready .sound) q) (c .before .before .before .before .stop-of .ensures),
+        ),
+      ),
+    )
+
+each-small-requires : (t : ℕ) → each-lts.Need-small-requires (wide-reads.Asked, wide-reads.Learnt, elements-reads.Asked, elements-reads.Learnt, node-at-reads.Asked, node-at-reads.Learnt, cell-of-reads.Asked, cell-of-reads.Learnt, bind-reads.Asked, bind-reads.Learnt, stop-of-reads.Asked, stop-of-reads.Learnt, block-below t, block.Post, small-reads.Asked, small-reads.Learnt) (each-at t) each.Post
+each-small-requires t c κs =
+    omega (arith, c .before .before .before .before .before .before .before .before .before .before .before .before .before .before .before .before .before .before .before .before .before .wide .ensures, c .before .before .before .before .before .before .before .before .before .before .before .before .before .before .before .before .before .before .before .before .before .before .before .before .before .pre .1 .1 .0 .ready .fit .high)
+
+each-element-write-notes : (t : ℕ) → each-lts.Need-element-write-notes (wide-reads.Asked, wide-reads.Learnt, elements-reads.Asked, elements-reads.Learnt, node-at-reads.Asked, node-at-reads.Learnt, cell-of-reads.Asked, cell-of-reads.Learnt, bind-reads.Asked, bind-reads.Learnt, stop-of-reads.Asked, stop-of-reads.Learnt, block-below t, block.Post, small-reads.Asked, small-reads.Learnt) (each-at t) each.Post
+each-element-write-notes t c = search needs
+
+each-same-length-2 : (t : ℕ) → each-lts.Need-same-length-2 (wide-reads.Asked, wide-reads.Learnt, elements-reads.Asked, elements-reads.Learnt, node-at-reads.Asked, node-at-reads.Learnt, cell-of-reads.Asked, cell-of-reads.Learnt, bind-reads.Asked, bind-reads.Learnt, stop-of-reads.Asked, stop-of-reads.Learnt, block-below t, block.Post, small-reads.Asked, small-reads.Learnt) (each-at t) each.Post
+each-same-length-2 t c = search needs
+
+each-returns-2 : (t : ℕ) → each-lts.Need-returns-2 (wide-reads.Asked, wide-reads.Learnt, elements-reads.Asked, elements-reads.Learnt, node-at-reads.Asked, node-at-reads.Learnt, cell-of-reads.Asked, cell-of-reads.Learnt, bind-reads.Asked, bind-reads.Learnt, stop-of-reads.Asked, stop-of-reads.Learnt, block-below t, block.Post, small-reads.Asked, small-reads.Learnt) (each-at t) each.Post
+each-returns-2 t c =
+    let r = standing-as refl (c .before .before .before .before .before .before .before .before .before .before .before .before .before .before .before .before .before .before .before .before .before .before .wide .ensures) refl (c .before .before .before .before .before .before .before .before .before .before .before .before .before .before .before .before .before .before .before .before .before .before .before .before .before .before .pre .1 .1 .0) in
+    let q = c .before .before .before .before .before .before .before .before .before .before .before .before .before .before .before .before .before .before .before .before .before .before .before .before .before .before .pre .1 .1 .1 in
+    let k = c .before .before .before .before .before .before .before .before .before .before .before .before .before .before .before .before .before .before .elements .ensures .1 in
+    let m = ap (λ d. d .arg) (c .before .before .before .before .before .before .before .before .before .before .before .before .before .before .node-at .ensures) in
+    let d = body-from _ _ _ _ _ _ refl (k .top ∙ sym (c .before .before .before .before .before .before .before .before .before .before .before .before .before .before .before .before .before .before .before .before .before .before .wide .ensures)) (k .ret) (c .before .before .before .block .ensures .0) in
+    let s = top-set (c .before .before .before .block .ensures .1 .0 .noting) (c .small .ensures) in (
+      (λ loop. acted-from _ _ _ _ _ _ (c .before .before .before .before .before .before .before .before .before .before .before .before .before .before .before .before .before .before .before .before .before .before .wide .ensures) (done-moved (s .moved) _ (s .top-is) (s .ret-kept)
+          (for-done r q m (c .before .before .before .before .before .before .before .before .before .before .before .before .before .before .before .before .before .before .elements .ensures .0) (went-well k (c .before .before .before .before .before .before .before .before .before .before .before .before .before .before .before .if1 .left)) (c .before .before .before .before .before .before .before .before .before .before .before .before .before .cell-of .ensures) (c .before .before .before .before .before .before .before .before .before .bind .ensures) (c .before .before .before .before .before .before .before .before .stop-of .ensures) d loop))),
+      tells-moved (s .moved) (c .before .before .before .block .ensures .1 .0),
+    )
+
+one-arm-element-copy-out-wide : (t : ℕ) → one-arm-lts.Need-element-copy-out-wide (wide-reads.Asked, wide-reads.Learnt, condition-reads.Asked, condition-reads.Learnt, stop-of-reads.Asked, stop-of-reads.Learnt, block-below t, block.Post) (one-arm-at t) one-arm.Post
+one-arm-element-copy-out-wide t c = search needs
+
+one-arm-wide-requires : (t : ℕ) → one-arm-lts.Need-wide-requires (wide-reads.Asked, wide-reads.Learnt, condition-reads.Asked, condition-reads.Learnt, stop-of-reads.Asked, stop-of-reads.Learnt, block-below t, block.Post) (one-arm-at t) one-arm.Post
+one-arm-wide-requires t c κs =
+    search needs
+
+one-arm-condition-requires : (t : ℕ) → one-arm-lts.Need-condition-requires (wide-reads.Asked, wide-reads.Learnt, condition-reads.Asked, condition-reads.Learnt, stop-of-reads.Asked, stop-of-reads.Learnt, block-below t, block.Post) (one-arm-at t) one-arm.Post
+one-arm-condition-requires t c κs =
+    let r = standing-as refl (c .before .before .before .before .wide .ensures) refl (c .before .before .before .before .before .before .before .before .before .pre .1 .1 .0) in
+    (c .before .before .before .before .before .before .before .before .before .pre .1 .0, (when-ready true r (c .before .before .before .before .before .before .before .before .before .pre .1 .1 .1) (c .before .before .before .before .before .before .if1 .taken), c .before .before .before .before .before .before .before .before .before .pre .1 .1 .1 .first))
+
+one-arm-same-length : (t : ℕ) → one-arm-lts.Need-same-length (wide-reads.Asked, wide-reads.Learnt, condition-reads.Asked, condition-reads.Learnt, stop-of-reads.Asked, stop-of-reads.Learnt, block-below t, block.Post) (one-arm-at t) one-arm.Post
+one-arm-same-length t c = search needs
+
+one-arm-returns : (t : ℕ) → one-arm-lts.Need-returns (wide-reads.Asked, wide-reads.Learnt, condition-reads.Asked, condition-reads.Learnt, stop-of-reads.Asked, stop-of-reads.Learnt, block-below t, block.Post) (one-arm-at t) one-arm.Post
+one-arm-returns t c =
+    let r = standing-as refl (c .before .before .before .before .before .before .before .before .wide .ensures) refl (c .before .before .before .before .before .before .before .before .before .before .before .before .before .pre .1 .1 .0) in
+    let k = c .before .before .before .condition .ensures .1 in (
+      armed-from _ _ _ _ _ (c .before .before .before .before .before .before .before .before .wide .ensures) (armed-ends (k .top ∙ sym (c .before .before .before .before .before .before .before .before .wide .ensures)) (k .ret)
+          (arm-bad _ r (c .before .before .before .before .before .before .before .before .before .before .before .before .before .pre .1 .1 .1) (c .before .before .before .before .before .before .before .before .before .before .if1 .taken) (c .before .before .before .condition .ensures .0) (went-ill k (c .if2 .taken)))),
+      tells-kept k,
+    )
+
+one-arm-stop-of-requires : (t : ℕ) → one-arm-lts.Need-stop-of-requires (wide-reads.Asked, wide-reads.Learnt, condition-reads.Asked, condition-reads.Learnt, stop-of-reads.Asked, stop-of-reads.Learnt, block-below t, block.Post) (one-arm-at t) one-arm.Post
+one-arm-stop-of-requires t c κs =
+    (c .before .before .before .before .before .before .before .before .before .before .before .before .before .pre .1 .1 .0 .ready .sound .headed, (c .before .before .before .before .before .before .before .before .before .before .before .before .before .pre .1 .1 .0 .ready .nodes-at, c .before .before .before .before .before .before .before .before .before .before .before .before .before .pre .1 .1 .1 .first .there))
+
+one-arm-block-requires : (t : ℕ) → one-arm-lts.Need-block-requires (wide-reads.Asked, wide-reads.Learnt, condition-reads.Asked, condition-reads.Learnt, stop-of-reads.Asked, stop-of-reads.Learnt, block-below t, block.Post) (one-arm-at t) one-arm.Post
+one-arm-block-requires t c κs =
+    let r = standing-as refl (c .before .before .before .before .before .before .before .before .before .before .before .before .before .wide .ensures) refl (c .before .before .before .before .before .before .before .before .before .before .before .before .before .before .before .before .before .before .pre .1 .1 .0) in
+    let k = c .before .before .before .before .before .before .before .before .condition .ensures .1 in (
+      omega (arith, c .before .before .before .before .before .before .before .before .before .before .before .before .before .before .before .before .before .before .pre .0),
+      (
+        kept-noting k,
+        (
+          standing-as refl (k .top ∙ sym (c .before .before .before .before .before .before .before .before .before .before .before .before .before .wide .ensures)) (k .ret)
+              (when-standing true r (c .before .before .before .before .before .before .before .before .before .before .before .before .before .before .before .before .before .before .pre .1 .1 .1) (c .before .before .before .before .before .before .before .before .before .before .before .before .before .before .before .if1 .taken) (c .before .before .before .before .before .before .before .before .condition .ensures .0) (c .before .before .before .before .stop-of .ensures)),
+          when-at true r (c .before .before .before .before .before .before .before .before .before .before .before .before .before .before .before .before .before .before .pre .1 .1 .1) (c .before .before .before .before .before .before .before .before .before .before .before .before .before .before .before .if1 .taken) (c .before .before .before .before .before .before .before .before .condition .ensures .0) (c .before .before .before .before .stop-of .ensures),
+        ),
+      ),
+    )
+
+one-arm-same-length-2 : (t : ℕ) → one-arm-lts.Need-same-length-2 (wide-reads.Asked, wide-reads.Learnt, condition-reads.Asked, condition-reads.Learnt, stop-of-reads.Asked, stop-of-reads.Learnt, block-below t, block.Post) (one-arm-at t) one-arm.Post
+one-arm-same-length-2 t c = search needs
+
+one-arm-returns-2 : (t : ℕ) → one-arm-lts.Need-returns-2 (wide-reads.Asked, wide-reads.Learnt, condition-reads.Asked, condition-reads.Learnt, stop-of-reads.Asked, stop-of-reads.Learnt, block-below t, block.Post) (one-arm-at t) one-arm.Post
 one-arm-returns-2 t c =
-    arm-done _ (c .before .before .before .before .before .before .before .before .before .before .before .before .before .pre .1 .0) (c .before .before .before .before .before .before .before .before .before .before .before .before .before .pre .1 .1) (c .before .before .before .before .before .before .before .before .before .before .before .if1 .taken) (c .before .before .before .before .before .before .before .condition .ensures) (c .before .before .before .before .stop-of .ensures) (c .before .before .before .before .before .if2 .left) (c .block .ensures .0)
-    (c .block .ensures .1)
+    let r = standing-as refl (c .before .before .before .before .before .before .before .before .before .before .before .before .before .before .before .before .wide .ensures) refl (c .before .before .before .before .before .before .before .before .before .before .before .before .before .before .before .before .before .before .before .before .before .pre .1 .1 .0) in
+    let k = c .before .before .before .before .before .before .before .before .before .before .before .condition .ensures .1 in
+    let d = body-from _ _ _ _ _ _ refl (k .top ∙ sym (c .before .before .before .before .before .before .before .before .before .before .before .before .before .before .before .before .wide .ensures)) (k .ret) (c .before .before .block .ensures .0) in (
+      armed-from _ _ _ _ _ (c .before .before .before .before .before .before .before .before .before .before .before .before .before .before .before .before .wide .ensures)
+          (arm-done _ r (c .before .before .before .before .before .before .before .before .before .before .before .before .before .before .before .before .before .before .before .before .before .pre .1 .1 .1) (c .before .before .before .before .before .before .before .before .before .before .before .before .before .before .before .before .before .before .if1 .taken) (c .before .before .before .before .before .before .before .before .before .before .before .condition .ensures .0) (c .before .before .before .before .before .before .before .stop-of .ensures) (went-well k (c .before .before .before .before .before .before .before .before .if2 .left)) d (c .before .before .block .ensures .1 .1)),
+      c .before .before .block .ensures .1 .0,
+    )
 
--- src/lib.rt:651:5
-one-arm-block-requires-2 : (t : ℕ) → one-arm-lts.Need-block-requires-2 (condition-reads.Asked, condition-reads.Learnt, told-reads.Asked, told-reads.Learnt, stop-of-reads.Asked, stop-of-reads.Learnt, block-below t, block.Post) (one-arm-at t) one-arm.Post
+one-arm-block-requires-2 : (t : ℕ) → one-arm-lts.Need-block-requires-2 (wide-reads.Asked, wide-reads.Learnt, condition-reads.Asked, condition-reads.Learnt, stop-of-reads.Asked, stop-of-reads.Learnt, block-below t, block.Post) (one-arm-at t) one-arm.Post
 one-arm-block-requires-2 t c κs =
-    (omega (arith, c .before .before .before .before .before .pre .0), (last-standing true (c .before .before .before .before .before .pre .1 .0) (c .before .before .before .before .before .pre .1 .1) (c .before .before .before .if1 .left), c .before .before .before .before .before .pre .1 .1 .first))
+    (omega (arith, c .before .before .before .before .before .before .before .pre .0), (c .before .before .before .before .before .before .before .pre .1 .0, (last-standing true (c .before .before .before .before .before .before .before .pre .1 .1 .0) (c .before .before .before .before .before .before .before .pre .1 .1 .1) (c .before .before .before .before .if1 .left), c .before .before .before .before .before .before .before .pre .1 .1 .1 .first)))
 
--- src/lib.rt:604:1
-one-arm-returns-3 : (t : ℕ) → one-arm-lts.Need-returns-3 (condition-reads.Asked, condition-reads.Learnt, told-reads.Asked, told-reads.Learnt, stop-of-reads.Asked, stop-of-reads.Learnt, block-below t, block.Post) (one-arm-at t) one-arm.Post
+one-arm-same-length-3 : (t : ℕ) → one-arm-lts.Need-same-length-3 (wide-reads.Asked, wide-reads.Learnt, condition-reads.Asked, condition-reads.Learnt, stop-of-reads.Asked, stop-of-reads.Learnt, block-below t, block.Post) (one-arm-at t) one-arm.Post
+one-arm-same-length-3 t c = search needs
+
+one-arm-returns-3 : (t : ℕ) → one-arm-lts.Need-returns-3 (wide-reads.Asked, wide-reads.Learnt, condition-reads.Asked, condition-reads.Learnt, stop-of-reads.Asked, stop-of-reads.Learnt, block-below t, block.Post) (one-arm-at t) one-arm.Post
 one-arm-returns-3 t c =
-    arm-last _ (c .before .before .before .before .before .before .pre .1 .0) (c .before .before .before .before .before .before .pre .1 .1) (c .before .before .before .before .if1 .left) (c .block2 .ensures .0) (c .block2 .ensures .1)
+    (arm-last _ (c .before .before .before .before .before .before .before .before .before .before .pre .1 .1 .0) (c .before .before .before .before .before .before .before .before .before .before .pre .1 .1 .1) (c .before .before .before .before .before .before .before .if1 .left) (c .before .before .block2 .ensures .0) (c .before .before .block2 .ensures .1 .1), c .before .before .block2 .ensures .1 .0)
 
--- src/lib.rt:791:70
-repeat-add-condition : (t : ℕ) → repeat-lts.Need-add-condition (condition-reads.Asked, condition-reads.Learnt, told-reads.Asked, told-reads.Learnt, stop-of-reads.Asked, stop-of-reads.Learnt, block-below t, block.Post) (repeat-at t) repeat.Post
+repeat-element-copy-out-wide : (t : ℕ) → repeat-lts.Need-element-copy-out-wide (wide-reads.Asked, wide-reads.Learnt, condition-reads.Asked, condition-reads.Learnt, stop-of-reads.Asked, stop-of-reads.Learnt, block-below t, block.Post, small-reads.Asked, small-reads.Learnt) (repeat-at t) repeat.Post
+repeat-element-copy-out-wide t c = search needs
+
+repeat-wide-requires : (t : ℕ) → repeat-lts.Need-wide-requires (wide-reads.Asked, wide-reads.Learnt, condition-reads.Asked, condition-reads.Learnt, stop-of-reads.Asked, stop-of-reads.Learnt, block-below t, block.Post, small-reads.Asked, small-reads.Learnt) (repeat-at t) repeat.Post
+repeat-wide-requires t c κs =
+    search needs
+
+repeat-add-condition : (t : ℕ) → repeat-lts.Need-add-condition (wide-reads.Asked, wide-reads.Learnt, condition-reads.Asked, condition-reads.Learnt, stop-of-reads.Asked, stop-of-reads.Learnt, block-below t, block.Post, small-reads.Asked, small-reads.Learnt) (repeat-at t) repeat.Post
 repeat-add-condition t c =
-    omega (arith, few-nodes (c .before .before .before .pre .1 .0 .ready .sound), c .before .before .before .pre .1 .1 .there)
+    omega (arith, few-nodes (c .before .before .before .before .before .before .before .pre .1 .1 .0 .ready .sound), c .before .before .before .before .before .before .before .pre .1 .1 .1 .there)
 
--- src/lib.rt:791:9
-repeat-condition-requires : (t : ℕ) → repeat-lts.Need-condition-requires (condition-reads.Asked, condition-reads.Learnt, told-reads.Asked, told-reads.Learnt, stop-of-reads.Asked, stop-of-reads.Learnt, block-below t, block.Post) (repeat-at t) repeat.Post
+repeat-condition-requires : (t : ℕ) → repeat-lts.Need-condition-requires (wide-reads.Asked, wide-reads.Learnt, condition-reads.Asked, condition-reads.Learnt, stop-of-reads.Asked, stop-of-reads.Learnt, block-below t, block.Post, small-reads.Asked, small-reads.Learnt) (repeat-at t) repeat.Post
 repeat-condition-requires t c κs =
-    let r = c .before .before .before .pre .1 .0 in
-    let p = pair-while (r .ready .sound) (c .before .before .before .pre .1 .1) in
-    (first-ready r p, p .first)
+    let r = standing-as refl (c .before .before .before .wide .ensures) refl (c .before .before .before .before .before .before .before .pre .1 .1 .0) in
+    let p = pair-while (r .ready .sound) (c .before .before .before .before .before .before .before .pre .1 .1 .1) in
+    (c .before .before .before .before .before .before .before .pre .1 .0, (first-ready r p, p .first))
 
--- src/lib.rt:795:9
-repeat-told-requires : (t : ℕ) → repeat-lts.Need-told-requires (condition-reads.Asked, condition-reads.Learnt, told-reads.Asked, told-reads.Learnt, stop-of-reads.Asked, stop-of-reads.Learnt, block-below t, block.Post) (repeat-at t) repeat.Post
-repeat-told-requires t c κs =
-    search needs
+repeat-same-length : (t : ℕ) → repeat-lts.Need-same-length (wide-reads.Asked, wide-reads.Learnt, condition-reads.Asked, condition-reads.Learnt, stop-of-reads.Asked, stop-of-reads.Learnt, block-below t, block.Post, small-reads.Asked, small-reads.Learnt) (repeat-at t) repeat.Post
+repeat-same-length t c = search needs
 
--- src/lib.rt:795:9
-repeat-returns : (t : ℕ) → repeat-lts.Need-returns (condition-reads.Asked, condition-reads.Learnt, told-reads.Asked, told-reads.Learnt, stop-of-reads.Asked, stop-of-reads.Learnt, block-below t, block.Post) (repeat-at t) repeat.Post
+repeat-returns : (t : ℕ) → repeat-lts.Need-returns (wide-reads.Asked, wide-reads.Learnt, condition-reads.Asked, condition-reads.Learnt, stop-of-reads.Asked, stop-of-reads.Learnt, block-below t, block.Post, small-reads.Asked, small-reads.Learnt) (repeat-at t) repeat.Post
 repeat-returns t c =
-    rw (c .told .ensures) (while-bad (c .before .before .before .before .before .before .before .pre .1 .0) (c .before .before .before .before .before .before .before .pre .1 .1) (c .before .before .before .condition .ensures) (c .before .if1 .taken))
+    let r = standing-as refl (c .before .before .before .before .before .before .before .wide .ensures) refl (c .before .before .before .before .before .before .before .before .before .before .before .pre .1 .1 .0) in
+    let k = c .before .before .before .condition .ensures .1 in (
+      (λ loop. acted-from _ _ _ _ _ _ (c .before .before .before .before .before .before .before .wide .ensures) (done-ends refl (k .top ∙ sym (c .before .before .before .before .before .before .before .wide .ensures)) (k .ret)
+          (while-bad r (c .before .before .before .before .before .before .before .before .before .before .before .pre .1 .1 .1) (c .before .before .before .condition .ensures .0) (went-ill k (c .if1 .taken)) loop))),
+      tells-kept k,
+    )
 
--- src/lib.rt:798:35
-repeat-add-stop-of : (t : ℕ) → repeat-lts.Need-add-stop-of (condition-reads.Asked, condition-reads.Learnt, told-reads.Asked, told-reads.Learnt, stop-of-reads.Asked, stop-of-reads.Learnt, block-below t, block.Post) (repeat-at t) repeat.Post
+repeat-add-stop-of : (t : ℕ) → repeat-lts.Need-add-stop-of (wide-reads.Asked, wide-reads.Learnt, condition-reads.Asked, condition-reads.Learnt, stop-of-reads.Asked, stop-of-reads.Learnt, block-below t, block.Post, small-reads.Asked, small-reads.Learnt) (repeat-at t) repeat.Post
 repeat-add-stop-of t c =
-    let h = few-nodes (c .before .before .before .before .before .before .before .pre .1 .0 .ready .sound) in
-    let k = c .before .before .before .before .before .before .before .pre .1 .1 .there in
+    let h = few-nodes (c .before .before .before .before .before .before .before .before .before .before .before .before .pre .1 .1 .0 .ready .sound) in
+    let k = c .before .before .before .before .before .before .before .before .before .before .before .before .pre .1 .1 .1 .there in
     omega arith
 
--- src/lib.rt:798:9
-repeat-stop-of-requires : (t : ℕ) → repeat-lts.Need-stop-of-requires (condition-reads.Asked, condition-reads.Learnt, told-reads.Asked, told-reads.Learnt, stop-of-reads.Asked, stop-of-reads.Learnt, block-below t, block.Post) (repeat-at t) repeat.Post
+repeat-stop-of-requires : (t : ℕ) → repeat-lts.Need-stop-of-requires (wide-reads.Asked, wide-reads.Learnt, condition-reads.Asked, condition-reads.Learnt, stop-of-reads.Asked, stop-of-reads.Learnt, block-below t, block.Post, small-reads.Asked, small-reads.Learnt) (repeat-at t) repeat.Post
 repeat-stop-of-requires t c κs =
-    let r = c .before .before .before .before .before .before .before .pre .1 .0 in
-    (r .ready .sound .headed, (r .ready .nodes-at, pair-while (r .ready .sound) (c .before .before .before .before .before .before .before .pre .1 .1) .first .there))
+    let r = c .before .before .before .before .before .before .before .before .before .before .before .before .pre .1 .1 .0 in
+    (r .ready .sound .headed, (r .ready .nodes-at, pair-while (r .ready .sound) (c .before .before .before .before .before .before .before .before .before .before .before .before .pre .1 .1 .1) .first .there))
 
--- src/lib.rt:799:9
-repeat-block-requires : (t : ℕ) → repeat-lts.Need-block-requires (condition-reads.Asked, condition-reads.Learnt, told-reads.Asked, told-reads.Learnt, stop-of-reads.Asked, stop-of-reads.Learnt, block-below t, block.Post) (repeat-at t) repeat.Post
+repeat-block-requires : (t : ℕ) → repeat-lts.Need-block-requires (wide-reads.Asked, wide-reads.Learnt, condition-reads.Asked, condition-reads.Learnt, stop-of-reads.Asked, stop-of-reads.Learnt, block-below t, block.Post, small-reads.Asked, small-reads.Learnt) (repeat-at t) repeat.Post
 repeat-block-requires t c κs =
-    let r = c .before .before .before .before .before .before .before .before .before .before .before .pre .1 .0 in
-    let p = pair-while (r .ready .sound) (c .before .before .before .before .before .before .before .before .before .before .before .pre .1 .1) in (
-      omega (arith, c .before .before .before .before .before .before .before .before .before .before .before .pre .0),
+    let r = standing-as refl (c .before .before .before .before .before .before .before .before .before .before .before .before .before .wide .ensures) refl (c .before .before .before .before .before .before .before .before .before .before .before .before .before .before .before .before .before .pre .1 .1 .0) in
+    let p = pair-while (r .ready .sound) (c .before .before .before .before .before .before .before .before .before .before .before .before .before .before .before .before .before .pre .1 .1 .1) in
+    let k = c .before .before .before .before .before .before .before .before .before .condition .ensures .1 in (
+      omega (arith, c .before .before .before .before .before .before .before .before .before .before .before .before .before .before .before .before .before .pre .0),
       (
-        second-standing r p (c .before .before .before .stop-of .ensures) (c .before .before .before .before .before .before .before .condition .ensures .left) (c .before .before .before .before .before .before .before .condition .ensures .left .fit),
-        second-at r p (c .before .before .before .stop-of .ensures),
+        kept-noting k,
+        (
+          standing-as refl (k .top ∙ sym (c .before .before .before .before .before .before .before .before .before .before .before .before .before .wide .ensures)) (k .ret)
+              (second-standing r p (c .before .before .before .before .stop-of .ensures) (c .before .before .before .before .before .before .before .before .before .condition .ensures .0 .left) (c .before .before .before .before .before .before .before .before .before .condition .ensures .0 .left .fit)),
+          second-at r p (c .before .before .before .before .stop-of .ensures),
+        ),
       ),
     )
 
--- src/lib.rt:814:5
-repeat-told-requires-2 : (t : ℕ) → repeat-lts.Need-told-requires-2 (condition-reads.Asked, condition-reads.Learnt, told-reads.Asked, told-reads.Learnt, stop-of-reads.Asked, stop-of-reads.Learnt, block-below t, block.Post) (repeat-at t) repeat.Post
-repeat-told-requires-2 t c κs =
+repeat-small-requires : (t : ℕ) → repeat-lts.Need-small-requires (wide-reads.Asked, wide-reads.Learnt, condition-reads.Asked, condition-reads.Learnt, stop-of-reads.Asked, stop-of-reads.Learnt, block-below t, block.Post, small-reads.Asked, small-reads.Learnt) (repeat-at t) repeat.Post
+repeat-small-requires t c κs =
+    omega (arith, c .before .before .before .before .before .before .before .before .before .before .before .before .before .before .before .before .wide .ensures, c .before .before .before .before .before .before .before .before .before .before .before .before .before .before .before .before .before .before .before .before .pre .1 .1 .0 .ready .fit .high)
+
+repeat-element-write-notes : (t : ℕ) → repeat-lts.Need-element-write-notes (wide-reads.Asked, wide-reads.Learnt, condition-reads.Asked, condition-reads.Learnt, stop-of-reads.Asked, stop-of-reads.Learnt, block-below t, block.Post, small-reads.Asked, small-reads.Learnt) (repeat-at t) repeat.Post
+repeat-element-write-notes t c = search needs
+
+repeat-same-length-2 : (t : ℕ) → repeat-lts.Need-same-length-2 (wide-reads.Asked, wide-reads.Learnt, condition-reads.Asked, condition-reads.Learnt, stop-of-reads.Asked, stop-of-reads.Learnt, block-below t, block.Post, small-reads.Asked, small-reads.Learnt) (repeat-at t) repeat.Post
+repeat-same-length-2 t c = search needs
+
+repeat-returns-2 : (t : ℕ) → repeat-lts.Need-returns-2 (wide-reads.Asked, wide-reads.Learnt, condition-reads.Asked, condition-reads.Learnt, stop-of-reads.Asked, stop-of-reads.Learnt, block-below t, block.Post, small-reads.Asked, small-reads.Learnt) (repeat-at t) repeat.Post
+repeat-returns-2 t c =
+    let r = standing-as refl (c .before .before .before .before .before .before .before .before .before .before .before .before .before .before .before .before .before .wide .ensures) refl (c .before .before .before .before .before .before .before .before .before .before .before .before .before .before .before .before .before .before .before .before .before .pre .1 .1 .0) in
+    let k = c .before .before .before .before .before .before .before .before .before .before .before .before .before .condition .ensures .1 in
+    let d = body-from _ _ _ _ _ _ refl (k .top ∙ sym (c .before .before .before .before .before .before .before .before .before .before .before .before .before .before .before .before .before .wide .ensures)) (k .ret) (c .before .before .before .block .ensures .0) in
+    let s = top-set (c .before .before .before .block .ensures .1 .0 .noting) (c .small .ensures) in (
+      (λ loop. acted-from _ _ _ _ _ _ (c .before .before .before .before .before .before .before .before .before .before .before .before .before .before .before .before .before .wide .ensures) (done-moved (s .moved) _ (s .top-is) (s .ret-kept)
+          (while-done r (c .before .before .before .before .before .before .before .before .before .before .before .before .before .before .before .before .before .before .before .before .before .pre .1 .1 .1) (c .before .before .before .before .before .before .before .before .before .before .before .before .before .condition .ensures .0) (went-well k (c .before .before .before .before .before .before .before .before .before .before .if1 .left)) (c .before .before .before .before .before .before .before .before .stop-of .ensures) d loop))),
+      tells-moved (s .moved) (c .before .before .before .block .ensures .1 .0),
+    )
+
+stmt-node-at-requires : (t : ℕ) → stmt-lts.Need-node-at-requires (node-at-reads.Asked, node-at-reads.Learnt, wide-reads.Asked, wide-reads.Learnt, choices-below t, choices.Post, repeat-below t, repeat.Post, each-below t, each.Post, define-below t, define.Post, simple-reads.Asked, simple-reads.Learnt) (stmt-at t) stmt.Post
+stmt-node-at-requires t c κs =
+    (c .before .before .pre .1 .1 .0 .ready .sound .headed, (c .before .before .pre .1 .1 .0 .ready .nodes-at, c .before .before .pre .1 .1 .1 .there))
+
+stmt-sub-d : (t : ℕ) → stmt-lts.Need-sub-d (node-at-reads.Asked, node-at-reads.Learnt, wide-reads.Asked, wide-reads.Learnt, choices-below t, choices.Post, repeat-below t, repeat.Post, each-below t, each.Post, define-below t, define.Post, simple-reads.Asked, simple-reads.Learnt) (stmt-at t) stmt.Post
+stmt-sub-d t c =
+    let h = some-depth (c .before .before .before .pre .1 .1 .0 .ready .sound) (c .before .before .before .pre .1 .1 .1) in
+    omega arith
+
+stmt-element-copy-out-wide : (t : ℕ) → stmt-lts.Need-element-copy-out-wide (node-at-reads.Asked, node-at-reads.Learnt, wide-reads.Asked, wide-reads.Learnt, choices-below t, choices.Post, repeat-below t, repeat.Post, each-below t, each.Post, define-below t, define.Post, simple-reads.Asked, simple-reads.Learnt) (stmt-at t) stmt.Post
+stmt-element-copy-out-wide t c = search needs
+
+stmt-wide-requires : (t : ℕ) → stmt-lts.Need-wide-requires (node-at-reads.Asked, node-at-reads.Learnt, wide-reads.Asked, wide-reads.Learnt, choices-below t, choices.Post, repeat-below t, repeat.Post, each-below t, each.Post, define-below t, define.Post, simple-reads.Asked, simple-reads.Learnt) (stmt-at t) stmt.Post
+stmt-wide-requires t c κs =
     search needs
 
--- src/lib.rt:770:1
-repeat-returns-2 : (t : ℕ) → repeat-lts.Need-returns-2 (condition-reads.Asked, condition-reads.Learnt, told-reads.Asked, told-reads.Learnt, stop-of-reads.Asked, stop-of-reads.Learnt, block-below t, block.Post) (repeat-at t) repeat.Post
-repeat-returns-2 t c =
-    rw (c .told2 .ensures) (while-done (c .before .before .before .before .before .before .before .before .before .before .before .before .before .before .pre .1 .0) (c .before .before .before .before .before .before .before .before .before .before .before .before .before .before .pre .1 .1) (c .before .before .before .before .before .before .before .before .before .before .condition .ensures) (c .before .before .before .before .before .before .before .before .if1 .left) (c .before .before .before .before .before .before .stop-of .ensures) (c .before .before .block .ensures .0))
-
--- src/lib.rt:441:9
-stmt-node-at-requires : (t : ℕ) → stmt-lts.Need-node-at-requires (node-at-reads.Asked, node-at-reads.Learnt, choices-below t, choices.Post, repeat-below t, repeat.Post, each-below t, each.Post, define-below t, define.Post, simple-reads.Asked, simple-reads.Learnt) (stmt-at t) stmt.Post
-stmt-node-at-requires t c κs =
-    (c .before .pre .1 .0 .ready .sound .headed, (c .before .pre .1 .0 .ready .nodes-at, c .before .pre .1 .1 .there))
-
--- src/lib.rt:443:13
-stmt-cast-n : (t : ℕ) → stmt-lts.Need-cast-n (node-at-reads.Asked, node-at-reads.Learnt, choices-below t, choices.Post, repeat-below t, repeat.Post, each-below t, each.Post, define-below t, define.Post, simple-reads.Asked, simple-reads.Learnt) (stmt-at t) stmt.Post
-stmt-cast-n t c = search needs
-
--- src/lib.rt:444:13
-stmt-cast-x : (t : ℕ) → stmt-lts.Need-cast-x (node-at-reads.Asked, node-at-reads.Learnt, choices-below t, choices.Post, repeat-below t, repeat.Post, each-below t, each.Post, define-below t, define.Post, simple-reads.Asked, simple-reads.Learnt) (stmt-at t) stmt.Post
-stmt-cast-x t c = search needs
-
--- src/lib.rt:445:13
-stmt-sub-d : (t : ℕ) → stmt-lts.Need-sub-d (node-at-reads.Asked, node-at-reads.Learnt, choices-below t, choices.Post, repeat-below t, repeat.Post, each-below t, each.Post, define-below t, define.Post, simple-reads.Asked, simple-reads.Learnt) (stmt-at t) stmt.Post
-stmt-sub-d t c =
-    let h = some-depth (c .before .before .before .before .pre .1 .0 .ready .sound) (c .before .before .before .before .pre .1 .1) in
-    omega arith
-
--- src/lib.rt:447:14
-stmt-choices-requires : (t : ℕ) → stmt-lts.Need-choices-requires (node-at-reads.Asked, node-at-reads.Learnt, choices-below t, choices.Post, repeat-below t, repeat.Post, each-below t, each.Post, define-below t, define.Post, simple-reads.Asked, simple-reads.Learnt) (stmt-at t) stmt.Post
+stmt-choices-requires : (t : ℕ) → stmt-lts.Need-choices-requires (node-at-reads.Asked, node-at-reads.Learnt, wide-reads.Asked, wide-reads.Learnt, choices-below t, choices.Post, repeat-below t, repeat.Post, each-below t, each.Post, define-below t, define.Post, simple-reads.Asked, simple-reads.Learnt) (stmt-at t) stmt.Post
 stmt-choices-requires t c κs =
-    let s = c .before .before .before .before .before .before .before .before .pre .1 .0 .ready .sound in
-    let k = ap (λ d. d .kind) (c .before .before .before .before .before .before .node-at .ensures) in (
-      omega (arith, c .before .before .before .before .before .before .before .before .pre .0, some-depth s (c .before .before .before .before .before .before .before .before .pre .1 .1)),
-      (
-        c .before .before .before .before .before .before .before .before .pre .1 .0,
-        (stmt-here s (c .before .before .before .before .before .before .before .before .pre .1 .1) (sym (c .before .before .before .match .keys1) ∙ k), ap (λ d. d .children) (c .before .before .before .before .before .before .node-at .ensures)),
-      ),
-    )
+    let s = c .before .before .before .before .before .before .before .before .before .before .pre .1 .1 .0 .ready .sound in
+    let k = ap (λ d. d .kind) (c .before .before .before .before .before .before .before .node-at .ensures) in
+    (omega (arith, c .before .before .before .before .before .before .before .before .before .before .pre .0, some-depth s (c .before .before .before .before .before .before .before .before .before .before .pre .1 .1 .1)), (c .before .before .before .before .before .before .before .before .before .before .pre .1 .0, (c .before .before .before .before .before .before .before .before .before .before .pre .1 .1 .0, stmt-here s (c .before .before .before .before .before .before .before .before .before .before .pre .1 .1 .1) (sym (c .before .before .before .before .match .keys1) ∙ k))))
 
--- src/lib.rt:461:14
-stmt-repeat-requires : (t : ℕ) → stmt-lts.Need-repeat-requires (node-at-reads.Asked, node-at-reads.Learnt, choices-below t, choices.Post, repeat-below t, repeat.Post, each-below t, each.Post, define-below t, define.Post, simple-reads.Asked, simple-reads.Learnt) (stmt-at t) stmt.Post
+stmt-repeat-requires : (t : ℕ) → stmt-lts.Need-repeat-requires (node-at-reads.Asked, node-at-reads.Learnt, wide-reads.Asked, wide-reads.Learnt, choices-below t, choices.Post, repeat-below t, repeat.Post, each-below t, each.Post, define-below t, define.Post, simple-reads.Asked, simple-reads.Learnt) (stmt-at t) stmt.Post
 stmt-repeat-requires t c κs =
-    let s = c .before .before .before .before .before .before .before .before .pre .1 .0 .ready .sound in
-    let k = ap (λ d. d .kind) (c .before .before .before .before .before .before .node-at .ensures) in
-    (omega (arith, c .before .before .before .before .before .before .before .before .pre .0, some-depth s (c .before .before .before .before .before .before .before .before .pre .1 .1)), (c .before .before .before .before .before .before .before .before .pre .1 .0, stmt-here s (c .before .before .before .before .before .before .before .before .pre .1 .1) (sym (c .before .before .before .match .keys2) ∙ k)))
+    let s = c .before .before .before .before .before .before .before .before .before .before .pre .1 .1 .0 .ready .sound in
+    let k = ap (λ d. d .kind) (c .before .before .before .before .before .before .before .node-at .ensures) in
+    (omega (arith, c .before .before .before .before .before .before .before .before .before .before .pre .0, some-depth s (c .before .before .before .before .before .before .before .before .before .before .pre .1 .1 .1)), (c .before .before .before .before .before .before .before .before .before .before .pre .1 .0, (c .before .before .before .before .before .before .before .before .before .before .pre .1 .1 .0, stmt-here s (c .before .before .before .before .before .before .before .before .before .before .pre .1 .1 .1) (sym (c .before .before .before .before .match .keys2) ∙ k))))
 
--- src/lib.rt:462:15
-stmt-each-requires : (t : ℕ) → stmt-lts.Need-each-requires (node-at-reads.Asked, node-at-reads.Learnt, choices-below t, choices.Post, repeat-below t, repeat.Post, each-below t, each.Post, define-below t, define.Post, simple-reads.Asked, simple-reads.Learnt) (stmt-at t) stmt.Post
+stmt-each-requires : (t : ℕ) → stmt-lts.Need-each-requires (node-at-reads.Asked, node-at-reads.Learnt, wide-reads.Asked, wide-reads.Learnt, choices-below t, choices.Post, repeat-below t, repeat.Post, each-below t, each.Post, define-below t, define.Post, simple-reads.Asked, simple-reads.Learnt) (stmt-at t) stmt.Post
 stmt-each-requires t c κs =
-    let s = c .before .before .before .before .before .before .before .before .pre .1 .0 .ready .sound in
-    let k = ap (λ d. d .kind) (c .before .before .before .before .before .before .node-at .ensures) in (
-      omega (arith, c .before .before .before .before .before .before .before .before .pre .0, some-depth s (c .before .before .before .before .before .before .before .before .pre .1 .1)),
-      (
-        c .before .before .before .before .before .before .before .before .pre .1 .0,
-        (stmt-here s (c .before .before .before .before .before .before .before .before .pre .1 .1) (sym (c .before .before .before .match .keys3) ∙ k), ap (λ d. d .arg) (c .before .before .before .before .before .before .node-at .ensures)),
-      ),
-    )
+    let s = c .before .before .before .before .before .before .before .before .before .before .pre .1 .1 .0 .ready .sound in
+    let k = ap (λ d. d .kind) (c .before .before .before .before .before .before .before .node-at .ensures) in
+    (omega (arith, c .before .before .before .before .before .before .before .before .before .before .pre .0, some-depth s (c .before .before .before .before .before .before .before .before .before .before .pre .1 .1 .1)), (c .before .before .before .before .before .before .before .before .before .before .pre .1 .0, (c .before .before .before .before .before .before .before .before .before .before .pre .1 .1 .0, stmt-here s (c .before .before .before .before .before .before .before .before .before .before .pre .1 .1 .1) (sym (c .before .before .before .before .match .keys3) ∙ k))))
 
--- src/lib.rt:463:15
-stmt-define-requires : (t : ℕ) → stmt-lts.Need-define-requires (node-at-reads.Asked, node-at-reads.Learnt, choices-below t, choices.Post, repeat-below t, repeat.Post, each-below t, each.Post, define-below t, define.Post, simple-reads.Asked, simple-reads.Learnt) (stmt-at t) stmt.Post
+stmt-define-requires : (t : ℕ) → stmt-lts.Need-define-requires (node-at-reads.Asked, node-at-reads.Learnt, wide-reads.Asked, wide-reads.Learnt, choices-below t, choices.Post, repeat-below t, repeat.Post, each-below t, each.Post, define-below t, define.Post, simple-reads.Asked, simple-reads.Learnt) (stmt-at t) stmt.Post
 stmt-define-requires t c κs =
-    let s = c .before .before .before .before .before .before .before .before .pre .1 .0 .ready .sound in
-    let k = ap (λ d. d .kind) (c .before .before .before .before .before .before .node-at .ensures) in (
-      omega (arith, c .before .before .before .before .before .before .before .before .pre .0, some-depth s (c .before .before .before .before .before .before .before .before .pre .1 .1)),
+    let s = c .before .before .before .before .before .before .before .before .before .before .pre .1 .1 .0 .ready .sound in
+    let k = ap (λ d. d .kind) (c .before .before .before .before .before .before .before .node-at .ensures) in
+    (omega (arith, c .before .before .before .before .before .before .before .before .before .before .pre .0, some-depth s (c .before .before .before .before .before .before .before .before .before .before .pre .1 .1 .1)), (c .before .before .before .before .before .before .before .before .before .before .pre .1 .0, (c .before .before .before .before .before .before .before .before .before .before .pre .1 .1 .0, stmt-here s (c .before .before .before .before .before .before .before .before .before .before .pre .1 .1 .1) (sym (c .before .before .before .before .match .keys4) ∙ k))))
+
+stmt-simple-requires : (t : ℕ) → stmt-lts.Need-simple-requires (node-at-reads.Asked, node-at-reads.Learnt, wide-reads.Asked, wide-reads.Learnt, choices-below t, choices.Post, repeat-below t, repeat.Post, each-below t, each.Post, define-below t, define.Post, simple-reads.Asked, simple-reads.Learnt) (stmt-at t) stmt.Post
+stmt-simple-requires t c κs =
+    let s = c .before .before .before .before .before .before .before .before .before .before .pre .1 .1 .0 .ready .sound in
+    let k = ap (λ d. d .kind) (c .before .before .before .before .before .before .before .node-at .ensures) in
+    let o = c .before .before .before .before .match .rest in (
+      c .before .before .before .before .before .before .before .before .before .before .pre .1 .0,
       (
-        c .before .before .before .before .before .before .before .before .pre .1 .0,
-        (stmt-here s (c .before .before .before .before .before .before .before .before .pre .1 .1) (sym (c .before .before .before .match .keys4) ∙ k), ap (λ d. d .children) (c .before .before .before .before .before .before .node-at .ensures)),
+        standing-as refl (c .before .before .before .before .before .wide .ensures) refl (c .before .before .before .before .before .before .before .before .before .before .pre .1 .1 .0),
+        (
+          stmt-here s (c .before .before .before .before .before .before .before .before .before .before .pre .1 .1 .1) k,
+          (bodiless (o .0 .0 .0 .1) (o .0 .0 .1) (o .0 .1) (o .1), c .before .before .before .before .before .wide .ensures),
+        ),
       ),
     )
 
--- src/lib.rt:464:14
-stmt-simple-requires : (t : ℕ) → stmt-lts.Need-simple-requires (node-at-reads.Asked, node-at-reads.Learnt, choices-below t, choices.Post, repeat-below t, repeat.Post, each-below t, each.Post, define-below t, define.Post, simple-reads.Asked, simple-reads.Learnt) (stmt-at t) stmt.Post
-stmt-simple-requires t c κs =
-    let s = c .before .before .before .before .before .before .before .before .pre .1 .0 .ready .sound in
-    let k = ap (λ d. d .kind) (c .before .before .before .before .before .before .node-at .ensures) in
-    let o = c .before .before .before .match .rest in
-    (c .before .before .before .before .before .before .before .before .pre .1 .0, (stmt-here s (c .before .before .before .before .before .before .before .before .pre .1 .1) k, bodiless (o .0 .0 .0 .1) (o .0 .0 .1) (o .0 .1) (o .1)))
+stmt-same-length : (t : ℕ) → stmt-lts.Need-same-length (node-at-reads.Asked, node-at-reads.Learnt, wide-reads.Asked, wide-reads.Learnt, choices-below t, choices.Post, repeat-below t, repeat.Post, each-below t, each.Post, define-below t, define.Post, simple-reads.Asked, simple-reads.Learnt) (stmt-at t) stmt.Post
+stmt-same-length t c = search needs
 
--- src/lib.rt:419:1
-stmt-returns : (t : ℕ) → stmt-lts.Need-returns (node-at-reads.Asked, node-at-reads.Learnt, choices-below t, choices.Post, repeat-below t, repeat.Post, each-below t, each.Post, define-below t, define.Post, simple-reads.Asked, simple-reads.Learnt) (stmt-at t) stmt.Post
+stmt-returns : (t : ℕ) → stmt-lts.Need-returns (node-at-reads.Asked, node-at-reads.Learnt, wide-reads.Asked, wide-reads.Learnt, choices-below t, choices.Post, repeat-below t, repeat.Post, each-below t, each.Post, define-below t, define.Post, simple-reads.Asked, simple-reads.Learnt) (stmt-at t) stmt.Post
 stmt-returns t c =
-    stmt-done (c .before .before .before .before .before .before .before .before .before .pre .1 .0 .ready .sound) (c .before .before .before .before .before .before .before .before .before .pre .1 .1) _ _ (c .choices .ensures)
+    (stmt-done (c .before .before .before .before .before .before .before .before .before .before .before .before .before .pre .1 .1 .0 .ready .sound) (c .before .before .before .before .before .before .before .before .before .before .before .before .before .pre .1 .1 .1) _ _ (c .before .before .choices .ensures .0), c .before .before .choices .ensures .1)
 
--- src/lib.rt:419:1
-stmt-returns-2 : (t : ℕ) → stmt-lts.Need-returns-2 (node-at-reads.Asked, node-at-reads.Learnt, choices-below t, choices.Post, repeat-below t, repeat.Post, each-below t, each.Post, define-below t, define.Post, simple-reads.Asked, simple-reads.Learnt) (stmt-at t) stmt.Post
+stmt-same-length-2 : (t : ℕ) → stmt-lts.Need-same-length-2 (node-at-reads.Asked, node-at-reads.Learnt, wide-reads.Asked, wide-reads.Learnt, choices-below t, choices.Post, repeat-below t, repeat.Post, each-below t, each.Post, define-below t, define.Post, simple-reads.Asked, simple-reads.Learnt) (stmt-at t) stmt.Post
+stmt-same-length-2 t c = search needs
+
+stmt-returns-2 : (t : ℕ) → stmt-lts.Need-returns-2 (node-at-reads.Asked, node-at-reads.Learnt, wide-reads.Asked, wide-reads.Learnt, choices-below t, choices.Post, repeat-below t, repeat.Post, each-below t, each.Post, define-below t, define.Post, simple-reads.Asked, simple-reads.Learnt) (stmt-at t) stmt.Post
 stmt-returns-2 t c =
-    stmt-done (c .before .before .before .before .before .before .before .before .before .pre .1 .0 .ready .sound) (c .before .before .before .before .before .before .before .before .before .pre .1 .1) _ _ (c .repeat .ensures _)
+    (stmt-done (c .before .before .before .before .before .before .before .before .before .before .before .before .before .pre .1 .1 .0 .ready .sound) (c .before .before .before .before .before .before .before .before .before .before .before .before .before .pre .1 .1 .1) _ _ (c .before .before .repeat .ensures .0 _), c .before .before .repeat .ensures .1)
 
--- src/lib.rt:419:1
-stmt-returns-3 : (t : ℕ) → stmt-lts.Need-returns-3 (node-at-reads.Asked, node-at-reads.Learnt, choices-below t, choices.Post, repeat-below t, repeat.Post, each-below t, each.Post, define-below t, define.Post, simple-reads.Asked, simple-reads.Learnt) (stmt-at t) stmt.Post
+stmt-same-length-3 : (t : ℕ) → stmt-lts.Need-same-length-3 (node-at-reads.Asked, node-at-reads.Learnt, wide-reads.Asked, wide-reads.Learnt, choices-below t, choices.Post, repeat-below t, repeat.Post, each-below t, each.Post, define-below t, define.Post, simple-reads.Asked, simple-reads.Learnt) (stmt-at t) stmt.Post
+stmt-same-length-3 t c = search needs
+
+stmt-returns-3 : (t : ℕ) → stmt-lts.Need-returns-3 (node-at-reads.Asked, node-at-reads.Learnt, wide-reads.Asked, wide-reads.Learnt, choices-below t, choices.Post, repeat-below t, repeat.Post, each-below t, each.Post, define-below t, define.Post, simple-reads.Asked, simple-reads.Learnt) (stmt-at t) stmt.Post
 stmt-returns-3 t c =
-    stmt-done (c .before .before .before .before .before .before .before .before .before .pre .1 .0 .ready .sound) (c .before .before .before .before .before .before .before .before .before .pre .1 .1) _ _ (c .each .ensures _)
+    (stmt-done (c .before .before .before .before .before .before .before .before .before .before .before .before .before .pre .1 .1 .0 .ready .sound) (c .before .before .before .before .before .before .before .before .before .before .before .before .before .pre .1 .1 .1) _ _ (c .before .before .each .ensures .0 _), c .before .before .each .ensures .1)
 
--- src/lib.rt:419:1
-stmt-returns-4 : (t : ℕ) → stmt-lts.Need-returns-4 (node-at-reads.Asked, node-at-reads.Learnt, choices-below t, choices.Post, repeat-below t, repeat.Post, each-below t, each.Post, define-below t, define.Post, simple-reads.Asked, simple-reads.Learnt) (stmt-at t) stmt.Post
+stmt-same-length-4 : (t : ℕ) → stmt-lts.Need-same-length-4 (node-at-reads.Asked, node-at-reads.Learnt, wide-reads.Asked, wide-reads.Learnt, choices-below t, choices.Post, repeat-below t, repeat.Post, each-below t, each.Post, define-below t, define.Post, simple-reads.Asked, simple-reads.Learnt) (stmt-at t) stmt.Post
+stmt-same-length-4 t c = search needs
+
+stmt-returns-4 : (t : ℕ) → stmt-lts.Need-returns-4 (node-at-reads.Asked, node-at-reads.Learnt, wide-reads.Asked, wide-reads.Learnt, choices-below t, choices.Post, repeat-below t, repeat.Post, each-below t, each.Post, define-below t, define.Post, simple-reads.Asked, simple-reads.Learnt) (stmt-at t) stmt.Post
 stmt-returns-4 t c =
-    stmt-done (c .before .before .before .before .before .before .before .before .before .pre .1 .0 .ready .sound) (c .before .before .before .before .before .before .before .before .before .pre .1 .1) _ _ (c .define .ensures _)
+    (stmt-done (c .before .before .before .before .before .before .before .before .before .before .before .before .before .pre .1 .1 .0 .ready .sound) (c .before .before .before .before .before .before .before .before .before .before .before .before .before .pre .1 .1 .1) _ _ (c .before .before .define .ensures .0 _), c .before .before .define .ensures .1)
 
--- src/lib.rt:419:1
-stmt-returns-5 : (t : ℕ) → stmt-lts.Need-returns-5 (node-at-reads.Asked, node-at-reads.Learnt, choices-below t, choices.Post, repeat-below t, repeat.Post, each-below t, each.Post, define-below t, define.Post, simple-reads.Asked, simple-reads.Learnt) (stmt-at t) stmt.Post
+stmt-same-length-5 : (t : ℕ) → stmt-lts.Need-same-length-5 (node-at-reads.Asked, node-at-reads.Learnt, wide-reads.Asked, wide-reads.Learnt, choices-below t, choices.Post, repeat-below t, repeat.Post, each-below t, each.Post, define-below t, define.Post, simple-reads.Asked, simple-reads.Learnt) (stmt-at t) stmt.Post
+stmt-same-length-5 t c = search needs
+
+stmt-returns-5 : (t : ℕ) → stmt-lts.Need-returns-5 (node-at-reads.Asked, node-at-reads.Learnt, wide-reads.Asked, wide-reads.Learnt, choices-below t, choices.Post, repeat-below t, repeat.Post, each-below t, each.Post, define-below t, define.Post, simple-reads.Asked, simple-reads.Learnt) (stmt-at t) stmt.Post
 stmt-returns-5 t c =
-    stmt-done (c .before .before .before .before .before .before .before .before .before .pre .1 .0 .ready .sound) (c .before .before .before .before .before .before .before .before .before .pre .1 .1) _ _ (c .simple .ensures)
+    (stmt-done (c .before .before .before .before .before .before .before .before .before .before .before .before .before .pre .1 .1 .0 .ready .sound) (c .before .before .before .before .before .before .before .before .before .before .before .before .before .pre .1 .1 .1) _ _ (acted-from _ _ _ _ _ _ (c .before .before .before .before .before .before .before .before .wide .ensures) (c .before .before .simple .ensures .0)), c .before .before .simple .ensures .1)
 
 pub +block+choices+define+each+one-arm+repeat+stmt-spec : {M : Type 1} → statement M
 +block+choices+define+each+one-arm+repeat+stmt-spec =
-    close μ-block μ-choices μ-define μ-each μ-one-arm μ-repeat μ-stmt (λ t. block-lts.spec (
-      node-at-reads.Asked,
-      node-at-reads.Learnt,
-      stmt-below t,
-      stmt.Post,
-      stop-of-reads.Asked,
-      stop-of-reads.Learnt,
-      told-reads.Asked,
-      told-reads.Learnt,
-    )
-    (block-at t)
-    block.Post
-    block-Inv-loop
-    block-μ-loop
+    close μ-block μ-choices μ-define μ-each μ-one-arm μ-repeat μ-stmt
+    (λ t. block-lts.spec (node-at-reads.Asked, node-at-reads.Learnt, stmt-below t, stmt.Post, stop-of-reads.Asked, stop-of-reads.Learnt) (block-at t) block.Post block-Inv-loop block-μ-loop
     (block-node-at-requires t)
     (block-sub-d t)
     (block-add-j t)
     (block-cast-left t)
     (block-loop-holds t)
     (block-stmt-requires t)
+    (block-element-copy-out-if2 t)
+    (block-same-length t)
     (block-returns t)
+    (block-same-length-2 t)
     (block-returns-2 t)
     (block-stop-of-requires t)
     (block-sub-left t)
     (block-loop-less t)
     (block-loop-again t)
-    (block-told-requires t)
+    (block-same-length-3 t)
     (block-returns-3 t))
-    (λ t. choices-lts.spec (
-      one-arm-below t,
-      one-arm.Post,
-      told-reads.Asked,
-      told-reads.Learnt,
-      note-branch-reads.Asked,
-      note-branch-reads.Learnt,
-      after-arm-reads.Asked,
-      after-arm-reads.Learnt,
-      fewer-reads.Asked,
-      fewer-reads.Learnt,
-      commit-reads.Asked,
-      commit-reads.Learnt,
-    )
-    (choices-at t)
-    choices.Post
-    choices-Inv-loop
-    choices-μ-loop
+    (λ t. choices-lts.spec (node-at-reads.Asked, node-at-reads.Learnt, wide-reads.Asked, wide-reads.Learnt, one-arm-below t, one-arm.Post, small-reads.Asked, small-reads.Learnt, note-branch-reads.Asked, note-branch-reads.Learnt, after-arm-reads.Asked, after-arm-reads.Learnt, fewer-reads.Asked, fewer-reads.Learnt, commit-reads.Asked, commit-reads.Learnt, refused-reads.Asked, refused-reads.Learnt) (choices-at t) choices.Post choices-Inv-loop choices-μ-loop
+    (choices-node-at-requires t)
+    (choices-element-copy-out-wide t)
+    (choices-wide-requires t)
     (choices-add-j t)
+    (choices-cast-left t)
     (choices-loop-holds t)
     (choices-one-arm-requires t)
-    (choices-told-requires t)
+    (choices-element-copy-out-wide-2 t)
+    (choices-wide-requires-2 t)
+    (choices-small-requires t)
+    (choices-element-write-notes t)
+    (choices-same-length t)
     (choices-returns t)
     (choices-note-branch-requires t)
     (choices-after-arm-requires t)
@@ -686,130 +855,100 @@ pub +block+choices+define+each+one-arm+repeat+stmt-spec : {M : Type 1} → state
     (choices-loop-again t)
     (choices-add-commit t)
     (choices-commit-requires t)
-    (choices-add-told t)
-    (choices-told-requires-2 t)
-    (choices-returns-2 t))
-    (λ t. define-lts.spec (
-      told-reads.Asked,
-      told-reads.Learnt,
-      clear-reads.Asked,
-      clear-reads.Learnt,
-      parameters-reads.Asked,
-      parameters-reads.Learnt,
-      block-below t,
-      block.Post,
-    )
-    (define-at t)
-    define.Post
-    (define-told-requires t)
+    (choices-add-refused t)
+    (choices-refused-requires t)
+    (choices-same-length-2 t)
+    (choices-returns-2 t)
+    (choices-same-length-3 t)
+    (choices-returns-3 t))
+    (λ t. define-lts.spec (wide-reads.Asked, wide-reads.Learnt, refused-reads.Asked, refused-reads.Learnt, node-at-reads.Asked, node-at-reads.Learnt, clear-reads.Asked, clear-reads.Learnt, parameters-reads.Asked, parameters-reads.Learnt, small-reads.Asked, small-reads.Learnt, block-below t, block.Post) (define-at t) define.Post
+    (define-element-copy-out-wide t)
+    (define-wide-requires t)
+    (define-element-copy-out-ret t)
+    (define-refused-requires t)
     (define-returns t)
+    (define-node-at-requires t)
+    (define-cast-n t)
     (define-add-clear t)
     (define-clear-requires t)
     (define-add-parameters t)
     (define-sub-parameters t)
     (define-parameters-requires t)
-    (define-add-block t)
+    (define-add-small t)
+    (define-small-requires t)
+    (define-element-write-notes t)
+    (define-element-write-notes-2 t)
     (define-block-requires t)
-    (define-sub-told t)
-    (define-told-requires-2 t)
+    (define-element-write-notes-3 t)
+    (define-same-length t)
     (define-returns-2 t)
-    (define-told-requires-3 t)
+    (define-element-copy-out-notes t)
+    (define-sub-notes t)
+    (define-element-write-notes-4 t)
+    (define-same-length-2 t)
     (define-returns-3 t))
-    (λ t. each-lts.spec (
-      elements-reads.Asked,
-      elements-reads.Learnt,
-      told-reads.Asked,
-      told-reads.Learnt,
-      cell-of-reads.Asked,
-      cell-of-reads.Learnt,
-      bind-reads.Asked,
-      bind-reads.Learnt,
-      stop-of-reads.Asked,
-      stop-of-reads.Learnt,
-      block-below t,
-      block.Post,
-    )
-    (each-at t)
-    each.Post
+    (λ t. each-lts.spec (wide-reads.Asked, wide-reads.Learnt, elements-reads.Asked, elements-reads.Learnt, node-at-reads.Asked, node-at-reads.Learnt, cell-of-reads.Asked, cell-of-reads.Learnt, bind-reads.Asked, bind-reads.Learnt, stop-of-reads.Asked, stop-of-reads.Learnt, block-below t, block.Post, small-reads.Asked, small-reads.Learnt) (each-at t) each.Post
+    (each-element-copy-out-wide t)
+    (each-wide-requires t)
     (each-add-elements t)
     (each-elements-requires t)
-    (each-told-requires t)
+    (each-same-length t)
     (each-returns t)
+    (each-node-at-requires t)
     (each-cell-of-requires t)
+    (each-cast-bind t)
     (each-bind-requires t)
     (each-add-stop-of t)
     (each-stop-of-requires t)
     (each-block-requires t)
-    (each-told-requires-2 t)
+    (each-small-requires t)
+    (each-element-write-notes t)
+    (each-same-length-2 t)
     (each-returns-2 t))
-    (λ t. one-arm-lts.spec (
-      condition-reads.Asked,
-      condition-reads.Learnt,
-      told-reads.Asked,
-      told-reads.Learnt,
-      stop-of-reads.Asked,
-      stop-of-reads.Learnt,
-      block-below t,
-      block.Post,
-    )
-    (one-arm-at t)
-    one-arm.Post
+    (λ t. one-arm-lts.spec (wide-reads.Asked, wide-reads.Learnt, condition-reads.Asked, condition-reads.Learnt, stop-of-reads.Asked, stop-of-reads.Learnt, block-below t, block.Post) (one-arm-at t) one-arm.Post
+    (one-arm-element-copy-out-wide t)
+    (one-arm-wide-requires t)
     (one-arm-condition-requires t)
-    (one-arm-told-requires t)
+    (one-arm-same-length t)
     (one-arm-returns t)
     (one-arm-stop-of-requires t)
     (one-arm-block-requires t)
+    (one-arm-same-length-2 t)
     (one-arm-returns-2 t)
     (one-arm-block-requires-2 t)
+    (one-arm-same-length-3 t)
     (one-arm-returns-3 t))
-    (λ t. repeat-lts.spec (
-      condition-reads.Asked,
-      condition-reads.Learnt,
-      told-reads.Asked,
-      told-reads.Learnt,
-      stop-of-reads.Asked,
-      stop-of-reads.Learnt,
-      block-below t,
-      block.Post,
-    )
-    (repeat-at t)
-    repeat.Post
+    (λ t. repeat-lts.spec (wide-reads.Asked, wide-reads.Learnt, condition-reads.Asked, condition-reads.Learnt, stop-of-reads.Asked, stop-of-reads.Learnt, block-below t, block.Post, small-reads.Asked, small-reads.Learnt) (repeat-at t) repeat.Post
+    (repeat-element-copy-out-wide t)
+    (repeat-wide-requires t)
     (repeat-add-condition t)
     (repeat-condition-requires t)
-    (repeat-told-requires t)
+    (repeat-same-length t)
     (repeat-returns t)
     (repeat-add-stop-of t)
     (repeat-stop-of-requires t)
     (repeat-block-requires t)
-    (repeat-told-requires-2 t)
+    (repeat-small-requires t)
+    (repeat-element-write-notes t)
+    (repeat-same-length-2 t)
     (repeat-returns-2 t))
-    λ t. stmt-lts.spec (
-      node-at-reads.Asked,
-      node-at-reads.Learnt,
-      choices-below t,
-      choices.Post,
-      repeat-below t,
-      repeat.Post,
-      each-below t,
-      each.Post,
-      define-below t,
-      define.Post,
-      simple-reads.Asked,
-      simple-reads.Learnt,
-    )
-    (stmt-at t)
-    stmt.Post
+    (λ t. stmt-lts.spec (node-at-reads.Asked, node-at-reads.Learnt, wide-reads.Asked, wide-reads.Learnt, choices-below t, choices.Post, repeat-below t, repeat.Post, each-below t, each.Post, define-below t, define.Post, simple-reads.Asked, simple-reads.Learnt) (stmt-at t) stmt.Post
     (stmt-node-at-requires t)
-    (stmt-cast-n t)
-    (stmt-cast-x t)
     (stmt-sub-d t)
+    (stmt-element-copy-out-wide t)
+    (stmt-wide-requires t)
     (stmt-choices-requires t)
     (stmt-repeat-requires t)
     (stmt-each-requires t)
     (stmt-define-requires t)
     (stmt-simple-requires t)
+    (stmt-same-length t)
     (stmt-returns t)
+    (stmt-same-length-2 t)
     (stmt-returns-2 t)
+    (stmt-same-length-3 t)
     (stmt-returns-3 t)
+    (stmt-same-length-4 t)
     (stmt-returns-4 t)
-    (stmt-returns-5 t)
+    (stmt-same-length-5 t)
+    (stmt-returns-5 t))

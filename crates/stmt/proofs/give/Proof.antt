@@ -1,60 +1,99 @@
 -- `stmt::give` meets its contract: each way out is one law of Leaves.
+use Rattle.nodes.proofs.Noting.{kept-noting, refused-kept, went-ill, went-well}
+use Rattle.stmt.proofs.Cells.{agreement-from, done-ends, done-refused, moved-noting, refused-from, ret-set, small-agreed, small-node, small-old, small-type, tab-moved, tells-kept, tells-zero, verdict-zero}
+use Rattle.stmt.proofs.Laws.{done-any}
 use Rattle.stmt.proofs.Leaves.{give-agreed, give-bad, give-wrong}
+use mathlib.Core.Path.{_∙_, refl, sym}
 use native.Mathlib.Omega.{arith}
 use borrow.Author.Needs.{needs}
 use Rattle.stmt.proofs.give.Statement.{statement}
 use Rattle.stmt.proofs.give.Tie as tie
 use Rattle.stmt.proofs.give.Reads as reads
 use Rattle.stmt.proofs.give.Lts as lts
-use Rattle.expr.proofs.expr.Reads as expr-reads
-use Rattle.stmt.proofs.told.Reads as told-reads
-use Rattle.types.proofs.agreed.Reads as agreed-reads
 
--- src/lib.rt:192:9
 expr-requires : tie.Need-expr-requires
 expr-requires c κs =
-    (c .before .before .before .pre .0 .ready, c .before .before .before .pre .1)
+    (c .before .before .before .before .before .pre .0, (c .before .before .before .before .before .pre .1 .0 .ready, c .before .before .before .before .before .pre .1 .1 .0))
 
--- src/lib.rt:196:9
-told-requires : tie.Need-told-requires
-told-requires c κs = search needs
+same-length : tie.Need-same-length
+same-length c = search needs
 
--- src/lib.rt:196:9
 returns : tie.Need-returns
 returns c =
-    rw (c .told .ensures) (give-bad (c .before .before .before .before .before .before .before .pre .0 .ready) (c .before .before .before .before .before .before .before .pre .1) (c .before .before .before .expr .ensures) (c .before .before .before .before .before .before .before .pre .0 .kept) (c .before .if1 .taken))
+    let k = c .before .before .before .expr .ensures .1 in (
+      done-ends refl (k .top ∙ sym (c .before .before .before .before .before .before .before .before .before .pre .1 .1 .1)) (k .ret)
+          (give-bad (c .before .before .before .before .before .before .before .before .before .pre .1 .0 .ready) (c .before .before .before .before .before .before .before .before .before .pre .1 .1 .0) (c .before .before .before .expr .ensures .0) (c .before .before .before .before .before .before .before .before .before .pre .1 .0 .kept) (went-ill k (c .if1 .taken))),
+      tells-kept k,
+    )
 
--- src/lib.rt:199:9
+element-copy-out-wide : tie.Need-element-copy-out-wide
+element-copy-out-wide c = search needs
+
+wide-requires : tie.Need-wide-requires
+wide-requires c κs =
+    search needs
+
 agreed-requires : tie.Need-agreed-requires
-agreed-requires c κs = search needs
+agreed-requires c κs =
+    search needs
 
--- src/lib.rt:201:9
-told-requires-2 : tie.Need-told-requires-2
-told-requires-2 c κs = search needs
+small-requires : tie.Need-small-requires
+small-requires c κs =
+    let k = c .before .before .before .before .before .before .before .expr .ensures .1 in
+    let o = agreement-from (c .before .before .wide .ensures ∙ k .ret) (c .before .agreed .ensures) in
+    small-agreed (c .before .before .before .before .before .before .before .expr .ensures .0) (went-well k (c .before .before .before .before .if1 .left)) (c .before .before .before .before .before .before .before .before .before .before .before .before .before .pre .1 .0 .kept) o
 
--- src/lib.rt:201:9
+element-write-notes : tie.Need-element-write-notes
+element-write-notes c = search needs
+
+same-length-2 : tie.Need-same-length-2
+same-length-2 c = search needs
+
 returns-2 : tie.Need-returns-2
 returns-2 c =
-    rw (c .told2 .ensures) (give-agreed (c .before .before .before .before .before .before .before .before .before .pre .0 .ready) (c .before .before .before .before .before .before .before .before .before .pre .1) (c .before .before .before .before .before .expr .ensures) (c .before .before .before .before .before .before .before .before .before .pre .0 .kept) (c .before .before .before .if1 .left) (c .before .before .agreed .ensures) (c .before .if2 .taken))
+    let k = c .before .before .before .before .before .before .before .before .expr .ensures .1 in
+    let o = agreement-from (c .before .before .before .wide .ensures ∙ k .ret) (c .before .before .agreed .ensures) in
+    let s = ret-set (kept-noting k) (c .small .ensures) in (
+      done-any refl (verdict-zero _)
+          (done-ends (tab-moved (s .moved) _) (s .top-kept ∙ k .top ∙ sym (c .before .before .before .before .before .before .before .before .before .before .before .before .before .before .pre .1 .1 .1)) (s .ret-is)
+          (give-agreed (c .before .before .before .before .before .before .before .before .before .before .before .before .before .before .pre .1 .0 .ready) (c .before .before .before .before .before .before .before .before .before .before .before .before .before .before .pre .1 .1 .0) (c .before .before .before .before .before .before .before .before .expr .ensures .0) (c .before .before .before .before .before .before .before .before .before .before .before .before .before .before .pre .1 .0 .kept) (went-well k (c .before .before .before .before .before .if1 .left)) o (c .before .if2 .taken))),
+      tells-zero (moved-noting (s .moved)),
+    )
 
--- src/lib.rt:203:5
-told-requires-3 : tie.Need-told-requires-3
-told-requires-3 c κs = search needs
+refused-requires : tie.Need-refused-requires
+refused-requires c κs =
+    kept-noting (c .before .before .before .before .before .before .before .before .expr .ensures .1)
 
--- src/lib.rt:171:1
+same-length-3 : tie.Need-same-length-3
+same-length-3 c = search needs
+
 returns-3 : tie.Need-returns-3
 returns-3 c =
-    rw (c .told3 .ensures) (give-wrong (c .before .before .before .before .before .before .before .before .before .pre .0 .ready) (c .before .before .before .before .before .before .before .before .before .pre .1) (c .before .before .before .before .before .expr .ensures) (c .before .before .before .before .before .before .before .before .before .pre .0 .kept) (c .before .before .before .if1 .left) (c .before .before .agreed .ensures) (c .before .if2 .left))
+    let k = c .before .before .before .before .before .before .before .before .before .expr .ensures .1 in
+    let e = c .before .before .before .before .wide .ensures ∙ k .ret in
+    let v = went-well k (c .before .before .before .before .before .before .if1 .left) in
+    let o = agreement-from e (c .before .before .before .agreed .ensures) in
+    let f = refused-from e (c .refused .ensures) in (
+      done-refused f (small-node (c .before .before .before .before .before .before .before .before .before .before .before .before .before .before .before .pre .1 .0 .ready .sound) (c .before .before .before .before .before .before .before .before .before .before .before .before .before .before .before .pre .1 .1 .0 .there)) (small-old (c .before .before .before .before .before .before .before .before .before .expr .ensures .0) (c .before .before .before .before .before .before .before .before .before .before .before .before .before .before .before .pre .1 .0 .kept)) (small-type (c .before .before .before .before .before .before .before .before .before .expr .ensures .0) v)
+          (f .top ∙ k .top ∙ sym (c .before .before .before .before .before .before .before .before .before .before .before .before .before .before .before .pre .1 .1 .1)) (f .ret ∙ k .ret)
+          (give-wrong (c .before .before .before .before .before .before .before .before .before .before .before .before .before .before .before .pre .1 .0 .ready) (c .before .before .before .before .before .before .before .before .before .before .before .before .before .before .before .pre .1 .1 .0) (c .before .before .before .before .before .before .before .before .before .expr .ensures .0) (c .before .before .before .before .before .before .before .before .before .before .before .before .before .before .before .pre .1 .0 .kept) v o (c .before .before .if2 .left)),
+      tells-kept (refused-kept (λ z. omega arith) f),
+    )
 
 pub give-spec : {M : Type 1} → statement M
 give-spec =
     tie.close
     (tie.spec
     expr-requires
-    told-requires
+    same-length
     returns
+    element-copy-out-wide
+    wide-requires
     agreed-requires
-    told-requires-2
+    small-requires
+    element-write-notes
+    same-length-2
     returns-2
-    told-requires-3
+    refused-requires
+    same-length-3
     returns-3)

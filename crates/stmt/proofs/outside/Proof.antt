@@ -1,5 +1,5 @@
 -- `stmt::outside` meets its contract.
-use Rattle.meaning.specs.Base.{if_then_else_}
+use Rattle.stmt.proofs.Cells.{outside-ill, outside-well}
 use native.Mathlib.Omega.{arith}
 use borrow.Author.Needs.{needs}
 use Rattle.stmt.proofs.outside.Statement.{statement}
@@ -7,17 +7,22 @@ use Rattle.stmt.proofs.outside.Tie as tie
 use Rattle.stmt.proofs.outside.Reads as reads
 use Rattle.stmt.proofs.outside.Lts as lts
 
--- src/lib.rt:144:9
 returns : tie.Need-returns
-unfolding if_then_else_
 returns c =
-    rw (c .if1 .taken)
+    outside-well (c .before .pre .0) (c .if1 .taken)
 
--- src/lib.rt:140:1
+refused-requires : tie.Need-refused-requires
+refused-requires c κs =
+    c .before .before .pre .0
+
 returns-2 : tie.Need-returns-2
-unfolding if_then_else_
 returns-2 c =
-    rw (c .if1 .left)
+    outside-ill (c .before .before .before .pre .1 .0) (c .before .before .before .pre .1 .1) (c .before .before .if1 .left) (c .refused .ensures)
 
 pub outside-spec : {M : Type 1} → statement M
-outside-spec = tie.close (tie.spec returns returns-2)
+outside-spec =
+    tie.close
+    (tie.spec
+    returns
+    refused-requires
+    returns-2)

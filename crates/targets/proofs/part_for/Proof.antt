@@ -1,4 +1,4 @@
-use Rattle.targets.proofs.Unpacking.{sharing-element, share-part, share-element, share-unknown}
+use Rattle.targets.proofs.Unpacking.{sharing-room, sharing-element, share-part, share-element, share-unknown}
 use native.Mathlib.Omega.{arith}
 use Rattle.targets.proofs.part_for.Statement.{statement}
 use Rattle.targets.proofs.part_for.Tie as tie
@@ -11,17 +11,17 @@ use Rattle.types.proofs.part_of.Reads as part-of-reads
 -- src/lib.rt:84:11
 kind-of-requires : tie.Need-kind-of-requires
 kind-of-requires c κs =
-    omega (arith, c .pre .below, c .pre .wf .room)
+    sharing-room (c .before .pre)
 
 -- src/lib.rt:85:14
 part-of-requires : tie.Need-part-of-requires
 part-of-requires c κs =
-    omega (arith, c .before .before .pre .below, c .before .before .pre .wf .room)
+    sharing-room (c .before .before .before .pre)
 
 -- src/lib.rt:86:15
 element-at-requires : tie.Need-element-at-requires
 element-at-requires c κs =
-    sharing-element (c .before .kind-of .ensures) (c .before .before .pre) (c .match .keys2)
+    sharing-element (c .before .kind-of .ensures) (c .before .before .before .pre) (c .match .keys2)
 
 -- src/lib.rt:80:1
 returns : tie.Need-returns

@@ -1,4 +1,5 @@
-use Rattle.targets.proofs.Unpacking.{known-small, known-count, unpacks-any, unpacks-tuple, unpacks-other, unpacks-not}
+use Rattle.rules.proofs.Outcomes.{known-room}
+use Rattle.targets.proofs.Unpacking.{known-count, unpacks-any, unpacks-tuple, unpacks-other, unpacks-not}
 use mathlib.Core.Logic.{inl, inr}
 use native.Mathlib.Omega.{arith}
 use Rattle.targets.proofs.unpack.Statement.{statement}
@@ -11,12 +12,12 @@ use Rattle.types.proofs.kind_of.Reads as kind-of-reads
 -- src/lib.rt:56:11
 kind-of-requires : tie.Need-kind-of-requires
 kind-of-requires c κs =
-    known-small (c .pre)
+    known-room (c .before .pre)
 
 -- src/lib.rt:60:17
 count-of-requires : tie.Need-count-of-requires
 count-of-requires c κs =
-    known-small (c .before .before .pre)
+    known-room (c .before .before .before .pre)
 
 -- src/lib.rt:63:17
 returns : tie.Need-returns
@@ -37,7 +38,7 @@ returns-3 c =
 returns-4 : tie.Need-returns-4
 returns-4 c =
     unpacks-other _ (c .before .before .before .kind-of .ensures) (c .before .before .match .keys3) (c .before .count-of .ensures) (omega arith)
-    (known-count (c .before .before .before .before .pre) (c .before .before .before .kind-of .ensures) (c .before .before .match .keys3) (c .before .count-of .ensures)) (c .if1 .left)
+    (known-count (c .before .before .before .before .before .pre) (c .before .before .before .kind-of .ensures) (c .before .before .match .keys3) (c .before .count-of .ensures)) (c .if1 .left)
 
 -- src/lib.rt:52:1
 returns-5 : tie.Need-returns-5

@@ -10,10 +10,10 @@ use Rattle.types.proofs.alike.Statement.{statement}
 use Rattle.types.proofs.alike.Tie as tie
 
 abbrev Inv-loop : tie.InvT-loop
-Inv-loop table p stack from n j₀ j = (j ≤ n) × Equal table (8224 + p) stack from j
+Inv-loop table at stack from n j₀ j = (j ≤ n) × Equal table at stack from j
 
 abbrev μ-loop : tie.MeasureT-loop
-μ-loop table p stack from n j₀ j = n - j
+μ-loop table at stack from n j₀ j = n - j
 
 loop-holds : tie.Need-loop-holds Inv-loop μ-loop
 loop-holds c =
@@ -22,23 +22,20 @@ loop-holds c =
 add-if1 : tie.Need-add-if1 Inv-loop μ-loop
 add-if1 c = search needs
 
-add-if1-2 : tie.Need-add-if1-2 Inv-loop μ-loop
-add-if1-2 c = search needs
-
 mul-if1 : tie.Need-mul-if1 Inv-loop μ-loop
 mul-if1 c = search needs
 
-element-copy-out-if1 : tie.Need-element-copy-out-if1 Inv-loop μ-loop
-element-copy-out-if1 c = search needs
+shared-slice-read-if1 : tie.Need-shared-slice-read-if1 Inv-loop μ-loop
+shared-slice-read-if1 c = search needs
 
-add-if1-3 : tie.Need-add-if1-3 Inv-loop μ-loop
-add-if1-3 c = search needs
+add-if1-2 : tie.Need-add-if1-2 Inv-loop μ-loop
+add-if1-2 c = search needs
 
 mul-if1-2 : tie.Need-mul-if1-2 Inv-loop μ-loop
 mul-if1-2 c = search needs
 
-element-copy-out-if1-2 : tie.Need-element-copy-out-if1-2 Inv-loop μ-loop
-element-copy-out-if1-2 c = search needs
+shared-slice-read-if1-2 : tie.Need-shared-slice-read-if1-2 Inv-loop μ-loop
+shared-slice-read-if1-2 c = search needs
 
 returns : tie.Need-returns Inv-loop μ-loop
 returns c =
@@ -66,12 +63,11 @@ alike-spec =
     μ-loop
     loop-holds
     add-if1
-    add-if1-2
     mul-if1
-    element-copy-out-if1
-    add-if1-3
+    shared-slice-read-if1
+    add-if1-2
     mul-if1-2
-    element-copy-out-if1-2
+    shared-slice-read-if1-2
     returns
     add-j
     loop-less

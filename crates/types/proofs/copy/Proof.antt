@@ -9,10 +9,10 @@ use Rattle.types.proofs.copy.Statement.{statement}
 use Rattle.types.proofs.copy.Tie as tie
 
 abbrev Inv-loop : tie.InvT-loop
-Inv-loop table₀ m stack from n j₀ table j = (j ≤ n) × Copied table₀ table m stack from j
+Inv-loop table₀ at stack from n j₀ table j = (j ≤ n) × Copied table₀ table at stack from j
 
 abbrev μ-loop : tie.MeasureT-loop
-μ-loop table₀ m stack from n j₀ table j = n - j
+μ-loop table₀ at stack from n j₀ table j = n - j
 
 loop-holds : tie.Need-loop-holds Inv-loop μ-loop
 loop-holds c =
@@ -24,20 +24,17 @@ add-table c = search needs
 mul-table : tie.Need-mul-table Inv-loop μ-loop
 mul-table c = search needs
 
-element-copy-out-table : tie.Need-element-copy-out-table Inv-loop μ-loop
-element-copy-out-table c = search needs
+shared-slice-read-table : tie.Need-shared-slice-read-table Inv-loop μ-loop
+shared-slice-read-table c = search needs
 
 add-table-2 : tie.Need-add-table-2 Inv-loop μ-loop
 add-table-2 c = search needs
 
-add-table-3 : tie.Need-add-table-3 Inv-loop μ-loop
-add-table-3 c = search needs
-
 mul-table-2 : tie.Need-mul-table-2 Inv-loop μ-loop
 mul-table-2 c = search needs
 
-element-write-table : tie.Need-element-write-table Inv-loop μ-loop
-element-write-table c = search needs
+slice-write-table : tie.Need-slice-write-table Inv-loop μ-loop
+slice-write-table c = search needs
 
 add-j : tie.Need-add-j Inv-loop μ-loop
 add-j c = search needs
@@ -47,7 +44,11 @@ loop-less c = search needs
 
 loop-again : tie.Need-loop-again Inv-loop μ-loop
 loop-again c =
-    (search needs, copied-more (c .before .before .loop .inv .1) (c .before .before .before .pre .0) (omega arith))
+    (search needs, copied-more (c .before .before .loop .inv .1) (omega arith))
+
+same-length : tie.Need-same-length Inv-loop μ-loop
+same-length c =
+    c .before .loop .inv .1 .long
 
 returns : tie.Need-returns Inv-loop μ-loop
 returns c =
@@ -62,12 +63,12 @@ copy-spec =
     loop-holds
     add-table
     mul-table
-    element-copy-out-table
+    shared-slice-read-table
     add-table-2
-    add-table-3
     mul-table-2
-    element-write-table
+    slice-write-table
     add-j
     loop-less
     loop-again
+    same-length
     returns)

@@ -1,26 +1,31 @@
 -- `types::element_of` meets its contract: each branch is one law of Walks.
+use Rattle.types.proofs.Room.{capacity-within}
 use Rattle.types.proofs.Walks.{walk-tuple, walk-part, walk-unknown, walk-string, walk-range, walk-not}
 use mathlib.Core.Path.{sym, _∙_}
+use native.Mathlib.Omega.{arith}
 use borrow.Author.Needs.{needs}
 use Rattle.types.proofs.element_of.Statement.{statement}
 use Rattle.types.proofs.element_of.Tie as tie
 
 mul-cell : tie.Need-mul-cell
-mul-cell c = search needs
+mul-cell c =
+    omega (arith, c .before .pre .number, capacity-within (c .before .args .table .now))
 
 cell-requires : tie.Need-cell-requires
-cell-requires c κs = search needs
+cell-requires c κs =
+    omega (arith, c .before .pre .number, capacity-within (c .before .args .table .now))
 
 common-of-requires : tie.Need-common-of-requires
 common-of-requires c κs =
-    c .before .before .pre .whole (sym (c .before .cell .ensures) ∙ c .if1 .taken)
+    c .before .before .before .pre .whole (sym (c .before .cell .ensures) ∙ c .if1 .taken)
 
 returns : tie.Need-returns
 returns c =
     walk-tuple _ _ _ (c .before .before .cell .ensures) (c .before .if1 .taken) (c .common-of .ensures)
 
 part-of-requires : tie.Need-part-of-requires
-part-of-requires c κs = search needs
+part-of-requires c κs =
+    c .before .before .before .before .pre .number
 
 returns-2 : tie.Need-returns-2
 returns-2 c =

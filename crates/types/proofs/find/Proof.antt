@@ -1,53 +1,56 @@
--- `types::find` meets its contract: no record passed is the one; the measure is what is left.
-use Rattle.types.proofs.Searching.{passed-more, first-found, first-none}
+-- `types::find` meets its contract: no record passed is the one; the measure is the number, since links lead to lower ones.
+use Rattle.types.proofs.Room.{capacity-within, slots-within}
+use Rattle.types.proofs.Searching.{passed-none, passed-more, found-here, found-none}
 use Rattle.types.specs.Steps.{RecordAt, Passed}
-use Prim.Native.Nat.{_≤_, _-_}
 use native.Mathlib.Omega.{arith}
-use borrow.Author.Needs.{needs}
 use Rattle.types.proofs.find.Statement.{statement}
 use Rattle.types.proofs.find.Tie as tie
-use Rattle.types.proofs.find.Reads as reads
-use Rattle.types.proofs.find.Lts as lts
-use Rattle.types.proofs.holds.Reads as holds-reads
 
 abbrev Inv-loop : tie.InvT-loop
-Inv-loop table from types k p q i₀ i = (i ≤ types) × Passed (RecordAt table k p q) i
+Inv-loop table slot types k p q i₀ i = Passed (RecordAt table k p q) table types slot i
 
 abbrev μ-loop : tie.MeasureT-loop
-μ-loop table from types k p q i₀ i = types - i
+μ-loop table slot types k p q i₀ i = i
 
--- src/lib.rt:106:5
+cell-requires : tie.Need-cell-requires Inv-loop μ-loop
+cell-requires c κs =
+    omega (arith, c .before .pre .1 .1 .most, slots-within (c .before .args .table .now))
+
 loop-holds : tie.Need-loop-holds Inv-loop μ-loop
 loop-holds c =
-    (c .pre .0 .0, c .pre .1)
+    passed-none (c .before .before .pre .1 .0) (c .before .before .pre .1 .1) (c .cell .ensures)
 
--- src/lib.rt:107:12
 holds-requires : tie.Need-holds-requires Inv-loop μ-loop
 holds-requires c κs =
-    omega (arith, c .before .before .pre .0 .1)
+    omega (arith, c .before .loop .inv .below, c .before .before .before .before .pre .0, capacity-within (c .before .before .before .before .args .table .now))
 
--- src/lib.rt:108:13
 returns : tie.Need-returns Inv-loop μ-loop
 returns c =
-    first-found (c .before .before .before .loop .inv .1) (c .before .before .loop-test .taken) (c .before .holds .ensures) (c .if1 .taken)
+    found-here (c .before .before .before .loop .inv) (c .before .holds .ensures) (c .if1 .taken)
 
--- src/lib.rt:110:9
-add-i : tie.Need-add-i Inv-loop μ-loop
-add-i c = search needs
+mul-cell : tie.Need-mul-cell Inv-loop μ-loop
+mul-cell c =
+    omega (arith, c .before .before .before .loop .inv .below, c .before .before .before .before .before .before .pre .0, capacity-within (c .before .before .before .before .before .before .args .table .now))
 
--- src/lib.rt:106:5
+add-cell : tie.Need-add-cell Inv-loop μ-loop
+add-cell c =
+    omega (arith, c .before .before .before .loop .inv .below, c .before .before .before .before .before .before .pre .0, capacity-within (c .before .before .before .before .before .before .args .table .now))
+
+cell-requires-2 : tie.Need-cell-requires-2 Inv-loop μ-loop
+cell-requires-2 c κs =
+    omega (arith, c .before .before .before .loop .inv .below, c .before .before .before .before .before .before .pre .0, capacity-within (c .before .before .before .before .before .before .args .table .now))
+
 loop-less : tie.Need-loop-less Inv-loop μ-loop
-loop-less c = search needs
+loop-less c =
+    omega (arith, c .cell2 .ensures, c .before .before .before .before .before .before .before .pre .1 .0 .links _ (c .before .before .before .loop-test .taken) (c .before .before .before .before .loop .inv .below))
 
--- src/lib.rt:106:5
 loop-again : tie.Need-loop-again Inv-loop μ-loop
 loop-again c =
-    (search needs, passed-more (c .before .before .before .loop .inv .1) (c .before .holds .ensures) (c .if1 .left))
+    passed-more (c .before .before .before .before .before .before .before .pre .1 .0) (c .before .before .before .before .before .before .before .pre .1 .1) (c .before .before .before .before .loop .inv) (c .before .before .before .loop-test .taken) (c .before .before .holds .ensures) (c .before .if1 .left) (c .cell2 .ensures)
 
--- src/lib.rt:100:1
 returns-2 : tie.Need-returns-2 Inv-loop μ-loop
 returns-2 c =
-    first-none (c .before .loop .inv .1) (c .before .loop .inv .0) (c .loop-test .left)
+    found-none (c .before .loop .inv) (c .loop-test .left)
 
 pub find-spec : {M : Type 1} → statement M
 find-spec =
@@ -55,10 +58,13 @@ find-spec =
     (tie.spec
     Inv-loop
     μ-loop
+    cell-requires
     loop-holds
     holds-requires
     returns
-    add-i
+    mul-cell
+    add-cell
+    cell-requires-2
     loop-less
     loop-again
     returns-2)

@@ -1,60 +1,62 @@
--- `types::find_tuple` meets its contract: no record passed is the Tuple; the measure is what is left.
+-- `types::find_tuple` meets its contract: no record passed is the Tuple; the measure is the number, since links lead to lower ones.
+use Rattle.types.proofs.Room.{capacity-within, slots-within}
 use Rattle.types.proofs.Readers.{is-number}
-use Rattle.types.proofs.Searching.{small-of, least-within, tuple-passed, passed-more, first-found, first-none}
+use Rattle.types.proofs.Chains.{chains-of}
+use Rattle.types.proofs.Searching.{passed-none, passed-more, found-here, found-none}
 use Rattle.types.specs.Steps.{TupleAt, Passed}
-use Prim.Native.Nat.{_≤_, _-_}
 use native.Mathlib.Omega.{arith}
 use borrow.Author.Needs.{needs}
 use Rattle.types.proofs.find_tuple.Statement.{statement}
 use Rattle.types.proofs.find_tuple.Tie as tie
-use Rattle.types.proofs.find_tuple.Reads as reads
-use Rattle.types.proofs.find_tuple.Lts as lts
-use Rattle.types.proofs.least_above.Reads as least-above-reads
-use Rattle.types.proofs.matches.Reads as matches-reads
 
 abbrev Inv-loop : tie.InvT-loop
-Inv-loop table stack from n types i₀ i = (i ≤ types) × Passed (TupleAt table stack from n) i
+Inv-loop table slot counts stack from n elements i₀ i = Passed (TupleAt table stack from n) table (counts .types) slot i
 
 abbrev μ-loop : tie.MeasureT-loop
-μ-loop table stack from n types i₀ i = types - i
+μ-loop table slot counts stack from n elements i₀ i = i
 
--- src/lib.rt:206:9
-least-above-requires : tie.Need-least-above-requires Inv-loop μ-loop
-least-above-requires c κs =
-    small-of (c .pre)
+base-requires : tie.Need-base-requires Inv-loop μ-loop
+base-requires c = search needs
 
--- src/lib.rt:207:5
+cell-requires : tie.Need-cell-requires Inv-loop μ-loop
+cell-requires c κs =
+    omega (arith, c .before .before .before .pre .1 .most, slots-within (c .before .before .before .args .table .now))
+
 loop-holds : tie.Need-loop-holds Inv-loop μ-loop
 loop-holds c =
-    (least-within (c .before .pre) (c .least-above .ensures), tuple-passed (c .before .pre) (c .least-above .ensures))
+    passed-none (chains-of _ _ (c .before .before .before .before .pre .0 .wf .chained)) (c .before .before .before .before .pre .1) (c .cell .ensures)
 
--- src/lib.rt:208:12
 matches-requires : tie.Need-matches-requires Inv-loop μ-loop
 matches-requires c κs =
-    (is-number (c .before .before .before .pre .wf) _ (c .loop-test .taken), c .before .before .before .pre .inside)
+    (c .before .before .before .base .ensures, (is-number (c .before .before .before .before .before .before .pre .0 .wf) _ (c .before .loop .inv .below), c .before .before .before .before .before .before .pre .0 .inside))
 
--- src/lib.rt:209:13
 returns : tie.Need-returns Inv-loop μ-loop
 returns c =
-    first-found (c .before .before .before .loop .inv .1) (c .before .before .loop-test .taken) (c .before .matches .ensures) (c .if1 .taken)
+    found-here (c .before .before .before .loop .inv) (c .before .matches .ensures) (c .if1 .taken)
 
--- src/lib.rt:211:9
-add-i : tie.Need-add-i Inv-loop μ-loop
-add-i c = search needs
+mul-cell : tie.Need-mul-cell Inv-loop μ-loop
+mul-cell c =
+    omega (arith, c .before .before .before .loop .inv .below, c .before .before .before .before .before .before .before .before .pre .0 .wf .room, capacity-within (c .before .before .before .before .before .before .before .before .args .table .now))
 
--- src/lib.rt:207:5
+add-cell : tie.Need-add-cell Inv-loop μ-loop
+add-cell c =
+    omega (arith, c .before .before .before .loop .inv .below, c .before .before .before .before .before .before .before .before .pre .0 .wf .room, capacity-within (c .before .before .before .before .before .before .before .before .args .table .now))
+
+cell-requires-2 : tie.Need-cell-requires-2 Inv-loop μ-loop
+cell-requires-2 c κs =
+    omega (arith, c .before .before .before .loop .inv .below, c .before .before .before .before .before .before .before .before .pre .0 .wf .room, capacity-within (c .before .before .before .before .before .before .before .before .args .table .now))
+
 loop-less : tie.Need-loop-less Inv-loop μ-loop
-loop-less c = search needs
+loop-less c =
+    omega (arith, c .cell2 .ensures, chains-of _ _ (c .before .before .before .before .before .before .before .before .before .pre .0 .wf .chained) .links _ (c .before .before .before .loop-test .taken) (c .before .before .before .before .loop .inv .below))
 
--- src/lib.rt:207:5
 loop-again : tie.Need-loop-again Inv-loop μ-loop
 loop-again c =
-    (search needs, passed-more (c .before .before .before .loop .inv .1) (c .before .matches .ensures) (c .if1 .left))
+    passed-more (chains-of _ _ (c .before .before .before .before .before .before .before .before .before .pre .0 .wf .chained)) (c .before .before .before .before .before .before .before .before .before .pre .1) (c .before .before .before .before .loop .inv) (c .before .before .before .loop-test .taken) (c .before .before .matches .ensures) (c .before .if1 .left) (c .cell2 .ensures)
 
--- src/lib.rt:195:1
 returns-2 : tie.Need-returns-2 Inv-loop μ-loop
 returns-2 c =
-    first-none (c .before .loop .inv .1) (c .before .loop .inv .0) (c .loop-test .left)
+    found-none (c .before .loop .inv) (c .loop-test .left)
 
 pub find-tuple-spec : {M : Type 1} → statement M
 find-tuple-spec =
@@ -62,11 +64,14 @@ find-tuple-spec =
     (tie.spec
     Inv-loop
     μ-loop
-    least-above-requires
+    base-requires
+    cell-requires
     loop-holds
     matches-requires
     returns
-    add-i
+    mul-cell
+    add-cell
+    cell-requires-2
     loop-less
     loop-again
     returns-2)

@@ -1,88 +1,81 @@
--- `types::form` meets its contract: the record was found, or it is written at the end.
+-- `types::form` meets its contract: the record was found, or it is added at the end.
+use Rattle.types.proofs.Chains.{chains-of, record-slot}
+use Rattle.types.proofs.Searching.{form-slot, add-room}
 use Rattle.types.proofs.Forming.{form-old, form-new}
-use Rattle.types.proofs.Searching.{form-within, form-passed}
-use native.Mathlib.Omega.{arith}
+use mathlib.Core.Path.{refl}
 use borrow.Author.Needs.{needs}
 use Rattle.types.proofs.form.Statement.{statement}
 use Rattle.types.proofs.form.Tie as tie
-use Rattle.types.proofs.form.Reads as reads
-use Rattle.types.proofs.form.Lts as lts
-use Rattle.types.proofs.above.Reads as above-reads
-use Rattle.types.proofs.find.Reads as find-reads
-use Rattle.types.proofs.put.Reads as put-reads
 
--- src/lib.rt:127:22
-above-requires : tie.Need-above-requires
-above-requires c κs =
-    omega (arith, c .pre .first, c .pre .wf .room)
+mixed-requires : tie.Need-mixed-requires
+mixed-requires c κs = search needs
 
--- src/lib.rt:127:9
-above-requires-2 : tie.Need-above-requires-2
-above-requires-2 c κs =
-    omega (arith, c .before .pre .second, c .before .pre .wf .room)
+mixed-requires-2 : tie.Need-mixed-requires-2
+mixed-requires-2 c κs = search needs
 
--- src/lib.rt:128:38
+slot-of-requires : tie.Need-slot-of-requires
+slot-of-requires c κs = search needs
+
 cast-find : tie.Need-cast-find
 cast-find c = search needs
 
--- src/lib.rt:128:51
 cast-find-2 : tie.Need-cast-find-2
 cast-find-2 c = search needs
 
--- src/lib.rt:128:61
 cast-find-3 : tie.Need-cast-find-3
 cast-find-3 c = search needs
 
--- src/lib.rt:128:9
 find-requires : tie.Need-find-requires
 find-requires c κs =
-    ((form-within (c .before .before .before .pre) (c .before .before .above .ensures) (c .before .above2 .ensures), c .before .before .before .pre .wf .room), form-passed (c .before .before .before .pre) (c .before .before .above .ensures) (c .before .above2 .ensures))
+    (c .before .before .before .before .before .before .pre .wf .room, (chains-of _ _ (c .before .before .before .before .before .before .pre .wf .chained), form-slot (c .before .before .before .before .before .before .pre) (record-slot _ _ _ _ (c .before .before .before .mixed .ensures .0) (c .before .before .mixed2 .ensures .0) (c .before .slot-of .ensures))))
 
--- src/lib.rt:132:27
-cast-put : tie.Need-cast-put
-cast-put c = search needs
+cast-add : tie.Need-cast-add
+cast-add c = search needs
 
--- src/lib.rt:132:40
-cast-put-2 : tie.Need-cast-put-2
-cast-put-2 c = search needs
+cast-add-2 : tie.Need-cast-add-2
+cast-add-2 c = search needs
 
--- src/lib.rt:132:50
-cast-put-3 : tie.Need-cast-put-3
-cast-put-3 c = search needs
+cast-add-3 : tie.Need-cast-add-3
+cast-add-3 c = search needs
 
--- src/lib.rt:132:9
-put-requires : tie.Need-put-requires
-put-requires c κs =
-    (c .before .before .before .before .before .before .pre .room, c .before .before .before .before .before .before .pre .wf .long)
+add-requires : tie.Need-add-requires
+add-requires c κs =
+    add-room _ refl (c .before .before .before .before .before .before .before .before .before .pre .wf) (c .before .before .before .before .before .before .before .before .before .pre .room) (form-slot (c .before .before .before .before .before .before .before .before .before .pre) (record-slot _ _ _ _ (c .before .before .before .before .before .before .mixed .ensures .0) (c .before .before .before .before .before .mixed2 .ensures .0) (c .before .before .before .before .slot-of .ensures)))
 
--- src/lib.rt:136:24
-add-t21 : tie.Need-add-t21
-add-t21 c = search needs
+add-t26 : tie.Need-add-t26
+add-t26 c = search needs
 
--- src/lib.rt:117:1
+same-length : tie.Need-same-length
+same-length c = search needs
+
 returns : tie.Need-returns
 returns c =
-    form-old _ _ _ _ (c .before .before .before .before .before .pre) _ (c .before .find .ensures) (c .if1 .taken)
+    form-old _ _ _ _ (c .before .before .before .before .before .before .before .before .pre) _ (c .before .find .ensures) (c .if1 .taken)
 
--- src/lib.rt:117:1
+same-length-2 : tie.Need-same-length-2
+same-length-2 c = search needs
+
 returns-2 : tie.Need-returns-2
 returns-2 c =
-    form-new _ _ _ _ (c .before .before .before .before .before .before .before .pre) (c .before .before .before .find .ensures) (c .before .before .if1 .left) (c .put .ensures)
+    form-new _ _ _ _ (c .before .before .before .before .before .before .before .before .before .before .before .before .pre) (c .before .before .before .before .before .find .ensures) (c .before .before .before .before .if1 .left) (record-slot _ _ _ _ (c .before .before .before .before .before .before .before .before .before .mixed .ensures .0) (c .before .before .before .before .before .before .before .before .mixed2 .ensures .0) (c .before .before .before .before .before .before .before .slot-of .ensures)) (c .before .before .add .ensures)
 
 pub form-spec : {M : Type 1} → statement M
 form-spec =
     tie.close
     (tie.spec
-    above-requires
-    above-requires-2
+    mixed-requires
+    mixed-requires-2
+    slot-of-requires
     cast-find
     cast-find-2
     cast-find-3
     find-requires
-    cast-put
-    cast-put-2
-    cast-put-3
-    put-requires
-    add-t21
+    cast-add
+    cast-add-2
+    cast-add-3
+    add-requires
+    add-t26
+    same-length
     returns
+    same-length-2
     returns-2)

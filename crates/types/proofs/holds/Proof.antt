@@ -10,8 +10,8 @@ mul-if1 c = search needs
 mul-if1-2 : tie.Need-mul-if1-2
 mul-if1-2 c = search needs
 
-element-copy-out-if1 : tie.Need-element-copy-out-if1
-element-copy-out-if1 c = search needs
+shared-slice-read-if1 : tie.Need-shared-slice-read-if1
+shared-slice-read-if1 c = search needs
 
 returns : tie.Need-returns
 returns c =
@@ -26,8 +26,8 @@ add-if2 c = search needs
 mul-if2-2 : tie.Need-mul-if2-2
 mul-if2-2 c = search needs
 
-element-copy-out-if2 : tie.Need-element-copy-out-if2
-element-copy-out-if2 c = search needs
+shared-slice-read-if2 : tie.Need-shared-slice-read-if2
+shared-slice-read-if2 c = search needs
 
 returns-2 : tie.Need-returns-2
 returns-2 c =
@@ -42,8 +42,8 @@ add-if3 c = search needs
 mul-if3-2 : tie.Need-mul-if3-2
 mul-if3-2 c = search needs
 
-element-copy-out-if3 : tie.Need-element-copy-out-if3
-element-copy-out-if3 c = search needs
+shared-slice-read-if3 : tie.Need-shared-slice-read-if3
+shared-slice-read-if3 c = search needs
 
 returns-3 : tie.Need-returns-3
 returns-3 c =
@@ -59,16 +59,16 @@ holds-spec =
     (tie.spec
     mul-if1
     mul-if1-2
-    element-copy-out-if1
+    shared-slice-read-if1
     returns
     mul-if2
     add-if2
     mul-if2-2
-    element-copy-out-if2
+    shared-slice-read-if2
     returns-2
     mul-if3
     add-if3
     mul-if3-2
-    element-copy-out-if3
+    shared-slice-read-if3
     returns-3
     returns-4)

@@ -1,4 +1,6 @@
 -- `types::put` meets its contract: three cells are set.
+use lib.ListN.{length-set}
+use native.Mathlib.Omega.{arith}
 use Rattle.types.proofs.Writing.{written}
 use borrow.Author.Needs.{needs}
 use Rattle.types.proofs.put.Statement.{statement}
@@ -10,8 +12,8 @@ mul-table c = search needs
 mul-table-2 : tie.Need-mul-table-2
 mul-table-2 c = search needs
 
-element-write-table : tie.Need-element-write-table
-element-write-table c = search needs
+slice-write-table : tie.Need-slice-write-table
+slice-write-table c = search needs
 
 mul-table-3 : tie.Need-mul-table-3
 mul-table-3 c = search needs
@@ -22,8 +24,9 @@ add-table c = search needs
 mul-table-4 : tie.Need-mul-table-4
 mul-table-4 c = search needs
 
-element-write-table-2 : tie.Need-element-write-table-2
-element-write-table-2 c = search needs
+slice-write-table-2 : tie.Need-slice-write-table-2
+slice-write-table-2 c =
+    simp length-set (omega arith)
 
 mul-table-5 : tie.Need-mul-table-5
 mul-table-5 c = search needs
@@ -34,12 +37,17 @@ add-table-2 c = search needs
 mul-table-6 : tie.Need-mul-table-6
 mul-table-6 c = search needs
 
-element-write-table-3 : tie.Need-element-write-table-3
-element-write-table-3 c = search needs
+slice-write-table-3 : tie.Need-slice-write-table-3
+slice-write-table-3 c =
+    simp length-set (omega arith)
+
+same-length : tie.Need-same-length
+same-length c =
+    simp length-set
 
 returns : tie.Need-returns
 returns c =
-    written (c .args .table .now) _ _ _ _ (c .pre .0) (c .pre .1)
+    written (c .args .table .now) _ _ _ _ (c .pre)
 
 pub put-spec : {M : Type 1} → statement M
 put-spec =
@@ -47,13 +55,14 @@ put-spec =
     (tie.spec
     mul-table
     mul-table-2
-    element-write-table
+    slice-write-table
     mul-table-3
     add-table
     mul-table-4
-    element-write-table-2
+    slice-write-table-2
     mul-table-5
     add-table-2
     mul-table-6
-    element-write-table-3
+    slice-write-table-3
+    same-length
     returns)
