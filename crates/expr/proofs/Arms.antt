@@ -22,8 +22,8 @@ use Rattle.meaning.proofs.Nesting.{sound-nested, nodes-many, node-stands}
 use Rattle.meaning.proofs.Decoding.{literal-at, variable-at}
 use Rattle.types.specs.Table.{Tab, denote, Means}
 use Rattle.types.proofs.Laws.{plain-number}
-use Rattle.frames.specs.Env.{Rows, framesOf}
-use Rattle.nodes.specs.Operands.{literalNumber, Variable}
+use Rattle.frames.specs.Env.{Rows, framesOf, Looked}
+use Rattle.nodes.specs.Operands.{literalNumber}
 use Rattle.nodes.proofs.Laws.{literal-means}
 use Rattle.expr.specs.Contract.{Ready, At, Done}
 use Rattle.expr.proofs.Rows.{ends-after, shallow}
@@ -108,7 +108,7 @@ module _ {bs : List ℕ} {nodes : ℕ} {fs : Rows} {top : ℕ} {t : Tab} {st : L
       let q : nodeOf (nodesOf bs) i .arg < nameCount bs = rw w at (node-stands (sound-nested (r .sound)) i inside .arg) in
       (r .fit .high, rw (e, o) (omega (arith, q, sizes (r .sound .headed) .names)))
 
-  pub variable-done : {x v code place number a b : ℕ} → node .kind ≡ 21 → x ≡ node .arg → code ≡ 0 → number ≡ v → Variable fs top x v
+  pub variable-done : {x v code place number a b : ℕ} → node .kind ≡ 21 → x ≡ node .arg → code ≡ 0 → number ≡ v → Looked fs top x v
       → Done (namesOf bs) (check (namesOf bs) (framesOf t fs top) (exprAt (nodesOf bs) d i)) t t st st sp i (stopOf (nodesOf bs) i) (nodeCount bs) code place number a b
   unfolding checkForm
   variable-done {x} k e z n w =
@@ -133,5 +133,5 @@ literal-few (suc (suc (suc zero))) e = omega arith
 literal-few (suc (suc (suc (suc zero)))) e = omega arith
 literal-few (suc (suc (suc (suc (suc a))))) e = omega arith
 
-pub variable-few : {bs : List ℕ} {nodes : ℕ} {fs : Rows} {top : ℕ} {t : Tab} {st : List ℕ} {sp i e x v : ℕ} → Ready bs nodes fs top t st sp i e → Variable fs top x v → v < 65535
+pub variable-few : {bs : List ℕ} {nodes : ℕ} {fs : Rows} {top : ℕ} {t : Tab} {st : List ℕ} {sp i e x v : ℕ} → Ready bs nodes fs top t st sp i e → Looked fs top x v → v < 65535
 variable-few {t = t} r w = omega (arith, w .says t (r .wf) (r .fit) .below, r .wf .room, r .wf .most)

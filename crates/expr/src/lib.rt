@@ -1,16 +1,21 @@
 // The type of an expression (T's tc_expr). The cycle evaluates children left to right; what a node gives, once its children are checked, is
 // decided outside it, in `nodes` and `rules`. Remaining depth falls at each call; pending types wait on the stack.
 ghost use mathlib.Core.Path.{_≡_};
-ghost use Prim.Native.Nat.{suc, _-_, _<_};
+ghost use Prim.Native.Nat.{_<_};
 ghost use lib.ListN.{getD, set};
-ghost use Rattle.meaning.specs.Image.{nodeCount, nodesOf, nodeOf, namesOf};
-ghost use Rattle.meaning.specs.Decode.{exprAt, formAt, stopOf, past};
-ghost use Rattle.meaning.specs.Rules.{check, checkForm, rangeRule};
-ghost use Rattle.frames.specs.Env.{framesOf};
+ghost use Rattle.meaning.specs.Image.{nodeCount};
+ghost use Rattle.meaning.specs.Rules.{rangeRule};
 ghost use Rattle.rules.specs.Builtins.{numberedRule};
-ghost use Rattle.nodes.specs.Notes.{placeIn, firstIn, secondIn, tabIn, verdict, Noting, Kept};
-ghost use Rattle.expr.specs.Contract.{Ready, At, Inner, Row, Done, Values, checks, Operand, Enough, firstCode, streamOf};
+ghost use Rattle.nodes.specs.Lent.{lent};
+ghost use Rattle.expr.specs.Contract.{Enough, firstCode, streamOf};
+ghost use Rattle.expr.specs.Clauses.{Checkable, OfKind, Ruled, InRow, Called, Checks, ChecksForm, ChecksAll, Calls};
+use frames::Frames;
+use frames::lookup;
+use image::kinds;
 use image::node_at;
+use nodes::NO_TYPE;
+use nodes::Notes;
+use nodes::Stack;
 use nodes::argued;
 use nodes::counts_of;
 use nodes::decide;
@@ -24,12 +29,14 @@ use nodes::operated;
 use nodes::plan;
 use nodes::refused;
 use nodes::stop_of;
-use nodes::variable;
 use rules::bound;
+use rules::builtin;
 use rules::callable;
+use rules::codes;
 use rules::dict_step;
 use rules::list_step;
 use rules::stream;
+use types;
 
 fn wide(x: u16) -> usize
     ensures { λ r. ⌜ r ≡ x ⌝ }
@@ -38,14 +45,14 @@ fn wide(x: u16) -> usize
 }
 
 // The number at a place of the stack.
-fn number_at(stack: &[u16; 2048], at: usize) -> usize
+fn number_at(stack: &Stack, at: usize) -> usize
     requires { ⌜ at < 2048 ⌝ }
     ensures { λ r. ⌜ r ≡ getD (now (stack .entry)) at 0 ⌝ }
 {
     wide(stack[at])
 }
 
-fn push(stack: &mut [u16; 2048], at: usize, number: usize)
+fn push(stack: &mut Stack, at: usize, number: usize)
     requires { ⌜ (at < 2048) × (number < 2056) ⌝ }
     ensures { λ _. ⌜ now (stack .exit) ≡ set (now (stack .entry)) at number ⌝ }
 {
@@ -56,31 +63,26 @@ fn push(stack: &mut [u16; 2048], at: usize, number: usize)
 pub fn expr(
     image: &[u8],
     nodes: usize,
-    frames: &[[u16; 128]; 8],
+    frames: &Frames,
     top: usize,
     table: &mut [u16],
-    notes: &mut [u32; 8],
-    stack: &mut [u16; 2048],
+    notes: &mut Notes,
+    stack: &mut Stack,
     sp: usize,
     at: usize,
     depth: usize,
 ) -> usize
-    requires { ⌜ Noting (now notes) ⌝ }
-    requires { ⌜ Ready (now image) nodes (now frames) top (tabIn (now table) (now notes)) (now stack) sp at (stopOf (nodesOf (now image)) at) ⌝ }
-    requires { ⌜ At (now image) at depth ⌝ }
-    ensures { λ r. ⌜ Done (namesOf (now (image .entry)))
-        (check (namesOf (now (image .entry))) (framesOf (tabIn (now (table .entry)) (now (notes .entry))) (now (frames .entry)) top) (exprAt (nodesOf (now (image .entry))) depth at))
-        (tabIn (now (table .entry)) (now (notes .entry)))
-        (tabIn (now (table .exit)) (now (notes .exit)))
-        (now (stack .entry)) (now (stack .exit)) sp at (stopOf (nodesOf (now (image .entry))) at) (nodeCount (now (image .entry))) (verdict r (now (notes .exit))) (placeIn (now (notes .exit))) r (firstIn (now (notes .exit))) (secondIn (now (notes .exit))) ⌝ }
-    ensures { λ r. ⌜ Kept (now (notes .entry)) (now (notes .exit)) r ⌝ }
+    requires { ⌜ Checkable (now image) nodes top sp at depth (lent (now frames) (now table) (now notes) (now stack)) ⌝ }
+    ensures { λ r. ⌜ Checks (now (image .entry)) top sp at depth r
+        (lent (now (frames .entry)) (now (table .entry)) (now (notes .entry)) (now (stack .entry)))
+        (lent (now (frames .entry)) (now (table .exit)) (now (notes .exit)) (now (stack .exit))) ⌝ }
 {
     let node = node_at(image, nodes, at);
     let kind = node.kind;
     match kind {
-        20 => literal(node.arg),
-        21 => variable(frames, top, node.arg as usize),
-        22 => operands(
+        kinds::LITERAL => literal(node.arg),
+        kinds::VARIABLE => lookup(frames, top, node.arg as usize),
+        kinds::UNARY => operands(
             image,
             nodes,
             frames,
@@ -92,7 +94,7 @@ pub fn expr(
             at,
             depth - 1,
         ),
-        23 => pair(
+        kinds::BINARY => pair(
             image,
             nodes,
             frames,
@@ -104,7 +106,7 @@ pub fn expr(
             at,
             depth - 1,
         ),
-        24 => call(
+        kinds::CALL => call(
             image,
             nodes,
             frames,
@@ -116,7 +118,7 @@ pub fn expr(
             at,
             depth - 1,
         ),
-        25 => operands(
+        kinds::ATTRIBUTE => operands(
             image,
             nodes,
             frames,
@@ -128,7 +130,7 @@ pub fn expr(
             at,
             depth - 1,
         ),
-        26 => list(
+        kinds::LIST => list(
             image,
             nodes,
             frames,
@@ -140,7 +142,7 @@ pub fn expr(
             at,
             depth - 1,
         ),
-        27 => dict(
+        kinds::DICT => dict(
             image,
             nodes,
             frames,
@@ -152,7 +154,7 @@ pub fn expr(
             at,
             depth - 1,
         ),
-        28..=31 => operands(
+        kinds::TUPLE..=kinds::INDEX => operands(
             image,
             nodes,
             frames,
@@ -164,7 +166,7 @@ pub fn expr(
             at,
             depth - 1,
         ),
-        _ => 7,
+        _ => types::FUNCTION,
     }
 }
 
@@ -172,31 +174,26 @@ pub fn expr(
 fn child(
     image: &[u8],
     nodes: usize,
-    frames: &[[u16; 128]; 8],
+    frames: &Frames,
     top: usize,
     table: &mut [u16],
-    notes: &mut [u32; 8],
-    stack: &mut [u16; 2048],
+    notes: &mut Notes,
+    stack: &mut Stack,
     sp: usize,
     at: usize,
     depth: usize,
 ) -> usize
-    requires { ⌜ Noting (now notes) ⌝ }
-    requires { ⌜ Ready (now image) nodes (now frames) top (tabIn (now table) (now notes)) (now stack) sp at (stopOf (nodesOf (now image)) at) ⌝ }
-    requires { ⌜ At (now image) at depth ⌝ }
-    ensures { λ r. ⌜ Done (namesOf (now (image .entry)))
-        (check (namesOf (now (image .entry))) (framesOf (tabIn (now (table .entry)) (now (notes .entry))) (now (frames .entry)) top) (exprAt (nodesOf (now (image .entry))) depth at))
-        (tabIn (now (table .entry)) (now (notes .entry)))
-        (tabIn (now (table .exit)) (now (notes .exit)))
-        (now (stack .entry)) (now (stack .exit)) sp at (stopOf (nodesOf (now (image .entry))) at) (nodeCount (now (image .entry))) (verdict r (now (notes .exit))) (placeIn (now (notes .exit))) r (firstIn (now (notes .exit))) (secondIn (now (notes .exit))) ⌝ }
-    ensures { λ r. ⌜ Kept (now (notes .entry)) (now (notes .exit)) r ⌝ }
+    requires { ⌜ Checkable (now image) nodes top sp at depth (lent (now frames) (now table) (now notes) (now stack)) ⌝ }
+    ensures { λ r. ⌜ Checks (now (image .entry)) top sp at depth r
+        (lent (now (frames .entry)) (now (table .entry)) (now (notes .entry)) (now (stack .entry)))
+        (lent (now (frames .entry)) (now (table .exit)) (now (notes .exit)) (now (stack .exit))) ⌝ }
 {
     let node = node_at(image, nodes, at);
-    if node.kind == 20 {
+    if node.kind == kinds::LITERAL {
         return literal(node.arg);
     }
-    if node.kind == 21 {
-        return variable(frames, top, node.arg as usize);
+    if node.kind == kinds::VARIABLE {
+        return lookup(frames, top, node.arg as usize);
     }
     expr(
         image,
@@ -216,25 +213,20 @@ fn child(
 fn values(
     image: &[u8],
     nodes: usize,
-    frames: &[[u16; 128]; 8],
+    frames: &Frames,
     top: usize,
     table: &mut [u16],
-    notes: &mut [u32; 8],
-    stack: &mut [u16; 2048],
+    notes: &mut Notes,
+    stack: &mut Stack,
     sp: usize,
     from: usize,
     n: usize,
     depth: usize,
 ) -> usize
-    requires { ⌜ Noting (now notes) ⌝ }
-    requires { ⌜ Ready (now image) nodes (now frames) top (tabIn (now table) (now notes)) (now stack) sp from (past (nodesOf (now image)) n from) ⌝ }
-    requires { ⌜ Row (now image) from n depth ⌝ }
-    ensures { λ r. ⌜ Values (namesOf (now (image .entry)))
-        (checks (now (image .entry)) (framesOf (tabIn (now (table .entry)) (now (notes .entry))) (now (frames .entry)) top) depth n from)
-        (tabIn (now (table .entry)) (now (notes .entry)))
-        (tabIn (now (table .exit)) (now (notes .exit)))
-        (now (stack .entry)) (now (stack .exit)) sp n from (past (nodesOf (now (image .entry))) n from) (nodeCount (now (image .entry))) (verdict r (now (notes .exit))) (placeIn (now (notes .exit))) (firstIn (now (notes .exit))) (secondIn (now (notes .exit))) ⌝ }
-    ensures { λ r. ⌜ Kept (now (notes .entry)) (now (notes .exit)) r ⌝ }
+    requires { ⌜ InRow (now image) nodes top sp from n depth (lent (now frames) (now table) (now notes) (now stack)) ⌝ }
+    ensures { λ r. ⌜ ChecksAll (now (image .entry)) top sp from n depth r
+        (lent (now (frames .entry)) (now (table .entry)) (now (notes .entry)) (now (stack .entry)))
+        (lent (now (frames .entry)) (now (table .exit)) (now (notes .exit)) (now (stack .exit))) ⌝ }
 {
     let mut at = from;
     let mut left = n;
@@ -252,7 +244,7 @@ fn values(
             at,
             depth,
         );
-        if r == 65535 {
+        if r == NO_TYPE {
             return r;
         }
         push(stack, up, r);
@@ -267,26 +259,19 @@ fn values(
 fn operands(
     image: &[u8],
     nodes: usize,
-    frames: &[[u16; 128]; 8],
+    frames: &Frames,
     top: usize,
     table: &mut [u16],
-    notes: &mut [u32; 8],
-    stack: &mut [u16; 2048],
+    notes: &mut Notes,
+    stack: &mut Stack,
     sp: usize,
     at: usize,
     depth: usize,
 ) -> usize
-    requires { ⌜ Noting (now notes) ⌝ }
-    requires { ⌜ Ready (now image) nodes (now frames) top (tabIn (now table) (now notes)) (now stack) sp at (stopOf (nodesOf (now image)) at) ⌝ }
-    requires { ⌜ Inner (now image) at depth (nodeOf (nodesOf (now image)) at) ⌝ }
-    requires { ⌜ Operand (now image) at depth ⌝ }
-    requires { ⌜ (nodeOf (nodesOf (now image)) at .kind ≡ 23 → ⊥) ⌝ }
-    ensures { λ r. ⌜ Done (namesOf (now (image .entry)))
-        (checkForm (namesOf (now (image .entry))) (framesOf (tabIn (now (table .entry)) (now (notes .entry))) (now (frames .entry)) top) at (formAt (nodesOf (now (image .entry))) (λ j. exprAt (nodesOf (now (image .entry))) depth j) at))
-        (tabIn (now (table .entry)) (now (notes .entry)))
-        (tabIn (now (table .exit)) (now (notes .exit)))
-        (now (stack .entry)) (now (stack .exit)) sp at (stopOf (nodesOf (now (image .entry))) at) (nodeCount (now (image .entry))) (verdict r (now (notes .exit))) (placeIn (now (notes .exit))) r (firstIn (now (notes .exit))) (secondIn (now (notes .exit))) ⌝ }
-    ensures { λ r. ⌜ Kept (now (notes .entry)) (now (notes .exit)) r ⌝ }
+    requires { ⌜ Ruled (now image) nodes top sp at depth (lent (now frames) (now table) (now notes) (now stack)) ⌝ }
+    ensures { λ r. ⌜ ChecksForm (now (image .entry)) top sp at depth r
+        (lent (now (frames .entry)) (now (table .entry)) (now (notes .entry)) (now (stack .entry)))
+        (lent (now (frames .entry)) (now (table .exit)) (now (notes .exit)) (now (stack .exit))) ⌝ }
 {
     let node = node_at(image, nodes, at);
     let n = node.children as usize;
@@ -303,7 +288,7 @@ fn operands(
         n,
         depth,
     );
-    if r == 65535 {
+    if r == NO_TYPE {
         return r;
     }
     decide(image, nodes, table, notes, stack, sp, at)
@@ -313,25 +298,19 @@ fn operands(
 fn pair(
     image: &[u8],
     nodes: usize,
-    frames: &[[u16; 128]; 8],
+    frames: &Frames,
     top: usize,
     table: &mut [u16],
-    notes: &mut [u32; 8],
-    stack: &mut [u16; 2048],
+    notes: &mut Notes,
+    stack: &mut Stack,
     sp: usize,
     at: usize,
     depth: usize,
 ) -> usize
-    requires { ⌜ Noting (now notes) ⌝ }
-    requires { ⌜ Ready (now image) nodes (now frames) top (tabIn (now table) (now notes)) (now stack) sp at (stopOf (nodesOf (now image)) at) ⌝ }
-    requires { ⌜ Inner (now image) at depth (nodeOf (nodesOf (now image)) at) ⌝ }
-    requires { ⌜ nodeOf (nodesOf (now image)) at .kind ≡ 23 ⌝ }
-    ensures { λ r. ⌜ Done (namesOf (now (image .entry)))
-        (checkForm (namesOf (now (image .entry))) (framesOf (tabIn (now (table .entry)) (now (notes .entry))) (now (frames .entry)) top) at (formAt (nodesOf (now (image .entry))) (λ j. exprAt (nodesOf (now (image .entry))) depth j) at))
-        (tabIn (now (table .entry)) (now (notes .entry)))
-        (tabIn (now (table .exit)) (now (notes .exit)))
-        (now (stack .entry)) (now (stack .exit)) sp at (stopOf (nodesOf (now (image .entry))) at) (nodeCount (now (image .entry))) (verdict r (now (notes .exit))) (placeIn (now (notes .exit))) r (firstIn (now (notes .exit))) (secondIn (now (notes .exit))) ⌝ }
-    ensures { λ r. ⌜ Kept (now (notes .entry)) (now (notes .exit)) r ⌝ }
+    requires { ⌜ OfKind 23 (now image) nodes top sp at depth (lent (now frames) (now table) (now notes) (now stack)) ⌝ }
+    ensures { λ r. ⌜ ChecksForm (now (image .entry)) top sp at depth r
+        (lent (now (frames .entry)) (now (table .entry)) (now (notes .entry)) (now (stack .entry)))
+        (lent (now (frames .entry)) (now (table .exit)) (now (notes .exit)) (now (stack .exit))) ⌝ }
 {
     let node = node_at(image, nodes, at);
     let left = at + 1;
@@ -347,7 +326,7 @@ fn pair(
         left,
         depth,
     );
-    if l == 65535 {
+    if l == NO_TYPE {
         return l;
     }
     push(stack, sp, l);
@@ -364,7 +343,7 @@ fn pair(
         right,
         depth,
     );
-    if r == 65535 {
+    if r == NO_TYPE {
         return r;
     }
     operated(table, notes, l, r, at, node.arg)
@@ -374,30 +353,24 @@ fn pair(
 fn list(
     image: &[u8],
     nodes: usize,
-    frames: &[[u16; 128]; 8],
+    frames: &Frames,
     top: usize,
     table: &mut [u16],
-    notes: &mut [u32; 8],
-    stack: &mut [u16; 2048],
+    notes: &mut Notes,
+    stack: &mut Stack,
     sp: usize,
     at: usize,
     depth: usize,
 ) -> usize
-    requires { ⌜ Noting (now notes) ⌝ }
-    requires { ⌜ Ready (now image) nodes (now frames) top (tabIn (now table) (now notes)) (now stack) sp at (stopOf (nodesOf (now image)) at) ⌝ }
-    requires { ⌜ Inner (now image) at depth (nodeOf (nodesOf (now image)) at) ⌝ }
-    requires { ⌜ nodeOf (nodesOf (now image)) at .kind ≡ 26 ⌝ }
-    ensures { λ r. ⌜ Done (namesOf (now (image .entry)))
-        (checkForm (namesOf (now (image .entry))) (framesOf (tabIn (now (table .entry)) (now (notes .entry))) (now (frames .entry)) top) at (formAt (nodesOf (now (image .entry))) (λ j. exprAt (nodesOf (now (image .entry))) depth j) at))
-        (tabIn (now (table .entry)) (now (notes .entry)))
-        (tabIn (now (table .exit)) (now (notes .exit)))
-        (now (stack .entry)) (now (stack .exit)) sp at (stopOf (nodesOf (now (image .entry))) at) (nodeCount (now (image .entry))) (verdict r (now (notes .exit))) (placeIn (now (notes .exit))) r (firstIn (now (notes .exit))) (secondIn (now (notes .exit))) ⌝ }
-    ensures { λ r. ⌜ Kept (now (notes .entry)) (now (notes .exit)) r ⌝ }
+    requires { ⌜ OfKind 26 (now image) nodes top sp at depth (lent (now frames) (now table) (now notes) (now stack)) ⌝ }
+    ensures { λ r. ⌜ ChecksForm (now (image .entry)) top sp at depth r
+        (lent (now (frames .entry)) (now (table .entry)) (now (notes .entry)) (now (stack .entry)))
+        (lent (now (frames .entry)) (now (table .exit)) (now (notes .exit)) (now (stack .exit))) ⌝ }
 {
     let node = node_at(image, nodes, at);
     let mut from = at + 1;
     let mut left = node.children as usize;
-    let mut element: usize = 0;
+    let mut element = types::UNKNOWN;
     while 0 < left {
         let r = values(
             image,
@@ -412,7 +385,7 @@ fn list(
             1,
             depth,
         );
-        if r == 65535 {
+        if r == NO_TYPE {
             return r;
         }
         let step = list_step(element, number_at(stack, sp));
@@ -430,31 +403,25 @@ fn list(
 fn dict(
     image: &[u8],
     nodes: usize,
-    frames: &[[u16; 128]; 8],
+    frames: &Frames,
     top: usize,
     table: &mut [u16],
-    notes: &mut [u32; 8],
-    stack: &mut [u16; 2048],
+    notes: &mut Notes,
+    stack: &mut Stack,
     sp: usize,
     at: usize,
     depth: usize,
 ) -> usize
-    requires { ⌜ Noting (now notes) ⌝ }
-    requires { ⌜ Ready (now image) nodes (now frames) top (tabIn (now table) (now notes)) (now stack) sp at (stopOf (nodesOf (now image)) at) ⌝ }
-    requires { ⌜ Inner (now image) at depth (nodeOf (nodesOf (now image)) at) ⌝ }
-    requires { ⌜ nodeOf (nodesOf (now image)) at .kind ≡ 27 ⌝ }
-    ensures { λ r. ⌜ Done (namesOf (now (image .entry)))
-        (checkForm (namesOf (now (image .entry))) (framesOf (tabIn (now (table .entry)) (now (notes .entry))) (now (frames .entry)) top) at (formAt (nodesOf (now (image .entry))) (λ j. exprAt (nodesOf (now (image .entry))) depth j) at))
-        (tabIn (now (table .entry)) (now (notes .entry)))
-        (tabIn (now (table .exit)) (now (notes .exit)))
-        (now (stack .entry)) (now (stack .exit)) sp at (stopOf (nodesOf (now (image .entry))) at) (nodeCount (now (image .entry))) (verdict r (now (notes .exit))) (placeIn (now (notes .exit))) r (firstIn (now (notes .exit))) (secondIn (now (notes .exit))) ⌝ }
-    ensures { λ r. ⌜ Kept (now (notes .entry)) (now (notes .exit)) r ⌝ }
+    requires { ⌜ OfKind 27 (now image) nodes top sp at depth (lent (now frames) (now table) (now notes) (now stack)) ⌝ }
+    ensures { λ r. ⌜ ChecksForm (now (image .entry)) top sp at depth r
+        (lent (now (frames .entry)) (now (table .entry)) (now (notes .entry)) (now (stack .entry)))
+        (lent (now (frames .entry)) (now (table .exit)) (now (notes .exit)) (now (stack .exit))) ⌝ }
 {
     let node = node_at(image, nodes, at);
     let mut from = at + 1;
     let mut left = node.children as usize;
-    let mut key: usize = 0;
-    let mut value: usize = 0;
+    let mut key = types::UNKNOWN;
+    let mut value = types::UNKNOWN;
     while 1 < left {
         let r = values(
             image,
@@ -469,7 +436,7 @@ fn dict(
             2,
             depth,
         );
-        if r == 65535 {
+        if r == NO_TYPE {
             return r;
         }
         let pair = dict_step(key, value, number_at(stack, sp), number_at(stack, sp + 1));
@@ -488,29 +455,23 @@ fn dict(
 fn call(
     image: &[u8],
     nodes: usize,
-    frames: &[[u16; 128]; 8],
+    frames: &Frames,
     top: usize,
     table: &mut [u16],
-    notes: &mut [u32; 8],
-    stack: &mut [u16; 2048],
+    notes: &mut Notes,
+    stack: &mut Stack,
     sp: usize,
     at: usize,
     depth: usize,
 ) -> usize
-    requires { ⌜ Noting (now notes) ⌝ }
-    requires { ⌜ Ready (now image) nodes (now frames) top (tabIn (now table) (now notes)) (now stack) sp at (stopOf (nodesOf (now image)) at) ⌝ }
-    requires { ⌜ Inner (now image) at depth (nodeOf (nodesOf (now image)) at) ⌝ }
-    requires { ⌜ nodeOf (nodesOf (now image)) at .kind ≡ 24 ⌝ }
-    ensures { λ r. ⌜ Done (namesOf (now (image .entry)))
-        (checkForm (namesOf (now (image .entry))) (framesOf (tabIn (now (table .entry)) (now (notes .entry))) (now (frames .entry)) top) at (formAt (nodesOf (now (image .entry))) (λ j. exprAt (nodesOf (now (image .entry))) depth j) at))
-        (tabIn (now (table .entry)) (now (notes .entry)))
-        (tabIn (now (table .exit)) (now (notes .exit)))
-        (now (stack .entry)) (now (stack .exit)) sp at (stopOf (nodesOf (now (image .entry))) at) (nodeCount (now (image .entry))) (verdict r (now (notes .exit))) (placeIn (now (notes .exit))) r (firstIn (now (notes .exit))) (secondIn (now (notes .exit))) ⌝ }
-    ensures { λ r. ⌜ Kept (now (notes .entry)) (now (notes .exit)) r ⌝ }
+    requires { ⌜ OfKind 24 (now image) nodes top sp at depth (lent (now frames) (now table) (now notes) (now stack)) ⌝ }
+    ensures { λ r. ⌜ ChecksForm (now (image .entry)) top sp at depth r
+        (lent (now (frames .entry)) (now (table .entry)) (now (notes .entry)) (now (stack .entry)))
+        (lent (now (frames .entry)) (now (table .exit)) (now (notes .exit)) (now (stack .exit))) ⌝ }
 {
     let node = node_at(image, nodes, at);
     let callee = node_at(image, nodes, at + 1);
-    if callee.kind != 21 {
+    if callee.kind != kinds::VARIABLE {
         return operands(
             image,
             nodes,
@@ -551,11 +512,11 @@ fn call(
 fn arguments(
     image: &[u8],
     nodes: usize,
-    frames: &[[u16; 128]; 8],
+    frames: &Frames,
     top: usize,
     table: &mut [u16],
-    notes: &mut [u32; 8],
-    stack: &mut [u16; 2048],
+    notes: &mut Notes,
+    stack: &mut Stack,
     sp: usize,
     at: usize,
     from: usize,
@@ -563,19 +524,13 @@ fn arguments(
     rule: u32,
     depth: usize,
 ) -> usize
-    requires { ⌜ Noting (now notes) ⌝ }
-    requires { ⌜ Ready (now image) nodes (now frames) top (tabIn (now table) (now notes)) (now stack) sp (from - 1) (past (nodesOf (now image)) n from) ⌝ }
-    requires { ⌜ Row (now image) from n depth ⌝ }
-    requires { ⌜ Enough (now image) at rule n ⌝ }
-    ensures { λ r. ⌜ Done (namesOf (now (image .entry)))
-        (numberedRule at rule (checks (now (image .entry)) (framesOf (tabIn (now (table .entry)) (now (notes .entry))) (now (frames .entry)) top) depth n from))
-        (tabIn (now (table .entry)) (now (notes .entry)))
-        (tabIn (now (table .exit)) (now (notes .exit)))
-        (now (stack .entry)) (now (stack .exit)) sp (from - 1) (past (nodesOf (now (image .entry))) n from) (nodeCount (now (image .entry))) (verdict r (now (notes .exit))) (placeIn (now (notes .exit))) r (firstIn (now (notes .exit))) (secondIn (now (notes .exit))) ⌝ }
-    ensures { λ r. ⌜ Kept (now (notes .entry)) (now (notes .exit)) r ⌝ }
+    requires { ⌜ Called (now image) nodes top sp from n depth (lent (now frames) (now table) (now notes) (now stack)) (Enough (now image) at rule n) ⌝ }
+    ensures { λ r. ⌜ Calls (numberedRule at rule) (now (image .entry)) top sp from n depth r
+        (lent (now (frames .entry)) (now (table .entry)) (now (notes .entry)) (now (stack .entry)))
+        (lent (now (frames .entry)) (now (table .exit)) (now (notes .exit)) (now (stack .exit))) ⌝ }
 {
     match rule {
-        8 => bounds(
+        builtin::RANGE => bounds(
             image,
             nodes,
             frames,
@@ -589,7 +544,7 @@ fn arguments(
             n,
             depth,
         ),
-        10..=11 => streams(
+        builtin::MAP..=builtin::FILTER => streams(
             image,
             nodes,
             frames,
@@ -600,7 +555,7 @@ fn arguments(
             sp,
             from,
             n,
-            rule == 11,
+            rule == builtin::FILTER,
             depth,
         ),
         _ => {
@@ -618,7 +573,7 @@ fn arguments(
                 look,
                 depth,
             );
-            if r == 65535 {
+            if r == NO_TYPE {
                 return r;
             }
             argued(table, notes, stack, sp, rule, look, at)
@@ -630,27 +585,21 @@ fn arguments(
 fn bounds(
     image: &[u8],
     nodes: usize,
-    frames: &[[u16; 128]; 8],
+    frames: &Frames,
     top: usize,
     table: &mut [u16],
-    notes: &mut [u32; 8],
-    stack: &mut [u16; 2048],
+    notes: &mut Notes,
+    stack: &mut Stack,
     sp: usize,
     at: usize,
     from: usize,
     n: usize,
     depth: usize,
 ) -> usize
-    requires { ⌜ Noting (now notes) ⌝ }
-    requires { ⌜ Ready (now image) nodes (now frames) top (tabIn (now table) (now notes)) (now stack) sp (from - 1) (past (nodesOf (now image)) n from) ⌝ }
-    requires { ⌜ Row (now image) from n depth ⌝ }
-    requires { ⌜ at < nodeCount (now image) ⌝ }
-    ensures { λ r. ⌜ Done (namesOf (now (image .entry)))
-        (rangeRule at (checks (now (image .entry)) (framesOf (tabIn (now (table .entry)) (now (notes .entry))) (now (frames .entry)) top) depth n from))
-        (tabIn (now (table .entry)) (now (notes .entry)))
-        (tabIn (now (table .exit)) (now (notes .exit)))
-        (now (stack .entry)) (now (stack .exit)) sp (from - 1) (past (nodesOf (now (image .entry))) n from) (nodeCount (now (image .entry))) (verdict r (now (notes .exit))) (placeIn (now (notes .exit))) r (firstIn (now (notes .exit))) (secondIn (now (notes .exit))) ⌝ }
-    ensures { λ r. ⌜ Kept (now (notes .entry)) (now (notes .exit)) r ⌝ }
+    requires { ⌜ Called (now image) nodes top sp from n depth (lent (now frames) (now table) (now notes) (now stack)) (at < nodeCount (now image)) ⌝ }
+    ensures { λ r. ⌜ Calls (rangeRule at) (now (image .entry)) top sp from n depth r
+        (lent (now (frames .entry)) (now (table .entry)) (now (notes .entry)) (now (stack .entry)))
+        (lent (now (frames .entry)) (now (table .exit)) (now (notes .exit)) (now (stack .exit))) ⌝ }
 {
     let mut next = from;
     let mut left = n;
@@ -668,7 +617,7 @@ fn bounds(
             1,
             depth,
         );
-        if r == 65535 {
+        if r == NO_TYPE {
             return r;
         }
         let d = bound(number_at(stack, sp));
@@ -678,7 +627,7 @@ fn bounds(
         next = stop_of(image, nodes, next);
         left -= 1;
     }
-    6
+    types::RANGE
 }
 
 // 42 for `map`, 44 for `filter`.
@@ -686,36 +635,30 @@ fn first_code(filters: bool) -> u32
     ensures { λ r. ⌜ r ≡ firstCode filters ⌝ }
 {
     if filters {
-        return 44;
+        return codes::FILTER_FIRST;
     }
-    42
+    codes::MAP_FIRST
 }
 
 // The arguments of `map` and `filter`: the first is judged before the second is looked at.
 fn streams(
     image: &[u8],
     nodes: usize,
-    frames: &[[u16; 128]; 8],
+    frames: &Frames,
     top: usize,
     table: &mut [u16],
-    notes: &mut [u32; 8],
-    stack: &mut [u16; 2048],
+    notes: &mut Notes,
+    stack: &mut Stack,
     sp: usize,
     from: usize,
     n: usize,
     filters: bool,
     depth: usize,
 ) -> usize
-    requires { ⌜ Noting (now notes) ⌝ }
-    requires { ⌜ Ready (now image) nodes (now frames) top (tabIn (now table) (now notes)) (now stack) sp (from - 1) (past (nodesOf (now image)) n from) ⌝ }
-    requires { ⌜ Row (now image) from n depth ⌝ }
-    requires { ⌜ 1 < n ⌝ }
-    ensures { λ r. ⌜ Done (namesOf (now (image .entry)))
-        (streamOf filters (checks (now (image .entry)) (framesOf (tabIn (now (table .entry)) (now (notes .entry))) (now (frames .entry)) top) depth n from))
-        (tabIn (now (table .entry)) (now (notes .entry)))
-        (tabIn (now (table .exit)) (now (notes .exit)))
-        (now (stack .entry)) (now (stack .exit)) sp (from - 1) (past (nodesOf (now (image .entry))) n from) (nodeCount (now (image .entry))) (verdict r (now (notes .exit))) (placeIn (now (notes .exit))) r (firstIn (now (notes .exit))) (secondIn (now (notes .exit))) ⌝ }
-    ensures { λ r. ⌜ Kept (now (notes .entry)) (now (notes .exit)) r ⌝ }
+    requires { ⌜ Called (now image) nodes top sp from n depth (lent (now frames) (now table) (now notes) (now stack)) (1 < n) ⌝ }
+    ensures { λ r. ⌜ Calls (streamOf filters) (now (image .entry)) top sp from n depth r
+        (lent (now (frames .entry)) (now (table .entry)) (now (notes .entry)) (now (stack .entry)))
+        (lent (now (frames .entry)) (now (table .exit)) (now (notes .exit)) (now (stack .exit))) ⌝ }
 {
     let r = values(
         image,
@@ -730,7 +673,7 @@ fn streams(
         1, // the first alone
         depth,
     );
-    if r == 65535 {
+    if r == NO_TYPE {
         return r;
     }
     let d = callable(number_at(stack, sp), first_code(filters));
@@ -751,7 +694,7 @@ fn streams(
         1,
         depth,
     );
-    if s == 65535 {
+    if s == NO_TYPE {
         return s;
     }
     let f = stream(table, counts_of(notes), filters, number_at(stack, sp));

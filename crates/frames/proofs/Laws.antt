@@ -14,12 +14,12 @@ use lib.Seq.{getD-set-same, getD-set-other}
 use borrow.Author.Tests.{lt-ltb, le-ltb, eq-eqb, ne-eqb, eqb-true, eqb-false}
 use Rattle.meaning.specs.Types.{Ty, unknown, same}
 use Rattle.meaning.proofs.Choices.{same-yes, same-no}
-use Rattle.types.specs.Table.{Tab, denote, Wf, Grown}
+use Rattle.types.specs.Table.{Tab, denote, Wf, Means, Grown}
 use Rattle.types.proofs.Laws.{unknown-number, same-number}
 use Rattle.meaning.specs.Limits.{mostNames}
 use Rattle.meaning.specs.Base.{_and_, _or_, if_then_else_, ifSome, orElse, all, count}
 use Rattle.meaning.specs.Frames.{Frame, Frames, newest, find, lookup, write, empty}
-use Rattle.frames.specs.Env.{Rows, cell, put, pick, look, slot, frameOf, below, framesOf, Fit}
+use Rattle.frames.specs.Env.{Rows, cellRoom, cell, put, pick, look, slot, frameOf, below, framesOf, Fit, Looked, Bound}
 
 -- ---- lookup
 pub look-down : (fs : Rows) (x i : ℕ) → 0 < i → look fs i x ≡ pick (eqb (cell fs (i - 1) x) 0) (look fs (i - 1) x) (cell fs (i - 1) x)
@@ -170,3 +170,27 @@ pub look-le : {t : Tab} {fs : Rows} {top : ℕ} → Fit t fs top → (x k : ℕ)
 unfolding look
 look-le f x zero h = omega arith
 look-le {t} {fs} f x (suc k) h = pick-le (eqb (cell fs k x) 0) (look-le f x k (omega arith)) (f .known k x h)
+
+-- ---- what callers learn: types, and no cells
+
+-- the type that a cell gives a name
+cell-type : {t : Tab} → Wf t → (o r : ℕ) → o ≤ t.n → (o ≡ 0 → r ≡ 0) → ((o ≡ 0 → ⊥) → suc r ≡ o) → Means t r (orElse (slot t o) unknown)
+unfolding slot orElse
+cell-type w zero r h z s = record { below = omega (arith, z refl, w .base); means = rw (z refl) (unknown-number w) }
+cell-type {t} w (suc o) r h z s =
+    let e : r ≡ o = omega (arith, s (λ q. omega arith)) in record { below = omega arith; means = ap (denote t) e }
+
+pub looked : {fs : Rows} {top x o r : ℕ} → o ≡ look fs (top + 1) x → (o ≡ 0 → r ≡ 0) → ((o ≡ 0 → ⊥) → suc r ≡ o) → r < cellRoom → Looked fs top x r
+unfolding lookup framesOf
+looked {fs} {top} {x} {o} {r} e z s h = record {
+  says = λ t w f.
+      let c : o ≡ look fs (suc top) x = rw (add-one top) at e in
+      rw (find-look t fs x (suc top), ← c) (cell-type w o r (rw c (look-le f x (suc top) (omega (arith, f .high)))) z s);
+  small = h;
+}
+
+pub bound : {fs : Rows} {top x ty v : ℕ} → v ≡ suc ty → Bound fs (put fs top x v) top x ty
+bound {fs} {top} {x} {ty} e = record {
+  says = λ t f. rw e (frames-put t fs top x ty (omega (arith, f .long, f .high)));
+  fit = λ t f h. fit-put x _ f (omega arith);
+}

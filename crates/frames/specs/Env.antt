@@ -9,15 +9,19 @@ use lib.Dec.{eqb, ltb, leb}
 use lib.ListN.{length, getD, set}
 use Rattle.meaning.specs.Limits.{mostNames, mostFrames}
 use Rattle.meaning.specs.Types.{Ty}
-use Rattle.types.specs.Table.{Tab, denote}
+use Rattle.types.specs.Table.{Tab, Wf, Means, denote}
 use Rattle.meaning.specs.Base.{if_then_else_, count}
 use Rattle.meaning.specs.Image.{Name, nameOf}
 use Rattle.meaning.specs.Message.{aText}
-use Rattle.meaning.specs.Frames.{Frame, Frames}
+use Rattle.meaning.specs.Frames.{Frame, Frames, lookup, write}
 use Rattle.meaning.specs.Walk.{State, state, End, done, refuse, _>>=_, bind}
 
 abbrev pub Rows : Type 0
 Rows = List (List ℕ)
+
+-- a cell has room for the types below this
+abbrev pub cellRoom : ℕ
+cellRoom = 65535
 
 abbrev pub cell : Rows → ℕ → ℕ → ℕ
 cell fs i x = getD (getD fs i []) x 0
@@ -57,6 +61,16 @@ pub record Fit (t : Tab) (fs : Rows) (top : ℕ) : Type 0 where
   pub wide : (i : ℕ) → i < 8 → length (getD fs i []) ≡ 128
   pub high : top < 8
   pub known : (i x : ℕ) → i < 8 → cell fs i x ≤ t.n
+
+-- r is the number of the type of name x, whatever the table
+pub record Looked (fs : Rows) (top x r : ℕ) : Type 0 where
+  pub says : (t : Tab) → Wf t → Fit t fs top → Means t r (lookup (framesOf t fs top) x)
+  pub small : r < cellRoom
+
+-- gs is fs with the type ty for name x in the newest frame, whatever the table
+pub record Bound (fs gs : Rows) (top x ty : ℕ) : Type 0 where
+  pub says : (t : Tab) → Fit t fs top → framesOf t gs top ≡ write x (denote t ty) (framesOf t fs top)
+  pub fit : (t : Tab) → Fit t fs top → ty < t.n → Fit t gs top
 
 -- ---- merging: a name's first known type, and whether a later one differs
 -- a branch's cell v tells of a type over the cell b at entry

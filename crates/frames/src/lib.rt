@@ -1,50 +1,88 @@
 // Frames as eight rows of 128 cells: a cell is 0 for absent, and a type's number + 1 otherwise.
 ghost use mathlib.Core.Path.{_≡_};
 ghost use mathlib.Core.Bool.{Bool, true, false};
-ghost use Prim.Native.Nat.{ℕ, _+_, _<_, _≤_};
+ghost use Prim.Native.Nat.{ℕ, suc, _+_, _<_, _≤_};
 ghost use lib.ListN.{length, getD, set, replicate};
 ghost use mathlib.Core.List.{List, [], _∷_};
-ghost use Rattle.frames.specs.Env.{look, put, cell, noteCell, clashCell, Noted, Committed};
+ghost use Rattle.meaning.specs.Limits.{mostNames, mostFrames};
+ghost use Rattle.frames.specs.Env.{cellRoom, Looked, Bound, noteCell, clashCell, Noted, Committed};
+use types;
 
-pub fn lookup(frames: &[[u16; 128]; 8], top: usize, name: usize) -> u16
-    requires { ⌜ (top < 8) × (name < 128) ⌝ }
-    ensures { λ r. ⌜ r ≡ look (now (frames .entry)) (top + 1) name ⌝ }
+// "Eight rows of 128 type numbers, copied whole": a frame for each Def around a statement and one for the module, a cell for each name.
+pub const MOST_FRAMES: usize = 8;
+
+pub const MOST_NAMES: usize = 128;
+
+pub type Row = [u16; MOST_NAMES];
+
+pub type Frames = [Row; MOST_FRAMES];
+// A yes or no per name.
+pub type Marks = [bool; MOST_NAMES];
+
+// A cell of no type, and one of Unknown; every other holds a known type.
+const ABSENT: u16 = 0;
+
+const UNKNOWN: u16 = 1;
+
+// The code of a merge whose branches disagree.
+const INCOMPATIBLE: u32 = 23;
+
+// The type in a cell that holds one, and the cell of a type.
+fn type_in(cell: u16) -> usize
+    requires { ⌜ 0 < cell ⌝ }
+    ensures { λ r. ⌜ (suc r ≡ cell) × (r < cellRoom) ⌝ }
+{
+    (cell - 1) as usize
+}
+
+fn cell_of(ty: usize) -> u16
+    requires { ⌜ ty < cellRoom ⌝ }
+    ensures { λ r. ⌜ r ≡ suc ty ⌝ }
+{
+    ty as u16 + 1
+}
+
+// The type of a name: "from the newest frame down; absent is Unknown".
+pub fn lookup(frames: &Frames, top: usize, name: usize) -> usize
+    requires { ⌜ (top < mostFrames) × (name < mostNames) ⌝ }
+    ensures { λ r. ⌜ Looked (now (frames .entry)) top name r ⌝ }
 {
     let mut i = top + 1;
     while 0 < i {
         i -= 1;
-        let v = frames[i][name];
-        if v != 0 {
-            return v;
+        let cell = frames[i][name];
+        if cell != ABSENT {
+            return type_in(cell);
         }
     }
-    0
+    types::UNKNOWN
 }
 
-pub fn bind(frames: &mut [[u16; 128]; 8], top: usize, name: usize, v: u16)
-    requires { ⌜ (top < 8) × (name < 128) ⌝ }
-    ensures { λ _. ⌜ now (frames .exit) ≡ put (now (frames .entry)) top name v ⌝ }
+// "Assignment writes the newest frame."
+pub fn bind(frames: &mut Frames, top: usize, name: usize, ty: usize)
+    requires { ⌜ (top < mostFrames) × (name < mostNames) × (ty < cellRoom) ⌝ }
+    ensures { λ _. ⌜ Bound (now (frames .entry)) (now (frames .exit)) top name ty ⌝ }
 {
-    frames[top][name] = v;
+    frames[top][name] = cell_of(ty);
 }
 
 // A frame in which every name is absent.
-pub fn clear(frames: &mut [[u16; 128]; 8], top: usize)
-    requires { ⌜ top < 8 ⌝ }
-    ensures { λ _. ⌜ now (frames .exit) ≡ set (now (frames .entry)) top (replicate 128 0) ⌝ }
+pub fn clear(frames: &mut Frames, top: usize)
+    requires { ⌜ top < mostFrames ⌝ }
+    ensures { λ _. ⌜ now (frames .exit) ≡ set (now (frames .entry)) top (replicate mostNames 0) ⌝ }
 {
-    frames[top] = [0u16; 128];
+    frames[top] = [ABSENT; MOST_NAMES];
 }
 
 // A name's first known type, after a branch that leaves `v` over `b` at entry.
 fn note(b: u16, v: u16, m: u16) -> u16
     ensures { λ r. ⌜ r ≡ noteCell b v m ⌝ }
 {
-    if 1 < v {
+    if UNKNOWN < v {
         if v == b {
             return m;
         }
-        if m == 0 {
+        if m == ABSENT {
             return v;
         }
         return m;
@@ -56,11 +94,11 @@ fn note(b: u16, v: u16, m: u16) -> u16
 fn clash(b: u16, v: u16, m: u16, c: bool) -> bool
     ensures { λ r. ⌜ r ≡ clashCell b v m c ⌝ }
 {
-    if 1 < v {
+    if UNKNOWN < v {
         if v == b {
             return c;
         }
-        if m == 0 {
+        if m == ABSENT {
             return c;
         }
         if m == v {
@@ -73,20 +111,20 @@ fn clash(b: u16, v: u16, m: u16, c: bool) -> bool
 
 // A branch told of: for each name the first known type and whether a later one differs.
 pub fn note_branch(
-    base: &[[u16; 128]; 8],
+    base: &Frames,
     top: usize,
-    branch: &[[u16; 128]; 8],
+    branch: &Frames,
     high: usize,
-    merged: &mut [u16; 128],
-    clashes: &mut [bool; 128],
+    merged: &mut Row,
+    clashes: &mut Marks,
 )
-    requires { ⌜ (top < 8) × (high < 8) ⌝ }
-    requires { ⌜ (length (now merged) ≡ 128) × (length (now clashes) ≡ 128) ⌝ }
+    requires { ⌜ (top < mostFrames) × (high < mostFrames) ⌝ }
+    requires { ⌜ (length (now merged) ≡ mostNames) × (length (now clashes) ≡ mostNames) ⌝ }
     ensures { λ _. ⌜ Noted (getD (now (base .entry)) top []) (getD (now (branch .entry)) high [])
-        (now (merged .entry)) (now (clashes .entry)) (now (merged .exit)) (now (clashes .exit)) 128 ⌝ }
+        (now (merged .entry)) (now (clashes .entry)) (now (merged .exit)) (now (clashes .exit)) mostNames ⌝ }
 {
     let mut x = 0;
-    while x < 128 {
+    while x < MOST_NAMES {
         let b = base[top][x];
         let v = branch[high][x];
         let m = merged[x];
@@ -104,22 +142,19 @@ pub struct Merge {
 }
 
 // Writes the merged names in order, up to the first that clashes.
-pub fn commit(
-    frames: &mut [[u16; 128]; 8],
-    top: usize,
-    merged: &[u16; 128],
-    clashes: &[bool; 128],
-    place: usize,
-) -> Merge
-    requires { ⌜ (top < 8) × (length (now frames) ≡ 8) ⌝ }
+pub fn commit(frames: &mut Frames, top: usize, merged: &Row, clashes: &Marks, place: usize) -> Merge
+    requires { ⌜ (top < mostFrames) × (length (now frames) ≡ mostFrames) ⌝ }
     ensures { λ r. ⌜ Committed (now (frames .entry)) (now (frames .exit)) top (now (merged .entry)) (now (clashes .entry)) place (r .code) (r .name) ⌝ }
 {
     let mut x = 0;
-    while x < 128 {
+    while x < MOST_NAMES {
         let m = merged[x];
-        if m != 0 {
+        if m != ABSENT {
             if clashes[x] {
-                return Merge { code: 23, name: x };
+                return Merge {
+                    code: INCOMPATIBLE,
+                    name: x,
+                };
             }
             frames[top][x] = m;
         }

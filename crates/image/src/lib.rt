@@ -12,7 +12,10 @@ ghost use Rattle.image.specs.Kinds.{recordStands, argLimits, fewestChild
 ghost use Rattle.image.specs.Outcome.{faultOf, placeOf};
 ghost use Rattle.image.specs.Parts.{Laid, nodeMeans, nameMeans, recordOf, nameStands, oneArgument, twoArguments, On, Moved};
 
+pub mod kinds;
 mod limits;
+pub mod literals;
+pub mod roles;
 
 use limits::BELOW;
 use limits::FEWEST;
@@ -69,6 +72,9 @@ pub struct NameAt {
     pub p: u32,
     pub q: u32,
 }
+
+// "M is 1..2,048".
+pub const MOST_NODES: usize = 2048;
 
 // A place in the node area: the node that it stands at, and where the area starts.
 pub struct Cursor {

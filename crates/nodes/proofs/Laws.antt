@@ -11,17 +11,14 @@ use Rattle.meaning.specs.Base.{if_then_else_, choose, orElse}
 use Rattle.meaning.specs.Types.{Ty, unknown, plain}
 use Rattle.meaning.specs.Image.{Name}
 use Rattle.meaning.specs.Decode.{literalType}
-use Rattle.meaning.specs.Frames.{lookup}
 use Rattle.meaning.specs.Operators.{Checked, ok}
 use Rattle.types.specs.Table.{Tab, Wf, Means, Made, Grown, denote}
 use Rattle.types.specs.Steps.{Listed}
 use Rattle.types.proofs.Laws.{plain-number, unknown-number, grown-refl}
-use Rattle.frames.specs.Env.{Rows, look, slot, framesOf}
-use Rattle.frames.proofs.Laws.{find-look, look-le}
 use Rattle.rules.specs.Outcome.{Decides}
 use Rattle.rules.proofs.Outcomes.{names-none, was-ok, was-refused}
 use Rattle.nodes.specs.Giving.{Given}
-use Rattle.nodes.specs.Operands.{literalNumber, Variable}
+use Rattle.nodes.specs.Operands.{literalNumber}
 use Rattle.nodes.specs.Planning.{lookedAt}
 
 -- ---- what a node gives
@@ -77,7 +74,7 @@ means-given spent M place a b e s w m =
 pub plain-means : {t : Tab} → Wf t → (i : ℕ) → i < 8 → Means t i (plain i)
 plain-means w i h = record { below = omega (arith, w .base); means = plain-number w i h }
 
--- ---- Literal and Variable
+-- ---- Literal
 
 pub literal-other : (a : ℕ) → (a ≡ 0 → ⊥) → (a ≡ 1 → ⊥) → (a ≡ 2 → ⊥) → (a ≡ 3 → ⊥) → (a ≡ 4 → ⊥) → 0 ≡ literalNumber a
 unfolding literalNumber
@@ -96,24 +93,6 @@ literal-means w (suc (suc zero)) h = plain-means w 3 (omega arith)
 literal-means w (suc (suc (suc zero))) h = plain-means w 4 (omega arith)
 literal-means w (suc (suc (suc (suc zero)))) h = plain-means w 5 (omega arith)
 literal-means w (suc (suc (suc (suc (suc a))))) h = absurd (omega arith)
-
--- what a cell means as a type
-slot-type : {t : Tab} → Wf t → (v : ℕ) → v ≤ t.n → (r : ℕ) → (v ≡ 0 → r ≡ 0) → ((v ≡ 0 → ⊥) → suc r ≡ v) → Means t r (orElse (slot t v) unknown)
-unfolding slot orElse
-slot-type w zero h r z s = record { below = omega (arith, z refl, w .base); means = rw (z refl) (unknown-number w) }
-slot-type {t} w (suc v) h r z s =
-    let e : r ≡ v = omega (arith, s (λ q. omega arith)) in record { below = omega arith; means = ap (denote t) e }
-
-pub variable-of : {fs : Rows} {top x cell r : ℕ} → cell ≡ look fs (top + 1) x → (cell ≡ 0 → r ≡ 0) → ((cell ≡ 0 → ⊥) → suc r ≡ cell)
-    → Variable fs top x r
-unfolding lookup framesOf
-variable-of {fs} {top} {x} {cell} {r} e z s = record {
-  says = λ t w f.
-      let n : top + 1 ≡ suc top = omega arith in
-      let c : cell ≡ look fs (suc top) x = e ∙ ap (λ k. look fs k x) n in
-      rw (find-look t fs x (suc top), ← c)
-      (slot-type w cell (rw c (look-le f x (suc top) (omega (arith, f .high)))) r z s);
-}
 
 -- ---- the types on the stack
 

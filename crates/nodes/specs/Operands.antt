@@ -8,13 +8,11 @@ use Rattle.meaning.specs.Types.{Ty, unknown, tuple, tys}
 use Rattle.meaning.specs.Image.{Name, nodeCount, nodesFrom, nodesOf, nodeOf}
 use Rattle.meaning.specs.Image.{Node as ImageNode}
 use Rattle.meaning.specs.Decode.{unaryOf, binaryOf, stopOf}
-use Rattle.meaning.specs.Frames.{lookup}
 use Rattle.meaning.specs.Operators.{Checked, ok, unaryRule, binaryRule}
 use Rattle.meaning.specs.Rules.{indexRule}
 use Rattle.meaning.proofs.Faults.{Headed}
-use Rattle.types.specs.Table.{Tab, Wf, Means, denote}
+use Rattle.types.specs.Table.{Tab, Wf, denote}
 use Rattle.types.specs.Steps.{Listed}
-use Rattle.frames.specs.Env.{Rows, framesOf, Fit}
 use Rattle.rules.specs.Leaves.{Indexed, indexPlace}
 use Rattle.nodes.specs.Giving.{Given}
 use Rattle.nodes.specs.Notes.{Answered}
@@ -22,10 +20,6 @@ use Rattle.nodes.specs.Notes.{Answered}
 -- the number of a Literal's type
 unfoldable pub literalNumber : ℕ → ℕ
 literalNumber a = getD (2 ∷ 1 ∷ 3 ∷ 4 ∷ 5 ∷ []) a 0
-
--- r is the number of a name's type, whatever the table
-pub record Variable (fs : Rows) (top x r : ℕ) : Type 0 where
-  pub says : (t : Tab) → Wf t → Fit t fs top → Means t r (lookup (framesOf t fs top) x)
 
 -- node n of kind k and arg a, whose first children are at m and o: Unary, Binary, Tuple and Index go by their children's types; what is
 -- left is Unknown (Attribute, Set, TreeSet, and a Call of what is no name)

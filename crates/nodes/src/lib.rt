@@ -3,6 +3,7 @@ ghost use mathlib.Core.Path.{_≡_};
 ghost use mathlib.Core.List.{map};
 ghost use Prim.Native.Nat.{suc, _<_, _≤_};
 ghost use lib.ListN.{length, getD, take, drop};
+ghost use Rattle.meaning.specs.Limits.{mostNodes};
 ghost use Rattle.meaning.specs.Types.{list, dict, tuple, tys};
 ghost use Rattle.meaning.specs.Image.{nameCount, nodeCount, nodesFrom, nodesOf, nodeOf, namesOf};
 ghost use Rattle.meaning.specs.Decode.{stopOf};
@@ -12,30 +13,62 @@ ghost use Rattle.types.specs.Steps.{Listed};
 ghost use Rattle.rules.specs.Leaves.{Known, Asks, indexPlace};
 ghost use Rattle.nodes.specs.Giving.{Given};
 ghost use Rattle.nodes.specs.Notes.{typesIn, elementsIn, codeIn, placeIn, firstIn, secondIn, tabIn, verdict, Noting, Kept, Counted, Refused, Answered};
-ghost use Rattle.nodes.specs.Operands.{literalNumber, Variable, operandRule, Decidable, IndexedAt, Operable, Operated};
+ghost use Rattle.nodes.specs.Operands.{literalNumber, operandRule, Decidable, IndexedAt, Operable, Operated};
 ghost use Rattle.nodes.specs.Planning.{countCode, Planned, lookedAt, Argued};
-use frames::lookup;
+use image::MOST_NODES;
 use image::Node;
 use image::admits;
 use image::areas;
+use image::kinds;
+use image::literals;
 use image::name_at;
 use image::name_text;
 use image::node_at;
+use image::roles;
 use rules::Decision;
 use rules::binary;
+use rules::builtin;
 use rules::builtin_of;
+use rules::codes;
 use rules::index;
 use rules::len;
 use rules::prompt;
 use rules::unary;
+use types;
 use types::Counts;
 use types::form;
 use types::tuple_of;
 
 // ---- what is noted while a program is walked: specs/Notes
 
+// The cells: how many types and elements the table has, the last refusal's code, node and two numbers, the return type so far, and the
+// newest frame's row.
+pub const TYPES: usize = 0;
+
+pub const ELEMENTS: usize = 1;
+
+pub const CODE: usize = 2;
+
+pub const PLACE: usize = 3;
+
+pub const FIRST: usize = 4;
+
+pub const SECOND: usize = 5;
+
+pub const RETURNS: usize = 6;
+
+pub const TOP: usize = 7;
+
+pub type Notes = [u32; 8];
+
+// The types of children that wait for their parent's rule, at most one for each node.
+pub type Stack = [u16; MOST_NODES];
+
+// A result of the walk that is no type's number: the refusal stands in the notes.
+pub const NO_TYPE: usize = 65535;
+
 // A cell of the notes.
-pub fn noted(notes: &[u32; 8], at: usize) -> usize
+pub fn noted(notes: &Notes, at: usize) -> usize
     requires { ⌜ at < 8 ⌝ }
     ensures { λ r. ⌜ r ≡ getD (now (notes .entry)) at 0 ⌝ }
 {
@@ -67,38 +100,38 @@ fn fitted(n: usize) -> u32
 }
 
 // The counts of the table.
-pub fn counts_of(notes: &[u32; 8]) -> Counts
+pub fn counts_of(notes: &Notes) -> Counts
     ensures { λ r. ⌜ (r .types ≡ typesIn (now (notes .entry))) × (r .elements ≡ elementsIn (now (notes .entry))) ⌝ }
 {
     Counts {
-        types: full(notes[0]),
-        elements: full(notes[1]),
+        types: full(notes[TYPES]),
+        elements: full(notes[ELEMENTS]),
     }
 }
 
-pub fn keep(notes: &mut [u32; 8], counts: Counts)
+pub fn keep(notes: &mut Notes, counts: Counts)
     requires { ⌜ Noting (now notes) ⌝ }
     requires { ⌜ (counts .types < 4294967296) × (counts .elements < 4294967296) ⌝ }
     ensures { λ _. ⌜ Counted (now (notes .entry)) (now (notes .exit)) (counts .types) (counts .elements) ⌝ }
 {
-    notes[0] = small(counts.types);
-    notes[1] = small(counts.elements);
+    notes[TYPES] = small(counts.types);
+    notes[ELEMENTS] = small(counts.elements);
 }
 
 // A refusal.
-pub fn refused(notes: &mut [u32; 8], code: u32, place: usize, a: usize, b: usize) -> usize
+pub fn refused(notes: &mut Notes, code: u32, place: usize, a: usize, b: usize) -> usize
     requires { ⌜ Noting (now notes) ⌝ }
     ensures { λ r. ⌜ Refused (now (notes .entry)) (now (notes .exit)) r code place a b ⌝ }
 {
-    notes[2] = code;
-    notes[3] = fitted(place);
-    notes[4] = fitted(a);
-    notes[5] = fitted(b);
-    65535
+    notes[CODE] = code;
+    notes[PLACE] = fitted(place);
+    notes[FIRST] = fitted(a);
+    notes[SECOND] = fitted(b);
+    NO_TYPE
 }
 
 // What a decision gives at a node.
-pub fn decided(notes: &mut [u32; 8], d: Decision, place: usize) -> usize
+pub fn decided(notes: &mut Notes, d: Decision, place: usize) -> usize
     requires { ⌜ Noting (now notes) ⌝ }
     ensures { λ r. ⌜ Answered (now (notes .entry)) (now (notes .exit)) r (d .code) place (d .number) (d .a) (d .b) ⌝ }
 {
@@ -117,8 +150,8 @@ fn wide(x: u16) -> usize
 }
 
 // The type that stands at a place of the stack.
-fn type_at(stack: &[u16; 2048], at: usize) -> usize
-    requires { ⌜ at < 2048 ⌝ }
+fn type_at(stack: &Stack, at: usize) -> usize
+    requires { ⌜ at < mostNodes ⌝ }
     ensures { λ r. ⌜ r ≡ getD (now (stack .entry)) at 0 ⌝ }
 {
     wide(stack[at])
@@ -131,25 +164,13 @@ pub fn literal(arg: u32) -> usize
     ensures { λ r. ⌜ r ≡ literalNumber arg ⌝ }
 {
     match arg {
-        0 => 2,
-        1 => 1,
-        2 => 3,
-        3 => 4,
-        4 => 5,
-        _ => 0,
+        literals::BOOL => types::BOOL,
+        literals::INT => types::INT,
+        literals::STRING => types::STRING,
+        literals::FLOAT => types::FLOAT,
+        literals::NONE => types::NONE_TYPE,
+        _ => types::UNKNOWN,
     }
-}
-
-// The number of a name's type: "absent is Unknown".
-pub fn variable(frames: &[[u16; 128]; 8], top: usize, name: usize) -> usize
-    requires { ⌜ (top < 8) × (name < 128) ⌝ }
-    ensures { λ r. ⌜ Variable (now (frames .entry)) top name r ⌝ }
-{
-    let cell = lookup(frames, top, name);
-    if cell == 0 {
-        return 0;
-    }
-    (cell - 1) as usize
 }
 
 // Where node `at` ends.
@@ -164,7 +185,7 @@ pub fn stop_of(image: &[u8], nodes: usize, at: usize) -> usize
 
 // ---- List and Dict
 
-pub fn list_of(table: &mut [u16], notes: &mut [u32; 8], element: usize) -> usize
+pub fn list_of(table: &mut [u16], notes: &mut Notes, element: usize) -> usize
     requires { ⌜ Noting (now notes) ⌝ }
     requires { ⌜ Asks (tabIn (now table) (now notes)) element ⌝ }
     ensures { λ r. ⌜ Made (tabIn (now (table .entry)) (now (notes .entry)))
@@ -174,12 +195,12 @@ pub fn list_of(table: &mut [u16], notes: &mut [u32; 8], element: usize) -> usize
         0 ⌝ }
     ensures { λ r. ⌜ Kept (now (notes .entry)) (now (notes .exit)) r ⌝ }
 {
-    let formed = form(table, counts_of(notes), 8, element, 0);
+    let formed = form(table, counts_of(notes), types::LIST, element, 0);
     keep(notes, formed.counts);
     formed.number
 }
 
-pub fn dict_of(table: &mut [u16], notes: &mut [u32; 8], key: usize, value: usize) -> usize
+pub fn dict_of(table: &mut [u16], notes: &mut Notes, key: usize, value: usize) -> usize
     requires { ⌜ Noting (now notes) ⌝ }
     requires { ⌜ Asks (tabIn (now table) (now notes)) key ⌝ }
     requires { ⌜ Asks (tabIn (now table) (now notes)) value ⌝ }
@@ -191,7 +212,7 @@ pub fn dict_of(table: &mut [u16], notes: &mut [u32; 8], key: usize, value: usize
         0 ⌝ }
     ensures { λ r. ⌜ Kept (now (notes .entry)) (now (notes .exit)) r ⌝ }
 {
-    let formed = form(table, counts_of(notes), 9, key, value);
+    let formed = form(table, counts_of(notes), types::DICT, key, value);
     keep(notes, formed.counts);
     formed.number
 }
@@ -202,20 +223,14 @@ pub fn dict_of(table: &mut [u16], notes: &mut [u32; 8], key: usize, value: usize
 fn index_place(code: u32, object: usize, index: usize) -> usize
     ensures { λ r. ⌜ r ≡ indexPlace code object index ⌝ }
 {
-    if code == 50 {
+    if code == codes::NOT_SUBSCRIPTABLE {
         return object;
     }
     index
 }
 
 // The Tuple of the n types on the stack from sp on.
-fn tupled(
-    table: &mut [u16],
-    notes: &mut [u32; 8],
-    stack: &[u16; 2048],
-    sp: usize,
-    n: usize,
-) -> usize
+fn tupled(table: &mut [u16], notes: &mut Notes, stack: &Stack, sp: usize, n: usize) -> usize
     requires { ⌜ Noting (now notes) ⌝ }
     requires { ⌜ Listed (tabIn (now table) (now notes)) (now stack) sp n ⌝ }
     ensures { λ r. ⌜ Made (tabIn (now (table .entry)) (now (notes .entry)))
@@ -232,14 +247,7 @@ fn tupled(
 }
 
 // What the types of an object and an index give, at their nodes m and n.
-fn indexed(
-    table: &[u16],
-    notes: &mut [u32; 8],
-    object: usize,
-    key: usize,
-    m: usize,
-    n: usize,
-) -> usize
+fn indexed(table: &[u16], notes: &mut Notes, object: usize, key: usize, m: usize, n: usize) -> usize
     requires { ⌜ Noting (now notes) ⌝ }
     requires { ⌜ Known (now table) object ⌝ }
     ensures { λ r. ⌜ IndexedAt (now (table .entry)) object key m n (now (notes .entry)) (now (notes .exit)) r ⌝ }
@@ -251,7 +259,7 @@ fn indexed(
 // What a Binary at node `at` gives for the types of its operands.
 pub fn operated(
     table: &[u16],
-    notes: &mut [u32; 8],
+    notes: &mut Notes,
     left: usize,
     right: usize,
     at: usize,
@@ -271,8 +279,8 @@ pub fn decide(
     image: &[u8],
     nodes: usize,
     table: &mut [u16],
-    notes: &mut [u32; 8],
-    stack: &[u16; 2048],
+    notes: &mut Notes,
+    stack: &Stack,
     sp: usize,
     at: usize,
 ) -> usize
@@ -293,9 +301,9 @@ pub fn decide(
     let node = node_at(image, nodes, at);
     let kind = node.kind;
     match kind {
-        22 => decided(notes, unary(table, node.arg, type_at(stack, sp)), at),
-        28 => tupled(table, notes, stack, sp, node.children as usize),
-        31 => indexed(
+        kinds::UNARY => decided(notes, unary(table, node.arg, type_at(stack, sp)), at),
+        kinds::TUPLE => tupled(table, notes, stack, sp, node.children as usize),
+        kinds::INDEX => indexed(
             table,
             notes,
             type_at(stack, sp),
@@ -303,7 +311,7 @@ pub fn decide(
             at + 1,
             stop_of(image, nodes, at + 1),
         ),
-        _ => 0,
+        _ => types::UNKNOWN,
     }
 }
 
@@ -320,14 +328,14 @@ fn miscounted(role: u32, p: u32, count: u32) -> u32
     ensures { λ r. ⌜ r ≡ countCode role p count ⌝ }
 {
     match role {
-        1 => 37,
-        2 => 37,
-        3 => 37,
-        4 => {
+        roles::EXACTLY => codes::BUILTIN_ARITY,
+        roles::BETWEEN => codes::BUILTIN_ARITY,
+        roles::ANY => codes::BUILTIN_ARITY,
+        roles::FUNCTION => {
             if count == p {
                 return 0;
             }
-            38
+            codes::FUNCTION_ARITY
         }
         _ => 0,
     }
@@ -356,8 +364,8 @@ pub fn looked(rule: u32, count: usize) -> usize
     ensures { λ r. ⌜ r ≡ lookedAt rule count ⌝ }
 {
     match rule {
-        0..=1 => count,
-        2 => {
+        builtin::NONE..=builtin::PRINT => count,
+        builtin::INPUT => {
             if count == 1 {
                 return 1;
             }
@@ -370,8 +378,8 @@ pub fn looked(rule: u32, count: usize) -> usize
 // What a rule gives at node `at`, the types of the arguments that it looks at on the stack from sp on.
 pub fn argued(
     table: &[u16],
-    notes: &mut [u32; 8],
-    stack: &[u16; 2048],
+    notes: &mut Notes,
+    stack: &Stack,
     sp: usize,
     rule: u32,
     look: usize,
@@ -379,25 +387,25 @@ pub fn argued(
 ) -> usize
     requires { ⌜ Noting (now notes) ⌝ }
     requires { ⌜ Listed (tabIn (now table) (now notes)) (now stack) sp look ⌝ }
-    requires { ⌜ (rule ≡ 7 → look ≡ 1) × (length (now stack) ≡ 2048) × (at < 2048) ⌝ }
+    requires { ⌜ (rule ≡ 7 → look ≡ 1) × (length (now stack) ≡ mostNodes) × (at < mostNodes) ⌝ }
     ensures { λ r. ⌜ Argued (tabIn (now (table .entry)) (now (notes .entry))) (tabIn (now (table .entry)) (now (notes .exit))) (now (stack .entry)) sp rule look at
         (verdict r (now (notes .exit))) (placeIn (now (notes .exit))) r (firstIn (now (notes .exit))) (secondIn (now (notes .exit))) ⌝ }
     ensures { λ r. ⌜ Kept (now (notes .entry)) (now (notes .exit)) r ⌝ }
 {
     match rule {
-        1 => 5,
-        2 => {
+        builtin::PRINT => types::NONE_TYPE,
+        builtin::INPUT => {
             if look == 1 {
                 return decided(notes, prompt(type_at(stack, sp)), at);
             }
-            3
+            types::STRING
         }
-        3 => 1,
-        4 => 4,
-        5 => 2,
-        6 => 3,
-        7 => decided(notes, len(table, type_at(stack, sp)), at),
-        9 => 5,
-        _ => 0,
+        builtin::INT => types::INT,
+        builtin::FLOAT => types::FLOAT,
+        builtin::BOOL => types::BOOL,
+        builtin::STR => types::STRING,
+        builtin::LEN => decided(notes, len(table, type_at(stack, sp)), at),
+        builtin::ASSERT => types::NONE_TYPE,
+        _ => types::UNKNOWN,
     }
 }

@@ -11,8 +11,13 @@ ghost use Rattle.rules.specs.Outcome.{typesNamed};
 ghost use Rattle.rules.specs.Builtins.{builtinNumber};
 ghost use Rattle.rules.specs.Leaves.{Known, OfOne, OfTwo, OfNumber, Expected, promptRule, sizedRule, boundRule, callableRule, ListStep, JoinedOf, DictStep};
 ghost use Rattle.rules.specs.Leaves.{Keyed, Indexed, StreamedOf, streamType, secondCode, Asks, Streams};
+
+pub mod builtin;
+pub mod codes;
+
 use operators::answer_of;
 use operators::unary_answer_of;
+use types;
 use types::Counts;
 use types::Formed;
 use types::Perhaps;
@@ -85,13 +90,13 @@ pub fn binary(table: &[u16], op: u32, left: usize, right: usize) -> Decision
     if left == right {
         return Decision {
             code: 0,
-            number: 2,
+            number: types::BOOL,
             a: 0,
             b: 0,
         };
     }
     Decision {
-        code: 32,
+        code: codes::EQUALITY,
         number: 0,
         a: left,
         b: right,
@@ -110,7 +115,7 @@ pub struct Step {
 pub fn list_step(so_far: usize, next: usize) -> Step
     ensures { λ r. ⌜ ListStep «so_far» next (r .stop) (r .number) ⌝ }
 {
-    if so_far == 0 {
+    if so_far == types::UNKNOWN {
         return Step {
             stop: false,
             number: next,
@@ -124,7 +129,7 @@ pub fn list_step(so_far: usize, next: usize) -> Step
     }
     Step {
         stop: true,
-        number: 0,
+        number: types::UNKNOWN,
     }
 }
 
@@ -132,13 +137,13 @@ pub fn list_step(so_far: usize, next: usize) -> Step
 fn joined_of(a: usize, b: usize) -> usize
     ensures { λ r. ⌜ JoinedOf a b r ⌝ }
 {
-    if a == 0 {
+    if a == types::UNKNOWN {
         return b;
     }
     if a == b {
         return b;
     }
-    0
+    types::UNKNOWN
 }
 
 // The key and value types after one more pair, and whether the Dict ends with them.
@@ -154,14 +159,14 @@ pub fn dict_step(k: usize, v: usize, a: usize, b: usize) -> Pair
 {
     let key = joined_of(k, a);
     let value = joined_of(v, b);
-    if key != 0 {
+    if key != types::UNKNOWN {
         return Pair {
             stop: false,
             key,
             value,
         };
     }
-    if value != 0 {
+    if value != types::UNKNOWN {
         return Pair {
             stop: false,
             key,
@@ -189,7 +194,7 @@ fn expect(wanted: usize, i: usize, code: u32, result: usize) -> Decision
             b: 0,
         };
     }
-    if i == 0 {
+    if i == types::UNKNOWN {
         return Decision {
             code: 0,
             number: result,
@@ -209,14 +214,14 @@ fn expect(wanted: usize, i: usize, code: u32, result: usize) -> Decision
 pub fn prompt(a: usize) -> Decision
     ensures { λ r. ⌜ OfNumber promptRule a (r .code) (r .number) (r .a) (r .b) ⌝ }
 {
-    expect(3, a, 39, 3)
+    expect(types::STRING, a, codes::INPUT, types::STRING)
 }
 
 // An argument of `range`.
 pub fn bound(a: usize) -> Decision
     ensures { λ r. ⌜ OfNumber boundRule a (r .code) (r .number) (r .a) (r .b) ⌝ }
 {
-    expect(1, a, 41, 1)
+    expect(types::INT, a, codes::RANGE, types::INT)
 }
 
 // The first argument of `map` (code 42) or `filter` (code 44).
@@ -224,7 +229,7 @@ pub fn callable(a: usize, code: u32) -> Decision
     requires { ⌜ typesNamed code ≡ 1 ⌝ }
     ensures { λ r. ⌜ OfNumber (callableRule code) a (r .code) (r .number) (r .a) (r .b) ⌝ }
 {
-    expect(7, a, code, a)
+    expect(types::FUNCTION, a, code, a)
 }
 
 // Unknown, String, List, Dict, Tuple.
@@ -232,11 +237,11 @@ fn has_length(kind: usize) -> bool
     ensures { λ r. ⌜ r ≡ isIn kind (0 ∷ 3 ∷ 8 ∷ 9 ∷ 10 ∷ []) ⌝ }
 {
     match kind {
-        0 => true,
-        3 => true,
-        8 => true,
-        9 => true,
-        10 => true,
+        types::UNKNOWN => true,
+        types::STRING => true,
+        types::LIST => true,
+        types::DICT => true,
+        types::TUPLE => true,
         _ => false,
     }
 }
@@ -250,13 +255,13 @@ pub fn len(table: &[u16], a: usize) -> Decision
     if has_length(kind) {
         return Decision {
             code: 0,
-            number: 1,
+            number: types::INT,
             a: 0,
             b: 0,
         };
     }
     Decision {
-        code: 40,
+        code: codes::LEN,
         number: 0,
         a,
         b: 0,
@@ -278,14 +283,14 @@ fn key(wanted: usize, i: usize, value: usize) -> Decision
     if i == wanted {
         return taken;
     }
-    if i == 0 {
+    if i == types::UNKNOWN {
         return taken;
     }
-    if wanted == 0 {
+    if wanted == types::UNKNOWN {
         return taken;
     }
     Decision {
-        code: 47,
+        code: codes::DICT_KEY,
         number: 0,
         a: wanted,
         b: i,
@@ -298,18 +303,23 @@ pub fn index(table: &[u16], object: usize, index: usize) -> Decision
 {
     let kind = kind_of(table, object);
     match kind {
-        0 => Decision {
+        types::UNKNOWN => Decision {
             code: 0,
-            number: 0,
+            number: types::UNKNOWN,
             a: 0,
             b: 0,
         },
-        3 => expect(1, index, 49, 3),
-        8 => expect(1, index, 46, part_of(table, object)),
-        9 => key(part_of(table, object), index, second_of(table, object)),
-        10 => expect(1, index, 48, common_of(table, object)),
+        types::STRING => expect(types::INT, index, codes::STRING_INDEX, types::STRING),
+        types::LIST => expect(types::INT, index, codes::LIST_INDEX, part_of(table, object)),
+        types::DICT => key(part_of(table, object), index, second_of(table, object)),
+        types::TUPLE => expect(
+            types::INT,
+            index,
+            codes::TUPLE_INDEX,
+            common_of(table, object),
+        ),
         _ => Decision {
-            code: 50,
+            code: codes::NOT_SUBSCRIPTABLE,
             number: 0,
             a: object,
             b: 0,
@@ -326,11 +336,11 @@ fn streamed_of(table: &[u16], i: usize) -> Perhaps
 {
     let kind = kind_of(table, i);
     match kind {
-        9 => Perhaps {
+        types::DICT => Perhaps {
             there: false,
             number: 0,
         },
-        10 => Perhaps {
+        types::TUPLE => Perhaps {
             there: false,
             number: 0,
         },
@@ -342,9 +352,9 @@ fn second_code(filters: bool) -> u32
     ensures { λ r. ⌜ r ≡ secondCode filters ⌝ }
 {
     if filters {
-        return 45;
+        return codes::FILTER_SECOND;
     }
-    43
+    codes::MAP_SECOND
 }
 
 // The FilterIter of an element type, or the MapIter of Unknown.
@@ -357,9 +367,9 @@ fn iterator(table: &mut [u16], counts: Counts, filters: bool, element: usize) ->
         0 ⌝ }
 {
     if filters {
-        return form(table, counts, 12, element, 0);
+        return form(table, counts, types::FILTER_ITER, element, 0);
     }
-    form(table, counts, 11, 0, 0)
+    form(table, counts, types::MAP_ITER, types::UNKNOWN, 0)
 }
 
 // A decision, and the counts of the table that has its type.
@@ -411,37 +421,37 @@ pub fn builtin_of(text: &[u8]) -> u32
     ensures { λ r. ⌜ r ≡ builtinNumber (now (text .entry)) ⌝ }
 {
     if same(text, b"print") {
-        return 1;
+        return builtin::PRINT;
     }
     if same(text, b"input") {
-        return 2;
+        return builtin::INPUT;
     }
     if same(text, b"int") {
-        return 3;
+        return builtin::INT;
     }
     if same(text, b"float") {
-        return 4;
+        return builtin::FLOAT;
     }
     if same(text, b"bool") {
-        return 5;
+        return builtin::BOOL;
     }
     if same(text, b"str") {
-        return 6;
+        return builtin::STR;
     }
     if same(text, b"len") {
-        return 7;
+        return builtin::LEN;
     }
     if same(text, b"range") {
-        return 8;
+        return builtin::RANGE;
     }
     if same(text, b"assert") {
-        return 9;
+        return builtin::ASSERT;
     }
     if same(text, b"map") {
-        return 10;
+        return builtin::MAP;
     }
     if same(text, b"filter") {
-        return 11;
+        return builtin::FILTER;
     }
-    0
+    builtin::NONE
 }

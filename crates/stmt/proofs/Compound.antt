@@ -25,8 +25,8 @@ use Rattle.types.specs.Table.{Tab, Wf, Grown, denote}
 use Rattle.types.specs.Reading.{perhaps, ElementOf}
 use Rattle.types.proofs.Laws.{unknown-number}
 use Rattle.types.proofs.Answers.{perhaps-yes, perhaps-no}
-use Rattle.frames.specs.Env.{Rows, put, framesOf, Fit}
-use Rattle.frames.proofs.Laws.{frames-grown, fit-grown, fit-put, frames-put, frames-clear, frames-pop, length-frames, fit-clear, fit-top}
+use Rattle.frames.specs.Env.{Rows, cellRoom, framesOf, Fit, Bound}
+use Rattle.frames.proofs.Laws.{frames-grown, fit-grown, frames-clear, frames-pop, length-frames, fit-clear, fit-top}
 use Rattle.rules.specs.Outcome.{typesNamed, pieces}
 use Rattle.expr.specs.Contract.{Ready, At}
 use Rattle.expr.specs.Contract.{Done as Typed}
@@ -207,19 +207,19 @@ module _ {bs : List ℕ} {nodes : ℕ} {t : Tab} {fs : Rows} {top : ℕ} {st : L
   pub for-name : x < 128
   for-name = rw m (arg-small (r .ready .sound) i (q .there))
 
-  pub for-small : code ≡ 0 → number < 2056
+  pub for-small : code ≡ 0 → number < cellRoom
   for-small z = omega (arith, c .below z, c .left .grown .wf .room, c .left .grown .wf .most)
 
-  module _ {es : Rows} {cell : ℕ} (z : code ≡ 0) (n : cell ≡ suc number) (o : es ≡ put fs top x cell) where
+  module _ {es : Rows} (z : code ≡ 0) (o : Bound fs es top x number) where
     for-fit : Fit u es top
-    for-fit = rw (o, n) (fit-put x (suc number) (c .left .fit) (omega (arith, c .below z)))
+    for-fit = o .fit u (c .left .fit) (c .below z)
 
     pub for-standing : {k : ℕ} → k ≡ stopOf (nodesOf bs) (i + 1) → Standing bs nodes es top u su ret k (stopOf (nodesOf bs) k)
     for-standing e = second-standing r (pair-for (r .ready .sound) q) e (c .left) for-fit
 
     for-rows : framesOf u es top ≡ write x (denote u number) (framesOf t fs top)
     for-rows =
-        rw (o, n, ← (frames-grown (c .left .grown) (r .ready .fit))) (frames-put u fs top x number (omega (arith, r .ready .fit .long, r .ready .fit .high)))
+        rw (← (frames-grown (c .left .grown) (r .ready .fit))) (o .says u (c .left .fit))
 
     pub for-done : {v : Tab} {gs : Rows} {high got k : ℕ} {sv : List ℕ} {code′ place″ a′ b′ : ℕ} → k ≡ stopOf (nodesOf bs) (i + 1)
         → Done (namesOf bs) (bodyAt bs true false d k (stateOf u es top ret)) u v gs top high got sv k (stopOf (nodesOf bs) k) (nodeCount bs) code′ place″ a′ b′

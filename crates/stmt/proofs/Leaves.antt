@@ -27,8 +27,8 @@ use Rattle.types.specs.Table.{Tab, Wf, Grown, denote}
 use Rattle.types.specs.Reading.{perhaps, Agreement}
 use Rattle.types.proofs.Laws.{grown-refl, grown-trans, plain-number, unknown-number}
 use Rattle.types.proofs.Answers.{perhaps-yes, perhaps-no}
-use Rattle.frames.specs.Env.{Rows, put, framesOf, Fit}
-use Rattle.frames.proofs.Laws.{frames-grown, fit-grown, fit-put, frames-put}
+use Rattle.frames.specs.Env.{Rows, framesOf, Fit, Bound}
+use Rattle.frames.proofs.Laws.{frames-grown, fit-grown}
 use Rattle.rules.specs.Outcome.{typesNamed, pieces}
 use Rattle.expr.specs.Contract.{Ready, At}
 use Rattle.expr.specs.Contract.{Done as Typed}
@@ -361,20 +361,18 @@ module _ {bs : List ℕ} {i n : ℕ} {fs gs : Rows} {top j left : ℕ} (s : Soun
   pub entering-here : (j < nodeCount bs) × (nodeOf (nodesOf bs) j .arg < 128)
   entering-here = let h = within-child s (l .within) (omega arith) .2 in (h, arg-small s j h)
 
-  pub entering-next : {x k : ℕ} {hs : Rows} → x ≡ nodeOf (nodesOf bs) j .arg → k ≡ stopOf (nodesOf bs) j → hs ≡ put gs top x 1
+  pub entering-next : {x k : ℕ} {hs : Rows} → x ≡ nodeOf (nodesOf bs) j .arg → k ≡ stopOf (nodesOf bs) j → Bound gs hs top x 0
       → Entering bs i n fs hs top k (left - 1)
   unfolding withParams write
   entering-next {x} {k} {hs} a b c =
       let o : left + 1 - 1 ≡ left - 1 + 1 = omega arith in
-      rw (b, c) (record {
+      rw b (record {
         within = rw o at (within-child s (l .within) (omega arith) .3);
         ends = sym (past-down (nodesOf bs) left j p) ∙ l .ends;
         so-far = λ f. set (l .so-far f) x (some unknown);
-        says = λ t f Γ w h e.
-            let g = l .fit t w h in
-            frames-put t gs top x 0 (omega (arith, g .long, g .high)) ∙ rw (l .says t f Γ w h e, unknown-number w);
+        says = λ t f Γ w h e. c .says t (l .fit t w h) ∙ rw (l .says t f Γ w h e, unknown-number w);
         rest = λ f. l .rest f ∙ rw (params-down (nodesOf bs) left j p, ← a);
-        fit = λ t w h. fit-put x 1 (l .fit t w h) (omega (arith, w .base));
+        fit = λ t w h. c .fit t (l .fit t w h) (omega (arith, w .base));
       })
 
 module _ {bs : List ℕ} {i n : ℕ} {fs gs : Rows} {top j left : ℕ} (l : Entering bs i n fs gs top j left) (p : left ≤ 0) where

@@ -3,31 +3,46 @@
 // frame, else a typing code), its node and the numbers that a message needs. The notes also have the counts of the table, the return type
 // so far and the newest frame's row (crates/nodes/specs/Notes.antt).
 ghost use mathlib.Core.Path.{_≡_};
-ghost use mathlib.Core.Bool.{Bool, true, false};
-ghost use Prim.Native.Nat.{suc, _+_, _-_, _<_, _≤_};
-ghost use Rattle.meaning.specs.Image.{nodeCount, nodesFrom, nodesOf, nodeOf, namesOf};
-ghost use Rattle.meaning.specs.Base.{if_then_else_};
+ghost use Prim.Native.Nat.{_+_, _-_, _<_};
+ghost use Rattle.meaning.specs.Image.{nodeCount, nodesFrom, nodesOf};
 ghost use Rattle.meaning.specs.Decode.{stopOf, past, paramsFrom};
-ghost use Rattle.meaning.specs.Walk.{state};
 ghost use Rattle.meaning.proofs.Faults.{Sound, Headed};
 ghost use Rattle.types.specs.Table.{tab};
-ghost use Rattle.frames.specs.Env.{framesOf};
-ghost use Rattle.nodes.specs.Notes.{tabIn, codeIn, placeIn, firstIn, secondIn, retIn, topIn, verdict, Noting, Kept};
-ghost use Rattle.expr.specs.Contract.{Ready, At};
-ghost use Rattle.targets.specs.Ending.{Assigned};
-ghost use Rattle.stmt.specs.Contract.{stateOf, acted, walkedAt, bodyAt, conditionAt, evaluatedAt, assignedAt, returnedAt, armBlock, armedAt};
-ghost use Rattle.stmt.specs.Contract.{Tells, Outside, Standing, Pair, Stmt, Bodiless, Branch, Within, Done, Armed, Entered, Iterated, Started, Ran};
+ghost use Rattle.nodes.specs.Notes.{Noting};
+ghost use Rattle.nodes.specs.Lent.{lent};
+ghost use Rattle.stmt.specs.Contract.{acted, conditionAt, evaluatedAt, assignedAt, returnedAt, armBlock};
+ghost use Rattle.stmt.specs.Contract.{Outside, Within, Entered, Started, Ran};
+ghost use Rattle.stmt.specs.Clauses.{Checkable, Paired, Returnable, Simple, Walkable, OfKind, InIf};
+ghost use Rattle.stmt.specs.Clauses.{Ends, Iterates, Walks, WalksStmt, WalksBlock, Acts, ActsAnywhere, WalksArm};
 use expr::expr;
+use frames::Frames;
+use frames::MOST_NAMES;
 use frames::bind;
 use frames::clear;
 use frames::commit;
 use frames::note_branch;
+use image::Cursor;
+use image::kinds;
 use image::node_at;
+use nodes::CODE;
+use nodes::ELEMENTS;
+use nodes::FIRST;
+use nodes::NO_TYPE;
+use nodes::Notes;
+use nodes::PLACE;
+use nodes::RETURNS;
+use nodes::SECOND;
+use nodes::Stack;
+use nodes::TOP;
+use nodes::TYPES;
 use nodes::counts_of;
 use nodes::refused;
 use nodes::small;
 use nodes::stop_of;
+use rules::codes;
+use targets::Outcome;
 use targets::assign;
+use types;
 use types::Counts;
 use types::agreed;
 use types::element_of;
@@ -44,32 +59,26 @@ fn wide(x: u32) -> usize
 fn condition(
     image: &[u8],
     nodes: usize,
-    rows: &[[u16; 128]; 8],
+    rows: &Frames,
     top: usize,
     table: &mut [u16],
-    notes: &mut [u32; 8],
-    stack: &mut [u16; 2048],
+    notes: &mut Notes,
+    stack: &mut Stack,
     at: usize,
     depth: usize,
 ) -> usize
-    requires { ⌜ Noting (now notes) ⌝ }
-    requires { ⌜ Ready (now image) nodes (now rows) top (tabIn (now table) (now notes)) (now stack) 0 at (stopOf (nodesOf (now image)) at) ⌝ }
-    requires { ⌜ At (now image) at depth ⌝ }
-    ensures { λ r. ⌜ Assigned (namesOf (now (image .entry)))
-        (λ y. conditionAt (now (image .entry)) depth at (state (framesOf (tabIn (now (table .entry)) (now (notes .entry))) (now (rows .entry)) top) y))
-        (tabIn (now (table .entry)) (now (notes .entry)))
-        (tabIn (now (table .exit)) (now (notes .exit)))
-        (now (rows .entry)) top (now (stack .exit))
-        at (stopOf (nodesOf (now (image .entry))) at) (nodeCount (now (image .entry)))
-        (verdict r (now (notes .exit))) (placeIn (now (notes .exit))) (firstIn (now (notes .exit))) (secondIn (now (notes .exit))) ⌝ }
-    ensures { λ r. ⌜ Kept (now (notes .entry)) (now (notes .exit)) r ⌝ }
+    requires { ⌜ Checkable (now image) nodes top at depth (lent (now rows) (now table) (now notes) (now stack)) ⌝ }
+    ensures { λ r. ⌜ Ends (now (image .entry)) top at r
+        (lent (now (rows .entry)) (now (table .entry)) (now (notes .entry)) (now (stack .entry)))
+        (lent (now (rows .entry)) (now (table .exit)) (now (notes .exit)) (now (stack .exit)))
+        (conditionAt (now (image .entry)) depth at) ⌝ }
 {
     let v = expr(image, nodes, rows, top, table, notes, stack, 0, at, depth);
-    if v == 65535 {
+    if v == NO_TYPE {
         return v;
     }
-    if v != 2 {
-        return refused(notes, 36, at, 0, 0);
+    if v != types::BOOL {
+        return refused(notes, codes::CONDITION, at, 0, 0);
     }
     0
 }
@@ -78,27 +87,22 @@ fn condition(
 fn assignment(
     image: &[u8],
     nodes: usize,
-    rows: &mut [[u16; 128]; 8],
+    rows: &mut Frames,
     top: usize,
     table: &mut [u16],
-    notes: &mut [u32; 8],
-    stack: &mut [u16; 2048],
+    notes: &mut Notes,
+    stack: &mut Stack,
     at: usize,
     depth: usize,
 ) -> usize
-    requires { ⌜ Noting (now notes) ⌝ }
-    requires { ⌜ Ready (now image) nodes (now rows) top (tabIn (now table) (now notes)) (now stack) 0 at (stopOf (nodesOf (now image)) at) ⌝ }
-    requires { ⌜ Pair (now image) at depth ⌝ }
-    ensures { λ r. ⌜ Assigned (namesOf (now (image .entry)))
-        (λ y. assignedAt (now (image .entry)) depth at (state (framesOf (tabIn (now (table .entry)) (now (notes .entry))) (now (rows .entry)) top) y))
-        (tabIn (now (table .entry)) (now (notes .entry)))
-        (tabIn (now (table .exit)) (now (notes .exit)))
-        (now (rows .exit)) top (now (stack .exit))
-        at (stopOf (nodesOf (now (image .entry))) at) (nodeCount (now (image .entry)))
-        (verdict r (now (notes .exit))) (placeIn (now (notes .exit))) (firstIn (now (notes .exit))) (secondIn (now (notes .exit))) ⌝ }
-    ensures { λ r. ⌜ Kept (now (notes .entry)) (now (notes .exit)) r ⌝ }
+    requires { ⌜ Paired (now image) nodes top at depth (lent (now rows) (now table) (now notes) (now stack)) ⌝ }
+    ensures { λ r. ⌜ Ends (now (image .entry)) top at r
+        (lent (now (rows .entry)) (now (table .entry)) (now (notes .entry)) (now (stack .entry)))
+        (lent (now (rows .exit)) (now (table .exit)) (now (notes .exit)) (now (stack .exit)))
+        (assignedAt (now (image .entry)) depth at) ⌝ }
 {
-    let second = stop_of(image, nodes, at + 1);
+    let first = at + 1;
+    let second = stop_of(image, nodes, first);
     let v = expr(
         image,
         nodes,
@@ -111,63 +115,50 @@ fn assignment(
         second,
         depth,
     );
-    if v == 65535 {
+    if v == NO_TYPE {
         return v;
     }
-    assign(
-        image,
-        nodes,
-        rows,
-        top,
-        table,
-        notes,
-        stack,
-        at + 1,
-        v,
-        depth,
-    )
+    let target = Cursor { at: first, nodes };
+    let r = assign(image, target, rows, top, table, notes, stack, v, depth);
+    let Outcome::Ok = r else {
+        return NO_TYPE;
+    };
+    0
 }
 
 // A Return of the value at node `at`.
 fn give(
     image: &[u8],
     nodes: usize,
-    rows: &[[u16; 128]; 8],
+    rows: &Frames,
     top: usize,
     table: &mut [u16],
-    notes: &mut [u32; 8],
-    stack: &mut [u16; 2048],
+    notes: &mut Notes,
+    stack: &mut Stack,
     at: usize,
     depth: usize,
 ) -> usize
-    requires { ⌜ Noting (now notes) ⌝ }
-    requires { ⌜ Standing (now image) nodes (now rows) top (tabIn (now table) (now notes)) (now stack) (retIn (now notes)) at (stopOf (nodesOf (now image)) at) ⌝ }
-    requires { ⌜ At (now image) at depth ⌝ }
-    requires { ⌜ top ≡ topIn (now notes) ⌝ }
-    ensures { λ r. ⌜ Done (namesOf (now (image .entry)))
-        (returnedAt (now (image .entry)) depth at (stateOf (tabIn (now (table .entry)) (now (notes .entry))) (now (rows .entry)) top (retIn (now (notes .entry)))))
-        (tabIn (now (table .entry)) (now (notes .entry)))
-        (tabIn (now (table .exit)) (now (notes .exit)))
-        (now (rows .entry)) top (topIn (now (notes .exit))) (retIn (now (notes .exit))) (now (stack .exit))
-        at (stopOf (nodesOf (now (image .entry))) at) (nodeCount (now (image .entry)))
-        (verdict r (now (notes .exit))) (placeIn (now (notes .exit))) (firstIn (now (notes .exit))) (secondIn (now (notes .exit))) ⌝ }
-    ensures { λ r. ⌜ Tells (now (notes .exit)) r ⌝ }
+    requires { ⌜ Returnable (now image) nodes top at depth (lent (now rows) (now table) (now notes) (now stack)) ⌝ }
+    ensures { λ r. ⌜ Walks (now (image .entry)) top at r
+        (lent (now (rows .entry)) (now (table .entry)) (now (notes .entry)) (now (stack .entry)))
+        (lent (now (rows .entry)) (now (table .exit)) (now (notes .exit)) (now (stack .exit)))
+        (returnedAt (now (image .entry)) depth at) ⌝ }
 {
     let v = expr(image, nodes, rows, top, table, notes, stack, 0, at, depth);
-    if v == 65535 {
+    if v == NO_TYPE {
         return v;
     }
-    let ret = wide(notes[6]);
+    let ret = wide(notes[RETURNS]);
     let both = agreed(ret, v);
     if both.there {
-        notes[6] = small(both.number);
+        notes[RETURNS] = small(both.number);
         return 0;
     }
-    refused(notes, 22, at, ret, v)
+    refused(notes, codes::INCONSISTENT_RETURN, at, ret, v)
 }
 
 // A Break or Continue at node `at`: one outside a loop is refused by the code.
-fn outside(notes: &mut [u32; 8], looped: bool, code: u32, at: usize) -> usize
+fn outside(notes: &mut Notes, looped: bool, code: u32, at: usize) -> usize
     requires { ⌜ Noting (now notes) ⌝ }
     requires { ⌜ (at < 2048) × (code ≡ 0 → ⊥) ⌝ }
     ensures { λ r. ⌜ Outside (now (notes .entry)) (now (notes .exit)) looped code at r ⌝ }
@@ -182,28 +173,22 @@ fn outside(notes: &mut [u32; 8], looped: bool, code: u32, at: usize) -> usize
 fn evaluate(
     image: &[u8],
     nodes: usize,
-    rows: &[[u16; 128]; 8],
+    rows: &Frames,
     top: usize,
     table: &mut [u16],
-    notes: &mut [u32; 8],
-    stack: &mut [u16; 2048],
+    notes: &mut Notes,
+    stack: &mut Stack,
     at: usize,
     depth: usize,
 ) -> usize
-    requires { ⌜ Noting (now notes) ⌝ }
-    requires { ⌜ Ready (now image) nodes (now rows) top (tabIn (now table) (now notes)) (now stack) 0 at (stopOf (nodesOf (now image)) at) ⌝ }
-    requires { ⌜ At (now image) at depth ⌝ }
-    ensures { λ r. ⌜ Assigned (namesOf (now (image .entry)))
-        (λ y. evaluatedAt (now (image .entry)) depth at (state (framesOf (tabIn (now (table .entry)) (now (notes .entry))) (now (rows .entry)) top) y))
-        (tabIn (now (table .entry)) (now (notes .entry)))
-        (tabIn (now (table .exit)) (now (notes .exit)))
-        (now (rows .entry)) top (now (stack .exit))
-        at (stopOf (nodesOf (now (image .entry))) at) (nodeCount (now (image .entry)))
-        (verdict r (now (notes .exit))) (placeIn (now (notes .exit))) (firstIn (now (notes .exit))) (secondIn (now (notes .exit))) ⌝ }
-    ensures { λ r. ⌜ Kept (now (notes .entry)) (now (notes .exit)) r ⌝ }
+    requires { ⌜ Checkable (now image) nodes top at depth (lent (now rows) (now table) (now notes) (now stack)) ⌝ }
+    ensures { λ r. ⌜ Ends (now (image .entry)) top at r
+        (lent (now (rows .entry)) (now (table .entry)) (now (notes .entry)) (now (stack .entry)))
+        (lent (now (rows .entry)) (now (table .exit)) (now (notes .exit)) (now (stack .exit)))
+        (evaluatedAt (now (image .entry)) depth at) ⌝ }
 {
     let v = expr(image, nodes, rows, top, table, notes, stack, 0, at, depth);
-    if v == 65535 {
+    if v == NO_TYPE {
         return v;
     }
     0
@@ -213,36 +198,28 @@ fn evaluate(
 fn simple(
     image: &[u8],
     nodes: usize,
-    rows: &mut [[u16; 128]; 8],
+    rows: &mut Frames,
     top: usize,
     table: &mut [u16],
-    notes: &mut [u32; 8],
-    stack: &mut [u16; 2048],
+    notes: &mut Notes,
+    stack: &mut Stack,
     at: usize,
     kind: u32,
     depth: usize,
     looped: bool,
 ) -> usize
-    requires { ⌜ Noting (now notes) ⌝ }
-    requires { ⌜ Standing (now image) nodes (now rows) top (tabIn (now table) (now notes)) (now stack) (retIn (now notes)) at (stopOf (nodesOf (now image)) at) ⌝ }
-    requires { ⌜ Stmt (now image) at depth kind ⌝ }
-    requires { ⌜ Bodiless kind ⌝ }
-    requires { ⌜ top ≡ topIn (now notes) ⌝ }
-    ensures { λ r. ⌜ Done (namesOf (now (image .entry)))
-        (acted (now (image .entry)) looped depth at (stateOf (tabIn (now (table .entry)) (now (notes .entry))) (now (rows .entry)) top (retIn (now (notes .entry)))))
-        (tabIn (now (table .entry)) (now (notes .entry)))
-        (tabIn (now (table .exit)) (now (notes .exit)))
-        (now (rows .exit)) top (topIn (now (notes .exit))) (retIn (now (notes .exit))) (now (stack .exit))
-        at (stopOf (nodesOf (now (image .entry))) at) (nodeCount (now (image .entry)))
-        (verdict r (now (notes .exit))) (placeIn (now (notes .exit))) (firstIn (now (notes .exit))) (secondIn (now (notes .exit))) ⌝ }
-    ensures { λ r. ⌜ Tells (now (notes .exit)) r ⌝ }
+    requires { ⌜ Simple (now image) nodes top at kind depth (lent (now rows) (now table) (now notes) (now stack)) ⌝ }
+    ensures { λ r. ⌜ Walks (now (image .entry)) top at r
+        (lent (now (rows .entry)) (now (table .entry)) (now (notes .entry)) (now (stack .entry)))
+        (lent (now (rows .exit)) (now (table .exit)) (now (notes .exit)) (now (stack .exit)))
+        (acted (now (image .entry)) looped depth at) ⌝ }
 {
     match kind {
-        1 => outside(notes, looped, 20, at),
-        2 => outside(notes, looped, 21, at),
-        5 => assignment(image, nodes, rows, top, table, notes, stack, at, depth),
-        6 => evaluate(image, nodes, rows, top, table, notes, stack, at + 1, depth),
-        7 => give(image, nodes, rows, top, table, notes, stack, at + 1, depth),
+        kinds::BREAK => outside(notes, looped, codes::BREAK, at),
+        kinds::CONTINUE => outside(notes, looped, codes::CONTINUE, at),
+        kinds::ASSIGN => assignment(image, nodes, rows, top, table, notes, stack, at, depth),
+        kinds::EXPR => evaluate(image, nodes, rows, top, table, notes, stack, at + 1, depth),
+        kinds::RETURN => give(image, nodes, rows, top, table, notes, stack, at + 1, depth),
         _ => 0,
     }
 }
@@ -251,7 +228,7 @@ fn simple(
 fn parameters(
     image: &[u8],
     nodes: usize,
-    rows: &mut [[u16; 128]; 8],
+    rows: &mut Frames,
     top: usize,
     at: usize,
     n: usize,
@@ -261,15 +238,18 @@ fn parameters(
     ensures { λ r. ⌜ (r ≡ past (nodesOf (now (image .entry))) n (at + 1)) × Within (now (image .entry)) at r 1 ⌝ }
     ensures { λ _. ⌜ Entered (now (rows .entry)) (now (rows .exit)) top (paramsFrom (nodesOf (now (image .entry))) n (at + 1)) ⌝ }
 {
-    let mut j = at + 1;
+    let def = Cursor { at, nodes };
+    let read = def.next(image);
+    let mut next = read.cursor;
     let mut left = n;
     while 0 < left {
-        let node = node_at(image, nodes, j);
-        bind(rows, top, node.arg as usize, 1);
-        j = node.stop as usize;
+        let passed = next.over(image);
+        let node = passed.node;
+        bind(rows, top, node.arg as usize, types::UNKNOWN);
+        next = passed.cursor;
         left -= 1;
     }
-    j
+    next.at
 }
 
 // ---- statements with a body
@@ -278,42 +258,28 @@ fn parameters(
 fn elements(
     image: &[u8],
     nodes: usize,
-    rows: &[[u16; 128]; 8],
+    rows: &Frames,
     top: usize,
     table: &mut [u16],
-    notes: &mut [u32; 8],
-    stack: &mut [u16; 2048],
+    notes: &mut Notes,
+    stack: &mut Stack,
     at: usize,
     depth: usize,
 ) -> usize
-    requires { ⌜ Noting (now notes) ⌝ }
-    requires { ⌜ Ready (now image) nodes (now rows) top (tabIn (now table) (now notes)) (now stack) 0 at (stopOf (nodesOf (now image)) at) ⌝ }
-    requires { ⌜ At (now image) at depth ⌝ }
-    ensures { λ r. ⌜ Iterated (now (image .entry)) depth
-        (tabIn (now (table .entry)) (now (notes .entry)))
-        (tabIn (now (table .exit)) (now (notes .exit)))
-        (now (rows .entry)) top (now (stack .exit))
-        at (stopOf (nodesOf (now (image .entry))) at) (nodeCount (now (image .entry)))
-        (verdict r (now (notes .exit))) (placeIn (now (notes .exit))) r (firstIn (now (notes .exit))) (secondIn (now (notes .exit))) ⌝ }
-    ensures { λ r. ⌜ Kept (now (notes .entry)) (now (notes .exit)) r ⌝ }
+    requires { ⌜ Checkable (now image) nodes top at depth (lent (now rows) (now table) (now notes) (now stack)) ⌝ }
+    ensures { λ r. ⌜ Iterates (now (image .entry)) top at depth r
+        (lent (now (rows .entry)) (now (table .entry)) (now (notes .entry)) (now (stack .entry)))
+        (lent (now (rows .entry)) (now (table .exit)) (now (notes .exit)) (now (stack .exit))) ⌝ }
 {
     let v = expr(image, nodes, rows, top, table, notes, stack, 0, at, depth);
-    if v == 65535 {
+    if v == NO_TYPE {
         return v;
     }
     let element = element_of(table, v);
     if element.there {
         return element.number;
     }
-    refused(notes, 24, at, v, 0)
-}
-
-// The cell of a name that has the type `number`.
-fn cell_of(number: usize) -> u16
-    requires { ⌜ number < 2056 ⌝ }
-    ensures { λ r. ⌜ r ≡ suc number ⌝ }
-{
-    number as u16 + 1
+    refused(notes, codes::NOT_ITERABLE, at, v, 0)
 }
 
 // Where the branch after the one at node `at` starts, of `left` nodes of an If.
@@ -343,35 +309,28 @@ fn fewer(left: usize) -> usize
 fn stmt(
     image: &[u8],
     nodes: usize,
-    rows: &mut [[u16; 128]; 8],
+    rows: &mut Frames,
     table: &mut [u16],
-    notes: &mut [u32; 8],
-    stack: &mut [u16; 2048],
+    notes: &mut Notes,
+    stack: &mut Stack,
     at: usize,
     depth: usize,
     looped: bool,
 ) -> usize
-    requires { ⌜ Noting (now notes) ⌝ }
-    requires { ⌜ Standing (now image) nodes (now rows) (topIn (now notes)) (tabIn (now table) (now notes)) (now stack) (retIn (now notes)) at (stopOf (nodesOf (now image)) at) ⌝ }
-    requires { ⌜ At (now image) at depth ⌝ }
-    ensures { λ r. ⌜ Done (namesOf (now (image .entry)))
-        (walkedAt (now (image .entry)) looped depth at (stateOf (tabIn (now (table .entry)) (now (notes .entry))) (now (rows .entry)) (topIn (now (notes .entry))) (retIn (now (notes .entry)))))
-        (tabIn (now (table .entry)) (now (notes .entry)))
-        (tabIn (now (table .exit)) (now (notes .exit)))
-        (now (rows .exit)) (topIn (now (notes .entry))) (topIn (now (notes .exit))) (retIn (now (notes .exit))) (now (stack .exit))
-        at (stopOf (nodesOf (now (image .entry))) at) (nodeCount (now (image .entry)))
-        (verdict r (now (notes .exit))) (placeIn (now (notes .exit))) (firstIn (now (notes .exit))) (secondIn (now (notes .exit))) ⌝ }
-    ensures { λ r. ⌜ Tells (now (notes .exit)) r ⌝ }
+    requires { ⌜ Walkable (now image) nodes at depth (lent (now rows) (now table) (now notes) (now stack)) ⌝ }
+    ensures { λ r. ⌜ WalksStmt (now (image .entry)) at depth looped r
+        (lent (now (rows .entry)) (now (table .entry)) (now (notes .entry)) (now (stack .entry)))
+        (lent (now (rows .exit)) (now (table .exit)) (now (notes .exit)) (now (stack .exit))) ⌝ }
 {
     let node = node_at(image, nodes, at);
     let kind = node.kind;
     let d = depth - 1;
-    let top = wide(notes[7]);
+    let top = wide(notes[TOP]);
     match kind {
-        8 => choices(image, nodes, rows, table, notes, stack, at, d, looped),
-        9 => repeat(image, nodes, rows, table, notes, stack, at, d),
-        10 => each(image, nodes, rows, table, notes, stack, at, d),
-        11 => define(image, nodes, rows, table, notes, stack, at, d),
+        kinds::IF => choices(image, nodes, rows, table, notes, stack, at, d, looped),
+        kinds::WHILE => repeat(image, nodes, rows, table, notes, stack, at, d),
+        kinds::FOR => each(image, nodes, rows, table, notes, stack, at, d),
+        kinds::DEF => define(image, nodes, rows, table, notes, stack, at, d),
         _ => simple(
             image,
             nodes,
@@ -392,43 +351,38 @@ fn stmt(
 fn block(
     image: &[u8],
     nodes: usize,
-    rows: &mut [[u16; 128]; 8],
+    rows: &mut Frames,
     table: &mut [u16],
-    notes: &mut [u32; 8],
-    stack: &mut [u16; 2048],
+    notes: &mut Notes,
+    stack: &mut Stack,
     at: usize,
     depth: usize,
     looped: bool,
     drops: bool,
 ) -> usize
-    requires { ⌜ Noting (now notes) ⌝ }
-    requires { ⌜ Standing (now image) nodes (now rows) (topIn (now notes)) (tabIn (now table) (now notes)) (now stack) (retIn (now notes)) at (stopOf (nodesOf (now image)) at) ⌝ }
-    requires { ⌜ At (now image) at depth ⌝ }
-    ensures { λ r. ⌜ Done (namesOf (now (image .entry)))
-        (bodyAt (now (image .entry)) looped drops depth at (stateOf (tabIn (now (table .entry)) (now (notes .entry))) (now (rows .entry)) (topIn (now (notes .entry))) (retIn (now (notes .entry)))))
-        (tabIn (now (table .entry)) (now (notes .entry)))
-        (tabIn (now (table .exit)) (now (notes .exit)))
-        (now (rows .exit)) (topIn (now (notes .entry))) (topIn (now (notes .exit))) (retIn (now (notes .exit))) (now (stack .exit))
-        at (stopOf (nodesOf (now (image .entry))) at) (nodeCount (now (image .entry)))
-        (verdict r (now (notes .exit))) (placeIn (now (notes .exit))) (firstIn (now (notes .exit))) (secondIn (now (notes .exit))) ⌝ }
-    ensures { λ r. ⌜ Tells (now (notes .exit)) r ⌝ }
-    ensures quiet { λ r. ⌜ (drops ≡ true → (verdict r (now (notes .exit)) ≡ 9 → ⊥) → verdict r (now (notes .exit)) ≡ 0) ⌝ }
+    requires { ⌜ Walkable (now image) nodes at depth (lent (now rows) (now table) (now notes) (now stack)) ⌝ }
+    ensures { λ r. ⌜ WalksBlock (now (image .entry)) at depth looped drops r
+        (lent (now (rows .entry)) (now (table .entry)) (now (notes .entry)) (now (stack .entry)))
+        (lent (now (rows .exit)) (now (table .exit)) (now (notes .exit)) (now (stack .exit))) ⌝ }
 {
-    let node = node_at(image, nodes, at);
+    let here = Cursor { at, nodes };
+    let read = here.next(image);
+    let node = read.node;
     let d = depth - 1;
-    let mut j = at + 1;
+    let mut next = read.cursor;
     let mut left = node.children as usize;
     while 0 < left {
-        let r = stmt(image, nodes, rows, table, notes, stack, j, d, looped);
-        if r == 65535 {
-            if notes[2] == 9 {
+        let r = stmt(image, nodes, rows, table, notes, stack, next.at, d, looped);
+        if r == NO_TYPE {
+            if notes[CODE] == codes::NINTH_FRAME {
                 return r;
             }
             if !drops {
                 return r;
             }
         }
-        j = stop_of(image, nodes, j);
+        let passed = next.over(image);
+        next = passed.cursor;
         left -= 1;
     }
     0
@@ -438,30 +392,23 @@ fn block(
 fn choices(
     image: &[u8],
     nodes: usize,
-    rows: &mut [[u16; 128]; 8],
+    rows: &mut Frames,
     table: &mut [u16],
-    notes: &mut [u32; 8],
-    stack: &mut [u16; 2048],
+    notes: &mut Notes,
+    stack: &mut Stack,
     at: usize,
     depth: usize,
     looped: bool,
 ) -> usize
-    requires { ⌜ Noting (now notes) ⌝ }
-    requires { ⌜ Standing (now image) nodes (now rows) (topIn (now notes)) (tabIn (now table) (now notes)) (now stack) (retIn (now notes)) at (stopOf (nodesOf (now image)) at) ⌝ }
-    requires { ⌜ Stmt (now image) at depth 8 ⌝ }
-    ensures { λ r. ⌜ Done (namesOf (now (image .entry)))
-        (acted (now (image .entry)) looped depth at (stateOf (tabIn (now (table .entry)) (now (notes .entry))) (now (rows .entry)) (topIn (now (notes .entry))) (retIn (now (notes .entry)))))
-        (tabIn (now (table .entry)) (now (notes .entry)))
-        (tabIn (now (table .exit)) (now (notes .exit)))
-        (now (rows .exit)) (topIn (now (notes .entry))) (topIn (now (notes .exit))) (retIn (now (notes .exit))) (now (stack .exit))
-        at (stopOf (nodesOf (now (image .entry))) at) (nodeCount (now (image .entry)))
-        (verdict r (now (notes .exit))) (placeIn (now (notes .exit))) (firstIn (now (notes .exit))) (secondIn (now (notes .exit))) ⌝ }
-    ensures { λ r. ⌜ Tells (now (notes .exit)) r ⌝ }
+    requires { ⌜ OfKind 8 (now image) nodes at depth (lent (now rows) (now table) (now notes) (now stack)) ⌝ }
+    ensures { λ r. ⌜ Acts (now (image .entry)) at depth looped r
+        (lent (now (rows .entry)) (now (table .entry)) (now (notes .entry)) (now (stack .entry)))
+        (lent (now (rows .exit)) (now (table .exit)) (now (notes .exit)) (now (stack .exit))) ⌝ }
 {
-    let mut merged = [0u16; 128];
-    let mut clashes = [false; 128];
+    let mut merged = [0u16; MOST_NAMES];
+    let mut clashes = [false; MOST_NAMES];
     let node = node_at(image, nodes, at);
-    let top = wide(notes[7]);
+    let top = wide(notes[TOP]);
     let mut j = at + 1;
     let mut left = node.children as usize;
     while 0 < left {
@@ -478,9 +425,9 @@ fn choices(
             depth,
             looped,
         );
-        let high = wide(notes[7]);
-        notes[7] = small(top);
-        if r == 65535 {
+        let high = wide(notes[TOP]);
+        notes[TOP] = small(top);
+        if r == NO_TYPE {
             return r;
         }
         note_branch(rows, top, &branch, high, &mut merged, &mut clashes);
@@ -498,32 +445,25 @@ fn choices(
 fn one_arm(
     image: &[u8],
     nodes: usize,
-    rows: &mut [[u16; 128]; 8],
+    rows: &mut Frames,
     table: &mut [u16],
-    notes: &mut [u32; 8],
-    stack: &mut [u16; 2048],
+    notes: &mut Notes,
+    stack: &mut Stack,
     at: usize,
     left: usize,
     depth: usize,
     looped: bool,
 ) -> usize
-    requires { ⌜ Noting (now notes) ⌝ }
-    requires { ⌜ Standing (now image) nodes (now rows) (topIn (now notes)) (tabIn (now table) (now notes)) (now stack) (retIn (now notes)) at (stopOf (nodesOf (now image)) (armBlock (now image) left at)) ⌝ }
-    requires { ⌜ Branch (now image) at left depth ⌝ }
-    ensures { λ r. ⌜ Armed (namesOf (now (image .entry)))
-        (armedAt (now (image .entry)) looped depth left at (stateOf (tabIn (now (table .entry)) (now (notes .entry))) (now (rows .entry)) (topIn (now (notes .entry))) (retIn (now (notes .entry)))))
-        (tabIn (now (table .entry)) (now (notes .entry)))
-        (tabIn (now (table .exit)) (now (notes .exit)))
-        (now (rows .entry)) (now (rows .exit)) (topIn (now (notes .entry))) (topIn (now (notes .exit))) (retIn (now (notes .entry))) (retIn (now (notes .exit))) (now (stack .exit))
-        at (stopOf (nodesOf (now (image .entry))) (armBlock (now (image .entry)) left at)) (nodeCount (now (image .entry)))
-        (verdict r (now (notes .exit))) (placeIn (now (notes .exit))) (firstIn (now (notes .exit))) (secondIn (now (notes .exit))) ⌝ }
-    ensures { λ r. ⌜ Tells (now (notes .exit)) r ⌝ }
+    requires { ⌜ InIf (now image) nodes at left depth (lent (now rows) (now table) (now notes) (now stack)) ⌝ }
+    ensures { λ r. ⌜ WalksArm (now (image .entry)) at left depth looped r
+        (lent (now (rows .entry)) (now (table .entry)) (now (notes .entry)) (now (stack .entry)))
+        (lent (now (rows .exit)) (now (table .exit)) (now (notes .exit)) (now (stack .exit))) ⌝ }
 {
     let drops = true;
     if 1 < left {
-        let top = wide(notes[7]);
+        let top = wide(notes[TOP]);
         let o = condition(image, nodes, rows, top, table, notes, stack, at, depth);
-        if o == 65535 {
+        if o == NO_TYPE {
             return o;
         }
         let b = stop_of(image, nodes, at);
@@ -558,36 +498,29 @@ fn one_arm(
 fn define(
     image: &[u8],
     nodes: usize,
-    rows: &mut [[u16; 128]; 8],
+    rows: &mut Frames,
     table: &mut [u16],
-    notes: &mut [u32; 8],
-    stack: &mut [u16; 2048],
+    notes: &mut Notes,
+    stack: &mut Stack,
     at: usize,
     depth: usize,
 ) -> usize
-    requires { ⌜ Noting (now notes) ⌝ }
-    requires { ⌜ Standing (now image) nodes (now rows) (topIn (now notes)) (tabIn (now table) (now notes)) (now stack) (retIn (now notes)) at (stopOf (nodesOf (now image)) at) ⌝ }
-    requires { ⌜ Stmt (now image) at depth 11 ⌝ }
-    ensures { λ r. ⌜ ((loop : Bool) → Done (namesOf (now (image .entry)))
-        (acted (now (image .entry)) loop depth at (stateOf (tabIn (now (table .entry)) (now (notes .entry))) (now (rows .entry)) (topIn (now (notes .entry))) (retIn (now (notes .entry)))))
-        (tabIn (now (table .entry)) (now (notes .entry)))
-        (tabIn (now (table .exit)) (now (notes .exit)))
-        (now (rows .exit)) (topIn (now (notes .entry))) (topIn (now (notes .exit))) (retIn (now (notes .exit))) (now (stack .exit))
-        at (stopOf (nodesOf (now (image .entry))) at) (nodeCount (now (image .entry)))
-        (verdict r (now (notes .exit))) (placeIn (now (notes .exit))) (firstIn (now (notes .exit))) (secondIn (now (notes .exit)))) ⌝ }
-    ensures { λ r. ⌜ Tells (now (notes .exit)) r ⌝ }
+    requires { ⌜ OfKind 11 (now image) nodes at depth (lent (now rows) (now table) (now notes) (now stack)) ⌝ }
+    ensures { λ r. ⌜ ActsAnywhere (now (image .entry)) at depth r
+        (lent (now (rows .entry)) (now (table .entry)) (now (notes .entry)) (now (stack .entry)))
+        (lent (now (rows .exit)) (now (table .exit)) (now (notes .exit)) (now (stack .exit))) ⌝ }
 {
-    let top = wide(notes[7]);
-    let ret = notes[6];
+    let top = wide(notes[TOP]);
+    let ret = notes[RETURNS];
     if 7 <= top {
-        return refused(notes, 9, at, 0, 0);
+        return refused(notes, codes::NINTH_FRAME, at, 0, 0);
     }
     let node = node_at(image, nodes, at);
     let n = node.children as usize;
     clear(rows, top + 1);
     let b = parameters(image, nodes, rows, top + 1, at, n - 1);
-    notes[7] = small(top + 1);
-    notes[6] = 0;
+    notes[TOP] = small(top + 1);
+    notes[RETURNS] = 0;
     let r = block(
         image,
         nodes,
@@ -600,11 +533,11 @@ fn define(
         false,
         false,
     );
-    notes[6] = ret;
-    if r == 65535 {
+    notes[RETURNS] = ret;
+    if r == NO_TYPE {
         return r;
     }
-    notes[7] = notes[7] - 1;
+    notes[TOP] = notes[TOP] - 1;
     0
 }
 
@@ -612,34 +545,26 @@ fn define(
 fn each(
     image: &[u8],
     nodes: usize,
-    rows: &[[u16; 128]; 8],
+    rows: &Frames,
     table: &mut [u16],
-    notes: &mut [u32; 8],
-    stack: &mut [u16; 2048],
+    notes: &mut Notes,
+    stack: &mut Stack,
     at: usize,
     depth: usize,
 ) -> usize
-    requires { ⌜ Noting (now notes) ⌝ }
-    requires { ⌜ Standing (now image) nodes (now rows) (topIn (now notes)) (tabIn (now table) (now notes)) (now stack) (retIn (now notes)) at (stopOf (nodesOf (now image)) at) ⌝ }
-    requires { ⌜ Stmt (now image) at depth 10 ⌝ }
-    ensures { λ r. ⌜ ((loop : Bool) → Done (namesOf (now (image .entry)))
-        (acted (now (image .entry)) loop depth at (stateOf (tabIn (now (table .entry)) (now (notes .entry))) (now (rows .entry)) (topIn (now (notes .entry))) (retIn (now (notes .entry)))))
-        (tabIn (now (table .entry)) (now (notes .entry)))
-        (tabIn (now (table .exit)) (now (notes .exit)))
-        (now (rows .entry)) (topIn (now (notes .entry))) (topIn (now (notes .exit))) (retIn (now (notes .exit))) (now (stack .exit))
-        at (stopOf (nodesOf (now (image .entry))) at) (nodeCount (now (image .entry)))
-        (verdict r (now (notes .exit))) (placeIn (now (notes .exit))) (firstIn (now (notes .exit))) (secondIn (now (notes .exit)))) ⌝ }
-    ensures { λ r. ⌜ Tells (now (notes .exit)) r ⌝ }
+    requires { ⌜ OfKind 10 (now image) nodes at depth (lent (now rows) (now table) (now notes) (now stack)) ⌝ }
+    ensures { λ r. ⌜ ActsAnywhere (now (image .entry)) at depth r
+        (lent (now (rows .entry)) (now (table .entry)) (now (notes .entry)) (now (stack .entry)))
+        (lent (now (rows .entry)) (now (table .exit)) (now (notes .exit)) (now (stack .exit))) ⌝ }
 {
-    let top = wide(notes[7]);
+    let top = wide(notes[TOP]);
     let v = elements(image, nodes, rows, top, table, notes, stack, at + 1, depth);
-    if v == 65535 {
+    if v == NO_TYPE {
         return v;
     }
     let node = node_at(image, nodes, at);
-    let cell = cell_of(v);
     let mut inner = *rows;
-    bind(&mut inner, top, node.arg as usize, cell);
+    bind(&mut inner, top, node.arg as usize, v);
     let b = stop_of(image, nodes, at + 1);
     let r = block(
         image,
@@ -653,7 +578,7 @@ fn each(
         true,
         false,
     );
-    notes[7] = small(top);
+    notes[TOP] = small(top);
     r
 }
 
@@ -661,28 +586,21 @@ fn each(
 fn repeat(
     image: &[u8],
     nodes: usize,
-    rows: &[[u16; 128]; 8],
+    rows: &Frames,
     table: &mut [u16],
-    notes: &mut [u32; 8],
-    stack: &mut [u16; 2048],
+    notes: &mut Notes,
+    stack: &mut Stack,
     at: usize,
     depth: usize,
 ) -> usize
-    requires { ⌜ Noting (now notes) ⌝ }
-    requires { ⌜ Standing (now image) nodes (now rows) (topIn (now notes)) (tabIn (now table) (now notes)) (now stack) (retIn (now notes)) at (stopOf (nodesOf (now image)) at) ⌝ }
-    requires { ⌜ Stmt (now image) at depth 9 ⌝ }
-    ensures { λ r. ⌜ ((loop : Bool) → Done (namesOf (now (image .entry)))
-        (acted (now (image .entry)) loop depth at (stateOf (tabIn (now (table .entry)) (now (notes .entry))) (now (rows .entry)) (topIn (now (notes .entry))) (retIn (now (notes .entry)))))
-        (tabIn (now (table .entry)) (now (notes .entry)))
-        (tabIn (now (table .exit)) (now (notes .exit)))
-        (now (rows .entry)) (topIn (now (notes .entry))) (topIn (now (notes .exit))) (retIn (now (notes .exit))) (now (stack .exit))
-        at (stopOf (nodesOf (now (image .entry))) at) (nodeCount (now (image .entry)))
-        (verdict r (now (notes .exit))) (placeIn (now (notes .exit))) (firstIn (now (notes .exit))) (secondIn (now (notes .exit)))) ⌝ }
-    ensures { λ r. ⌜ Tells (now (notes .exit)) r ⌝ }
+    requires { ⌜ OfKind 9 (now image) nodes at depth (lent (now rows) (now table) (now notes) (now stack)) ⌝ }
+    ensures { λ r. ⌜ ActsAnywhere (now (image .entry)) at depth r
+        (lent (now (rows .entry)) (now (table .entry)) (now (notes .entry)) (now (stack .entry)))
+        (lent (now (rows .entry)) (now (table .exit)) (now (notes .exit)) (now (stack .exit))) ⌝ }
 {
-    let top = wide(notes[7]);
+    let top = wide(notes[TOP]);
     let o = condition(image, nodes, rows, top, table, notes, stack, at + 1, depth);
-    if o == 65535 {
+    if o == NO_TYPE {
         return o;
     }
     let mut inner = *rows;
@@ -699,7 +617,7 @@ fn repeat(
         true,
         true,
     );
-    notes[7] = small(top);
+    notes[TOP] = small(top);
     r
 }
 
@@ -719,9 +637,9 @@ pub struct Walked {
 pub fn program(
     image: &[u8],
     nodes: usize,
-    frames: &mut [[u16; 128]; 8],
+    frames: &mut Frames,
     table: &mut [u16],
-    stack: &mut [u16; 2048],
+    stack: &mut Stack,
 ) -> Walked
     requires { ⌜ Started (now image) nodes (now frames) (tab (now table) 8 0) (now stack) ⌝ }
     ensures { λ r. ⌜ Ran (now (image .entry))
@@ -730,23 +648,23 @@ pub fn program(
         (now (frames .exit)) (r .top) (now (stack .exit)) (r .code) (r .place) (r .a) (r .b) ⌝ }
 {
     let mut notes = [1u32; 8];
-    notes[0] = 8;
-    notes[1] = 0;
-    notes[7] = 0;
+    notes[TYPES] = 8;
+    notes[ELEMENTS] = 0;
+    notes[TOP] = 0;
     let node = node_at(image, nodes, 0);
     let mut j: usize = 1;
     let mut left = node.children as usize;
     while 0 < left {
-        notes[6] = 0;
+        notes[RETURNS] = 0;
         let r = stmt(image, nodes, frames, table, &mut notes, stack, j, 63, false);
-        if r == 65535 {
+        if r == NO_TYPE {
             return Walked {
-                code: notes[2],
-                place: wide(notes[3]),
-                a: wide(notes[4]),
-                b: wide(notes[5]),
+                code: notes[CODE],
+                place: wide(notes[PLACE]),
+                a: wide(notes[FIRST]),
+                b: wide(notes[SECOND]),
                 counts: counts_of(&notes),
-                top: wide(notes[7]),
+                top: wide(notes[TOP]),
             };
         }
         j = stop_of(image, nodes, j);
@@ -758,6 +676,6 @@ pub fn program(
         a: 0,
         b: 0,
         counts: counts_of(&notes),
-        top: wide(notes[7]),
+        top: wide(notes[TOP]),
     }
 }

@@ -1,5 +1,6 @@
--- Callers cite Endings.
+-- Callers cite Endings and Answers.
 pub mod Endings
+pub mod Answers
 mod Naming
 mod Unpacking
 mod Singles

@@ -1,8 +1,9 @@
 -- The targets of a Tuple, one after the other.
 use mathlib.Core.Path.{_≡_, refl, sym, ap, _∙_}
 use mathlib.Core.List.{List, [], _∷_, tail}
-use Prim.Native.Nat.{ℕ, zero, suc, _-_, _≤_, _<_}
+use Prim.Native.Nat.{ℕ, zero, suc, _+_, _-_, _≤_, _<_}
 use native.Mathlib.Omega.{arith}
+use native.Mathlib.Numerals.{add-one}
 use lib.ListN.{length, getD, drop}
 use Rattle.meaning.specs.Types.{Ty, unknown}
 use Rattle.meaning.specs.Tree.{Expr, at, size}
@@ -13,6 +14,9 @@ use Rattle.meaning.proofs.Nesting.{Children, Child, child, children, children-l
 use Rattle.meaning.proofs.Decoding.{tuple-at}
 use Rattle.types.specs.Table.{Tab, Means, denote}
 use Rattle.frames.specs.Env.{Rows, framesOf}
+use Rattle.image.specs.Parts.{Moved}
+use Rattle.image.specs.declared.Cursor.{Cursor}
+use Rattle.image.specs.declared.Read.{Read}
 use Rattle.expr.specs.Contract.{Ready, At}
 use Rattle.targets.specs.Ending.{Left, Assigned}
 use Rattle.targets.specs.Spreading.{spread, Spreads, Unpacks, Sharing, Share, Within}
@@ -99,9 +103,17 @@ pub record Loop (bs : List ℕ) (nodes : ℕ) (fs : Rows) (top : ℕ) (t : Tab) 
   pub answer : (y : Ty) → Each bs d n (suc i) (spread n (denote t ty)) (state (framesOf t fs top) y)
       ≡ Each bs d (n - k) j (drop k (spread n (denote t ty))) (state (framesOf u gs top) y)
 
-pub loop-first : {bs : List ℕ} {nodes : ℕ} {fs : Rows} {top : ℕ} {t : Tab} {st : List ℕ} {i n ty d : ℕ} → Ready bs nodes fs top t st 0 i (stopOf (nodesOf bs) i)
+-- the cursor at a first child tells its parent, and that behind a node where it ends
+pub parent-of : {bs : List ℕ} {c : Cursor} {r : Read} → Moved bs c r (c .at + 1) → r .cursor .at - 1 ≡ c .at
+parent-of m = omega (arith, m .at)
+
+pub stops : {bs : List ℕ} {c : Cursor} {r : Read} → Moved bs c r (nodeOf (nodesOf bs) (c .at) .stop) → r .cursor .at ≡ stopOf (nodesOf bs) (c .at)
+unfolding stopOf
+stops m = m .at
+
+loop-start : {bs : List ℕ} {nodes : ℕ} {fs : Rows} {top : ℕ} {t : Tab} {st : List ℕ} {i n ty d : ℕ} → Ready bs nodes fs top t st 0 i (stopOf (nodesOf bs) i)
     → Within bs i n d → ty < t.n → Spreads t ty n → (j : ℕ) → j ≡ suc i → Loop bs nodes fs top t st i n ty d t fs st j 0
-loop-first {bs} {i = i} {n} r w b p j e =
+loop-start {bs} {i = i} {n} r w b p j e =
     let l : i < length (nodesOf bs) = omega (arith, w .there, nodes-many bs) in
     let z : n - 0 ≡ n = omega arith in
     let q : n - 0 ≡ nodeOf (nodesOf bs) i .children = z ∙ w .many in
@@ -116,6 +128,11 @@ loop-first {bs} {i = i} {n} r w b p j e =
       left = left-none (suc i) (r .wf) (r .fit) (r .stack);
       answer = λ y. rw z;
     })
+
+pub loop-first : {bs : List ℕ} {c : Cursor} {q : Read} {fs : Rows} {top : ℕ} {t : Tab} {st : List ℕ} {n ty d : ℕ}
+    → Ready bs (c .nodes) fs top t st 0 (c .at) (stopOf (nodesOf bs) (c .at)) → Within bs (c .at) n d → ty < t.n → Spreads t ty n → Moved bs c q (c .at + 1)
+    → Loop bs (q .cursor .nodes) fs top t st (q .cursor .at - 1) n ty d t fs st (q .cursor .at) 0
+loop-first r w b p m = rw (parent-of m, m .nodes ∙ sym (r .nodes-at)) (loop-start r w b p _ (m .at ∙ add-one _))
 
 module _ {bs : List ℕ} {nodes : ℕ} {fs : Rows} {top : ℕ} {t : Tab} {st : List ℕ} {i n ty d : ℕ} {u : Tab} {gs : Rows} {su : List ℕ} {j k : ℕ}
     (l : Loop bs nodes fs top t st i n ty d u gs su j k) (p : k < n) where

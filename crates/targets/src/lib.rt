@@ -1,28 +1,35 @@
 // Assignment to a target: T's tc_assign_target.
 ghost use mathlib.Core.Path.{_≡_};
-ghost use Prim.Native.Nat.{suc, _-_, _<_};
-ghost use lib.ListN.{length};
-ghost use Rattle.meaning.specs.Image.{nodeCount, nodesOf, nodeOf, namesOf};
-ghost use Rattle.meaning.specs.Decode.{exprsFrom, exprAt, stopOf};
-ghost use Rattle.meaning.specs.Walk.{state, done, checked, assignTo, assignEach};
-ghost use Rattle.types.specs.Table.{denote};
-ghost use Rattle.frames.specs.Env.{framesOf};
+ghost use Prim.Native.Nat.{_<_};
+ghost use Rattle.meaning.specs.Limits.{mostNames, mostFrames};
 ghost use Rattle.rules.specs.Leaves.{Known};
-ghost use Rattle.nodes.specs.Notes.{typesIn, placeIn, firstIn, secondIn, tabIn, verdict, Noting, Kept};
-ghost use Rattle.expr.specs.Contract.{Ready, At};
-ghost use Rattle.targets.specs.Ending.{Assigned};
-ghost use Rattle.targets.specs.Spreading.{Written, spread, Spreads, Unpacks, Sharing, Share, Within};
+ghost use Rattle.nodes.specs.Notes.{Noting, Refused};
+ghost use Rattle.nodes.specs.Lent.{lent};
+ghost use Rattle.targets.specs.Spreading.{Written, Unpacks, Sharing, Share};
+ghost use Rattle.targets.specs.Contract.{Checkable, Assignable, Single, Spreadable, Checks, Assigns, AssignsEach};
 use expr::expr;
+use frames::Frames;
 use frames::bind;
 use frames::lookup;
-use image::node_at;
+use image::Cursor;
+use image::kinds;
+use nodes::NO_TYPE;
+use nodes::Notes;
+use nodes::Stack;
 use nodes::refused;
-use nodes::stop_of;
+use rules::codes;
+use types;
 use types::agreed;
 use types::count_of;
 use types::element_at;
 use types::kind_of;
 use types::part_of;
+
+// How a target ended: T's `SemanticResult<()>`. What an Err refuses is noted.
+pub enum Outcome {
+    Ok,
+    Err,
+}
 
 // Code 0, or a typing code and the numbers that its message needs.
 struct Verdict {
@@ -31,25 +38,23 @@ struct Verdict {
     b: usize,
 }
 
-// The type of a name by its cell: "absent is Unknown".
-fn type_in(cell: u16) -> usize
-    ensures { λ r. ⌜ (r ≡ cell - 1) × (r < 65535) ⌝ }
+fn refuse(notes: &mut Notes, code: u32, place: usize, a: usize, b: usize) -> Outcome
+    requires { ⌜ Noting (now notes) ⌝ }
+    ensures { λ r. ⌜ (r ≡ Outcome.Err) × Refused (now (notes .entry)) (now (notes .exit)) 65535 code place a b ⌝ }
 {
-    if cell == 0 {
-        return 0;
-    }
-    (cell - 1) as usize
+    refused(notes, code, place, a, b);
+    Outcome::Err
 }
 
 // "Absent or Unknown takes the new type; Unknown keeps the old one; otherwise equal or 25": type `ty` for name x, at node `at`.
-fn assign_name(frames: &mut [[u16; 128]; 8], top: usize, at: usize, x: usize, ty: usize) -> Verdict
-    requires { ⌜ (top < 8) × (x < 128) × (ty < 2056) × (length (now frames) ≡ 8) ⌝ }
+fn assign_name(frames: &mut Frames, top: usize, at: usize, x: usize, ty: usize) -> Verdict
+    requires { ⌜ (top < mostFrames) × (x < mostNames) × (ty < 2056) ⌝ }
     ensures { λ r. ⌜ Written (now (frames .entry)) (now (frames .exit)) top at x ty (r .code) (r .a) (r .b) ⌝ }
 {
-    let old = type_in(lookup(frames, top, x));
+    let old = lookup(frames, top, x);
     let both = agreed(old, ty);
     if both.there {
-        bind(frames, top, x, both.number as u16 + 1);
+        bind(frames, top, x, both.number);
         return Verdict {
             code: 0,
             a: 0,
@@ -57,7 +62,7 @@ fn assign_name(frames: &mut [[u16; 128]; 8], top: usize, at: usize, x: usize, ty
         };
     }
     Verdict {
-        code: 25,
+        code: codes::CANNOT_ASSIGN,
         a: ty,
         b: old,
     }
@@ -69,17 +74,17 @@ fn unpack(table: &[u16], ty: usize, k: u32) -> Verdict
     ensures { λ r. ⌜ Unpacks (now (table .entry)) ty k (r .code) (r .a) (r .b) ⌝ }
 {
     match kind_of(table, ty) {
-        0 => Verdict {
+        types::UNKNOWN => Verdict {
             code: 0,
             a: 0,
             b: 0,
         },
-        8 => Verdict {
+        types::LIST => Verdict {
             code: 0,
             a: 0,
             b: 0,
         },
-        10 => {
+        types::TUPLE => {
             let n = count_of(table, ty);
             let k = k as usize;
             if n == k {
@@ -90,13 +95,13 @@ fn unpack(table: &[u16], ty: usize, k: u32) -> Verdict
                 };
             }
             Verdict {
-                code: 26,
+                code: codes::UNPACK_LENGTH,
                 a: n,
                 b: k,
             }
         }
         _ => Verdict {
-            code: 27,
+            code: codes::UNPACK_NON_ITERABLE,
             a: ty,
             b: 0,
         },
@@ -109,236 +114,151 @@ fn part_for(table: &[u16], ty: usize, j: usize) -> usize
     ensures { λ r. ⌜ Share (now (table .entry)) ty j r ⌝ }
 {
     match kind_of(table, ty) {
-        8 => part_of(table, ty),
-        10 => element_at(table, ty, j),
-        _ => 0,
+        types::LIST => part_of(table, ty),
+        types::TUPLE => element_at(table, ty, j),
+        _ => types::UNKNOWN,
     }
 }
 
 // Attribute and Index targets are checked as expressions and not tracked.
 fn check_only(
     image: &[u8],
-    nodes: usize,
-    frames: &[[u16; 128]; 8],
+    here: Cursor,
+    frames: &Frames,
     top: usize,
     table: &mut [u16],
-    notes: &mut [u32; 8],
-    stack: &mut [u16; 2048],
-    at: usize,
+    notes: &mut Notes,
+    stack: &mut Stack,
     depth: usize,
-) -> usize
-    requires { ⌜ Noting (now notes) ⌝ }
-    requires { ⌜ Ready (now image) nodes (now frames) top (tabIn (now table) (now notes)) (now stack) 0 at (stopOf (nodesOf (now image)) at) ⌝ }
-    requires { ⌜ At (now image) at depth ⌝ }
-    ensures { λ r. ⌜ Assigned (namesOf (now (image .entry)))
-        (λ y. checked (namesOf (now (image .entry)))
-        (exprAt (nodesOf (now (image .entry))) depth at)
-        (state (framesOf (tabIn (now (table .entry)) (now (notes .entry))) (now (frames .entry)) top) y)
-        (λ u. done (state (framesOf (tabIn (now (table .entry)) (now (notes .entry))) (now (frames .entry)) top) y)))
-        (tabIn (now (table .entry)) (now (notes .entry)))
-        (tabIn (now (table .exit)) (now (notes .exit)))
-        (now (frames .entry))
-        top
-        (now (stack .exit))
-        at
-        (stopOf (nodesOf (now (image .entry))) at)
-        (nodeCount (now (image .entry)))
-        (verdict r (now (notes .exit)))
-        (placeIn (now (notes .exit)))
-        (firstIn (now (notes .exit)))
-        (secondIn (now (notes .exit))) ⌝ }
-    ensures { λ r. ⌜ Kept (now (notes .entry)) (now (notes .exit)) r ⌝ }
+) -> Outcome
+    requires { ⌜ Checkable (now image) here top depth (lent (now frames) (now table) (now notes) (now stack)) ⌝ }
+    ensures { λ r. ⌜ Checks (now (image .entry)) here top depth r
+        (lent (now (frames .entry)) (now (table .entry)) (now (notes .entry)) (now (stack .entry)))
+        (lent (now (frames .entry)) (now (table .exit)) (now (notes .exit)) (now (stack .exit))) ⌝ }
 {
-    let v = expr(image, nodes, frames, top, table, notes, stack, 0, at, depth);
-    if v == 65535 {
-        return v;
-    }
-    0
-}
-
-// A target that is no Tuple: 28 is what cannot be one.
-fn single(
-    image: &[u8],
-    nodes: usize,
-    frames: &mut [[u16; 128]; 8],
-    top: usize,
-    table: &mut [u16],
-    notes: &mut [u32; 8],
-    stack: &mut [u16; 2048],
-    at: usize,
-    ty: usize,
-    depth: usize,
-) -> usize
-    requires { ⌜ Noting (now notes) ⌝ }
-    requires { ⌜ Ready (now image) nodes (now frames) top (tabIn (now table) (now notes)) (now stack) 0 at (stopOf (nodesOf (now image)) at) ⌝ }
-    requires { ⌜ At (now image) at depth ⌝ }
-    requires { ⌜ (nodeOf (nodesOf (now image)) at .kind ≡ 28 → ⊥) ⌝ }
-    requires { ⌜ ty < typesIn (now notes) ⌝ }
-    ensures { λ r. ⌜ Assigned (namesOf (now (image .entry)))
-        (λ y. assignTo (namesOf (now (image .entry)))
-        (exprAt (nodesOf (now (image .entry))) depth at)
-        (denote (tabIn (now (table .entry)) (now (notes .entry))) ty)
-        (state (framesOf (tabIn (now (table .entry)) (now (notes .entry))) (now (frames .entry)) top) y))
-        (tabIn (now (table .entry)) (now (notes .entry)))
-        (tabIn (now (table .exit)) (now (notes .exit)))
-        (now (frames .exit))
-        top
-        (now (stack .exit))
-        at
-        (stopOf (nodesOf (now (image .entry))) at)
-        (nodeCount (now (image .entry)))
-        (verdict r (now (notes .exit)))
-        (placeIn (now (notes .exit)))
-        (firstIn (now (notes .exit)))
-        (secondIn (now (notes .exit))) ⌝ }
-    ensures { λ r. ⌜ Kept (now (notes .entry)) (now (notes .exit)) r ⌝ }
-{
-    let node = node_at(image, nodes, at);
-    let kind = node.kind;
-    match kind {
-        21 => {
-            let v = assign_name(frames, top, at, node.arg as usize, ty);
-            if v.code != 0 {
-                return refused(notes, v.code, at, v.a, v.b);
-            }
-            0
-        }
-        25 => check_only(image, nodes, frames, top, table, notes, stack, at, depth),
-        31 => check_only(image, nodes, frames, top, table, notes, stack, at, depth),
-        _ => refused(notes, 28, at, 0, 0),
-    }
-}
-
-// Assigns a value of type `ty` to the target at node `at` (T's tc_assign_target).
-pub fn assign(
-    image: &[u8],
-    nodes: usize,
-    frames: &mut [[u16; 128]; 8],
-    top: usize,
-    table: &mut [u16],
-    notes: &mut [u32; 8],
-    stack: &mut [u16; 2048],
-    at: usize,
-    ty: usize,
-    depth: usize,
-) -> usize
-    requires { ⌜ Noting (now notes) ⌝ }
-    requires { ⌜ Ready (now image) nodes (now frames) top (tabIn (now table) (now notes)) (now stack) 0 at (stopOf (nodesOf (now image)) at) ⌝ }
-    requires { ⌜ At (now image) at depth ⌝ }
-    requires { ⌜ ty < typesIn (now notes) ⌝ }
-    ensures { λ r. ⌜ Assigned (namesOf (now (image .entry)))
-        (λ y. assignTo (namesOf (now (image .entry)))
-        (exprAt (nodesOf (now (image .entry))) depth at)
-        (denote (tabIn (now (table .entry)) (now (notes .entry))) ty)
-        (state (framesOf (tabIn (now (table .entry)) (now (notes .entry))) (now (frames .entry)) top) y))
-        (tabIn (now (table .entry)) (now (notes .entry)))
-        (tabIn (now (table .exit)) (now (notes .exit)))
-        (now (frames .exit))
-        top
-        (now (stack .exit))
-        at
-        (stopOf (nodesOf (now (image .entry))) at)
-        (nodeCount (now (image .entry)))
-        (verdict r (now (notes .exit)))
-        (placeIn (now (notes .exit)))
-        (firstIn (now (notes .exit)))
-        (secondIn (now (notes .exit))) ⌝ }
-    ensures { λ r. ⌜ Kept (now (notes .entry)) (now (notes .exit)) r ⌝ }
-{
-    let node = node_at(image, nodes, at);
-    if node.kind != 28 {
-        return single(
-            image,
-            nodes,
-            frames,
-            top,
-            table,
-            notes,
-            stack,
-            at,
-            ty,
-            depth,
-        );
-    }
-    let v = unpack(table, ty, node.children);
-    if v.code != 0 {
-        return refused(notes, v.code, at, v.a, v.b);
-    }
-    let n = node.children as usize;
-    assign_each(
+    let v = expr(
         image,
-        nodes,
+        here.nodes,
         frames,
         top,
         table,
         notes,
         stack,
-        at,
+        0,
+        here.at,
+        depth,
+    );
+    if v == NO_TYPE {
+        return Outcome::Err;
+    }
+    Outcome::Ok
+}
+
+// A target that is no Tuple: 28 is what cannot be one.
+fn single(
+    image: &[u8],
+    here: Cursor,
+    frames: &mut Frames,
+    top: usize,
+    table: &mut [u16],
+    notes: &mut Notes,
+    stack: &mut Stack,
+    ty: usize,
+    depth: usize,
+) -> Outcome
+    requires { ⌜ Single (now image) here top ty depth (lent (now frames) (now table) (now notes) (now stack)) ⌝ }
+    ensures { λ r. ⌜ Assigns (now (image .entry)) here top ty depth r
+        (lent (now (frames .entry)) (now (table .entry)) (now (notes .entry)) (now (stack .entry)))
+        (lent (now (frames .exit)) (now (table .exit)) (now (notes .exit)) (now (stack .exit))) ⌝ }
+{
+    let read = here.next(image);
+    let node = read.node;
+    let kind = node.kind;
+    match kind {
+        kinds::VARIABLE => {
+            let v = assign_name(frames, top, here.at, node.arg as usize, ty);
+            if v.code != 0 {
+                return refuse(notes, v.code, here.at, v.a, v.b);
+            }
+            Outcome::Ok
+        }
+        kinds::ATTRIBUTE => check_only(image, here, frames, top, table, notes, stack, depth),
+        kinds::INDEX => check_only(image, here, frames, top, table, notes, stack, depth),
+        _ => refuse(notes, codes::INVALID_TARGET, here.at, 0, 0),
+    }
+}
+
+// Assigns a value of type `ty` to the target at the cursor (T's tc_assign_target).
+pub fn assign(
+    image: &[u8],
+    here: Cursor,
+    frames: &mut Frames,
+    top: usize,
+    table: &mut [u16],
+    notes: &mut Notes,
+    stack: &mut Stack,
+    ty: usize,
+    depth: usize,
+) -> Outcome
+    requires { ⌜ Assignable (now image) here top ty depth (lent (now frames) (now table) (now notes) (now stack)) ⌝ }
+    ensures { λ r. ⌜ Assigns (now (image .entry)) here top ty depth r
+        (lent (now (frames .entry)) (now (table .entry)) (now (notes .entry)) (now (stack .entry)))
+        (lent (now (frames .exit)) (now (table .exit)) (now (notes .exit)) (now (stack .exit))) ⌝ }
+{
+    let read = here.next(image);
+    let node = read.node;
+    if node.kind != kinds::TUPLE {
+        return single(image, here, frames, top, table, notes, stack, ty, depth);
+    }
+    let v = unpack(table, ty, node.children);
+    if v.code != 0 {
+        return refuse(notes, v.code, here.at, v.a, v.b);
+    }
+    let n = node.children as usize;
+    assign_each(
+        image,
+        here,
+        frames,
+        top,
+        table,
+        notes,
+        stack,
         n,
         ty,
         depth - 1,
     )
 }
 
-// "Tuple targets bind left to right, and those bound before an error stay bound": the n targets of the Tuple at node `at`.
+// "Tuple targets bind left to right, and those bound before an error stay bound": the n targets of the Tuple at the cursor.
 fn assign_each(
     image: &[u8],
-    nodes: usize,
-    frames: &mut [[u16; 128]; 8],
+    here: Cursor,
+    frames: &mut Frames,
     top: usize,
     table: &mut [u16],
-    notes: &mut [u32; 8],
-    stack: &mut [u16; 2048],
-    at: usize,
+    notes: &mut Notes,
+    stack: &mut Stack,
     n: usize,
     ty: usize,
     depth: usize,
-) -> usize
-    requires { ⌜ Noting (now notes) ⌝ }
-    requires { ⌜ Ready (now image) nodes (now frames) top (tabIn (now table) (now notes)) (now stack) 0 at (stopOf (nodesOf (now image)) at) ⌝ }
-    requires { ⌜ Within (now image) at n depth ⌝ }
-    requires { ⌜ ty < typesIn (now notes) ⌝ }
-    requires { ⌜ Spreads (tabIn (now table) (now notes)) ty n ⌝ }
-    ensures { λ r. ⌜ Assigned (namesOf (now (image .entry)))
-        (λ y. assignEach (namesOf (now (image .entry)))
-        (exprsFrom (nodesOf (now (image .entry))) (λ j. exprAt (nodesOf (now (image .entry))) depth j) n (suc at))
-        (spread n (denote (tabIn (now (table .entry)) (now (notes .entry))) ty))
-        (state (framesOf (tabIn (now (table .entry)) (now (notes .entry))) (now (frames .entry)) top) y))
-        (tabIn (now (table .entry)) (now (notes .entry)))
-        (tabIn (now (table .exit)) (now (notes .exit)))
-        (now (frames .exit))
-        top
-        (now (stack .exit))
-        at
-        (stopOf (nodesOf (now (image .entry))) at)
-        (nodeCount (now (image .entry)))
-        (verdict r (now (notes .exit)))
-        (placeIn (now (notes .exit)))
-        (firstIn (now (notes .exit)))
-        (secondIn (now (notes .exit))) ⌝ }
-    ensures { λ r. ⌜ Kept (now (notes .entry)) (now (notes .exit)) r ⌝ }
+) -> Outcome
+    requires { ⌜ Spreadable (now image) here top n ty depth (lent (now frames) (now table) (now notes) (now stack)) ⌝ }
+    ensures { λ r. ⌜ AssignsEach (now (image .entry)) here top n ty depth r
+        (lent (now (frames .entry)) (now (table .entry)) (now (notes .entry)) (now (stack .entry)))
+        (lent (now (frames .exit)) (now (table .exit)) (now (notes .exit)) (now (stack .exit))) ⌝ }
 {
-    let mut from = at + 1;
+    let read = here.next(image);
+    let mut next = read.cursor;
     let mut j: usize = 0;
     while j < n {
         let part = part_for(table, ty, j);
-        let r = assign(
-            image,
-            nodes,
-            frames,
-            top,
-            table,
-            notes,
-            stack,
-            from,
-            part,
-            depth,
-        );
-        if r == 65535 {
+        let r = assign(image, next, frames, top, table, notes, stack, part, depth);
+        let Outcome::Ok = r else {
             return r;
-        }
-        from = stop_of(image, nodes, from);
+        };
+        let passed = next.over(image);
+        next = passed.cursor;
         j += 1;
     }
-    0
+    Outcome::Ok
 }

@@ -13,8 +13,36 @@ ghost use Rattle.types.specs.Table.{capacity, step, tupleHash, slotOf, C
 ghost use Rattle.types.specs.Steps.{Asked, Listed, RecordAt, Equal, TupleAt, Told, Slot, Found, Written, Added, Copied};
 ghost use Rattle.types.specs.Reading.{KindOf, PartOf, IsNumber, IsTuple, IsElement, CountOf, ElementAt, CommonOf, ElementOf, shared, Agreement};
 
+// The plain types, numbers 0 to 7: each is its own kind.
+pub const UNKNOWN: usize = 0;
+
+pub const INT: usize = 1;
+
+pub const BOOL: usize = 2;
+
+pub const STRING: usize = 3;
+
+pub const FLOAT: usize = 4;
+
+pub const NONE_TYPE: usize = 5;
+
+pub const RANGE: usize = 6;
+
+pub const FUNCTION: usize = 7;
+
 // The first number that is no plain type's.
-const STRUCTURED: usize = 8;
+pub const STRUCTURED: usize = 8;
+
+// The kinds of the others.
+pub const LIST: usize = 8;
+
+pub const DICT: usize = 9;
+
+pub const TUPLE: usize = 10;
+
+pub const MAP_ITER: usize = 11;
+
+pub const FILTER_ITER: usize = 12;
 
 // How many types and how many tuple elements a table has.
 pub struct Counts {
@@ -358,34 +386,34 @@ pub fn element_of(table: &[u16], i: usize) -> Perhaps
     ensures { λ r. ⌜ ElementOf (now (table .entry)) i (r .there) (r .number) ⌝ }
 {
     let kind = cell(table, 4 * i);
-    if kind == 10 {
+    if kind == TUPLE {
         return Perhaps {
             there: true,
             number: common_of(table, i),
         };
     }
-    if kind >= 8 {
+    if kind >= STRUCTURED {
         return Perhaps {
             there: true,
             number: part_of(table, i),
         };
     }
     match kind {
-        0 => Perhaps {
+        UNKNOWN => Perhaps {
             there: true,
-            number: 0,
+            number: UNKNOWN,
         },
-        3 => Perhaps {
+        STRING => Perhaps {
             there: true,
-            number: 3,
+            number: STRING,
         },
-        6 => Perhaps {
+        RANGE => Perhaps {
             there: true,
-            number: 1,
+            number: INT,
         },
         _ => Perhaps {
             there: false,
-            number: 0,
+            number: UNKNOWN,
         },
     }
 }
@@ -394,7 +422,7 @@ pub fn element_of(table: &[u16], i: usize) -> Perhaps
 pub fn agreed(a: usize, b: usize) -> Perhaps
     ensures { λ r. ⌜ Agreement a b (r .there) (r .number) ⌝ }
 {
-    if a == 0 {
+    if a == UNKNOWN {
         return Perhaps {
             there: true,
             number: b,
@@ -406,7 +434,7 @@ pub fn agreed(a: usize, b: usize) -> Perhaps
             number: b,
         };
     }
-    if b == 0 {
+    if b == UNKNOWN {
         return Perhaps {
             there: true,
             number: a,

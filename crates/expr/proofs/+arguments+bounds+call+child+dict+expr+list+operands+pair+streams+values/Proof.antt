@@ -73,7 +73,7 @@ use Rattle.nodes.proofs.operated.Reads as operated-reads
 use Rattle.nodes.proofs.plan.Reads as plan-reads
 use Rattle.nodes.proofs.refused.Reads as refused-reads
 use Rattle.nodes.proofs.stop_of.Reads as stop-of-reads
-use Rattle.nodes.proofs.variable.Reads as variable-reads
+use Rattle.frames.proofs.lookup.Reads as lookup-reads
 use Rattle.rules.proofs.bound.Reads as bound-reads
 use Rattle.rules.proofs.callable.Reads as callable-reads
 use Rattle.rules.proofs.dict_step.Reads as dict-step-reads
@@ -414,45 +414,45 @@ call-returns-3 t c =
     (call-done (c .before .before .before .before .before .before .before .before .before .before .before .before .before .before .before .before .before .before .pre .1 .1 .0) (inner-as (c .before .before .before .before .before .before .before .before .before .before .before .before .before .before .before .node-at .ensures) (c .before .before .before .before .before .before .before .before .before .before .before .before .before .before .before .before .before .before .pre .1 .1 .1 .0)) (kind-of (c .before .before .before .before .before .before .before .before .before .before .before .before .before .before .before .node-at .ensures) (c .before .before .before .before .before .before .before .before .before .before .before .before .before .before .before .before .before .before .pre .1 .1 .1 .1)) (rw (add-one _) at (c .before .before .before .before .before .before .before .before .before .before .before .before .before .before .node-at2 .ensures)) (c .before .before .before .before .before .before .before .before .before .before .before .before .if1 .left) refl refl refl refl (c .before .before .before .before .before .before .before .before .before .plan .ensures) (c .before .before .before .before .before .before .before .if2 .left) (c .before .before .arguments .ensures .0), c .before .before .arguments .ensures .1)
 
 -- src/lib.rt:194:9
-child-node-at-requires : (t : ℕ) → child-lts.Need-node-at-requires (node-at-reads.Asked, node-at-reads.Learnt, literal-reads.Asked, literal-reads.Learnt, variable-reads.Asked, variable-reads.Learnt, expr-below t, expr.Post) (child-at t) child.Post
+child-node-at-requires : (t : ℕ) → child-lts.Need-node-at-requires (node-at-reads.Asked, node-at-reads.Learnt, literal-reads.Asked, literal-reads.Learnt, lookup-reads.Asked, lookup-reads.Learnt, expr-below t, expr.Post) (child-at t) child.Post
 child-node-at-requires t c κs =
     ((c .before .before .pre .1 .1 .0 .sound) .headed, (c .before .before .pre .1 .1 .0 .nodes-at, c .before .before .pre .1 .1 .1 .there))
 
 -- src/lib.rt:196:9
-child-literal-requires : (t : ℕ) → child-lts.Need-literal-requires (node-at-reads.Asked, node-at-reads.Learnt, literal-reads.Asked, literal-reads.Learnt, variable-reads.Asked, variable-reads.Learnt, expr-below t, expr.Post) (child-at t) child.Post
+child-literal-requires : (t : ℕ) → child-lts.Need-literal-requires (node-at-reads.Asked, node-at-reads.Learnt, literal-reads.Asked, literal-reads.Learnt, lookup-reads.Asked, lookup-reads.Learnt, expr-below t, expr.Post) (child-at t) child.Post
 child-literal-requires t c κs =
     tt
 
 -- src/lib.rt:196:9
-child-returns : (t : ℕ) → child-lts.Need-returns (node-at-reads.Asked, node-at-reads.Learnt, literal-reads.Asked, literal-reads.Learnt, variable-reads.Asked, variable-reads.Learnt, expr-below t, expr.Post) (child-at t) child.Post
+child-returns : (t : ℕ) → child-lts.Need-returns (node-at-reads.Asked, node-at-reads.Learnt, literal-reads.Asked, literal-reads.Learnt, lookup-reads.Asked, lookup-reads.Learnt, expr-below t, expr.Post) (child-at t) child.Post
 child-returns t c =
     (literal-done (c .before .before .before .before .before .before .pre .1 .1 .0) (c .before .before .before .before .before .before .pre .1 .1 .1) (c .before .before .before .node-at .ensures) (c .before .if1 .taken) (plain-well _ (c .before .before .before .before .before .before .pre .1 .0) (literal-few _ (c .literal .ensures))) (c .literal .ensures), kept-number (c .before .before .before .before .before .before .pre .1 .0) (literal-few _ (c .literal .ensures)))
 
 -- src/lib.rt:199:38
-child-cast-variable : (t : ℕ) → child-lts.Need-cast-variable (node-at-reads.Asked, node-at-reads.Learnt, literal-reads.Asked, literal-reads.Learnt, variable-reads.Asked, variable-reads.Learnt, expr-below t, expr.Post) (child-at t) child.Post
-child-cast-variable t c = search needs
+child-cast-lookup : (t : ℕ) → child-lts.Need-cast-lookup (node-at-reads.Asked, node-at-reads.Learnt, literal-reads.Asked, literal-reads.Learnt, lookup-reads.Asked, lookup-reads.Learnt, expr-below t, expr.Post) (child-at t) child.Post
+child-cast-lookup t c = search needs
 
 -- src/lib.rt:199:9
-child-variable-requires : (t : ℕ) → child-lts.Need-variable-requires (node-at-reads.Asked, node-at-reads.Learnt, literal-reads.Asked, literal-reads.Learnt, variable-reads.Asked, variable-reads.Learnt, expr-below t, expr.Post) (child-at t) child.Post
-child-variable-requires t c κs =
+child-lookup-requires : (t : ℕ) → child-lts.Need-lookup-requires (node-at-reads.Asked, node-at-reads.Learnt, literal-reads.Asked, literal-reads.Learnt, lookup-reads.Asked, lookup-reads.Learnt, expr-below t, expr.Post) (child-at t) child.Post
+child-lookup-requires t c κs =
     variable-there (c .before .before .before .before .before .before .before .before .pre .1 .1 .0) (c .before .before .before .before .before .before .before .before .pre .1 .1 .1) (c .before .before .before .before .before .node-at .ensures) (c .before .if2 .taken) refl
 
 -- src/lib.rt:199:9
-child-returns-2 : (t : ℕ) → child-lts.Need-returns-2 (node-at-reads.Asked, node-at-reads.Learnt, literal-reads.Asked, literal-reads.Learnt, variable-reads.Asked, variable-reads.Learnt, expr-below t, expr.Post) (child-at t) child.Post
+child-returns-2 : (t : ℕ) → child-lts.Need-returns-2 (node-at-reads.Asked, node-at-reads.Learnt, literal-reads.Asked, literal-reads.Learnt, lookup-reads.Asked, lookup-reads.Learnt, expr-below t, expr.Post) (child-at t) child.Post
 child-returns-2 t c =
-    (variable-done (c .before .before .before .before .before .before .before .before .before .pre .1 .1 .0) (c .before .before .before .before .before .before .before .before .before .pre .1 .1 .1) (c .before .before .before .before .before .before .node-at .ensures) (c .before .before .if2 .taken) refl (plain-well _ (c .before .before .before .before .before .before .before .before .before .pre .1 .0) (variable-few (c .before .before .before .before .before .before .before .before .before .pre .1 .1 .0) (c .variable .ensures))) refl (c .variable .ensures), kept-number (c .before .before .before .before .before .before .before .before .before .pre .1 .0) (variable-few (c .before .before .before .before .before .before .before .before .before .pre .1 .1 .0) (c .variable .ensures)))
+    (variable-done (c .before .before .before .before .before .before .before .before .before .pre .1 .1 .0) (c .before .before .before .before .before .before .before .before .before .pre .1 .1 .1) (c .before .before .before .before .before .before .node-at .ensures) (c .before .before .if2 .taken) refl (plain-well _ (c .before .before .before .before .before .before .before .before .before .pre .1 .0) (variable-few (c .before .before .before .before .before .before .before .before .before .pre .1 .1 .0) (c .lookup .ensures))) refl (c .lookup .ensures), kept-number (c .before .before .before .before .before .before .before .before .before .pre .1 .0) (variable-few (c .before .before .before .before .before .before .before .before .before .pre .1 .1 .0) (c .lookup .ensures)))
 
 -- src/lib.rt:201:5
-child-expr-requires : (t : ℕ) → child-lts.Need-expr-requires (node-at-reads.Asked, node-at-reads.Learnt, literal-reads.Asked, literal-reads.Learnt, variable-reads.Asked, variable-reads.Learnt, expr-below t, expr.Post) (child-at t) child.Post
+child-expr-requires : (t : ℕ) → child-lts.Need-expr-requires (node-at-reads.Asked, node-at-reads.Learnt, literal-reads.Asked, literal-reads.Learnt, lookup-reads.Asked, lookup-reads.Learnt, expr-below t, expr.Post) (child-at t) child.Post
 child-expr-requires t c κs =
     (omega (arith, c .before .before .before .before .before .before .before .before .before .before .pre .0), (c .before .before .before .before .before .before .before .before .before .before .pre .1 .0, ((c .before .before .before .before .before .before .before .before .before .before .pre .1 .1 .0), (c .before .before .before .before .before .before .before .before .before .before .pre .1 .1 .1))))
 
 -- src/lib.rt:172:1
-child-same-length : (t : ℕ) → child-lts.Need-same-length (node-at-reads.Asked, node-at-reads.Learnt, literal-reads.Asked, literal-reads.Learnt, variable-reads.Asked, variable-reads.Learnt, expr-below t, expr.Post) (child-at t) child.Post
+child-same-length : (t : ℕ) → child-lts.Need-same-length (node-at-reads.Asked, node-at-reads.Learnt, literal-reads.Asked, literal-reads.Learnt, lookup-reads.Asked, lookup-reads.Learnt, expr-below t, expr.Post) (child-at t) child.Post
 child-same-length t c = search needs
 
 -- src/lib.rt:172:1
-child-returns-3 : (t : ℕ) → child-lts.Need-returns-3 (node-at-reads.Asked, node-at-reads.Learnt, literal-reads.Asked, literal-reads.Learnt, variable-reads.Asked, variable-reads.Learnt, expr-below t, expr.Post) (child-at t) child.Post
+child-returns-3 : (t : ℕ) → child-lts.Need-returns-3 (node-at-reads.Asked, node-at-reads.Learnt, literal-reads.Asked, literal-reads.Learnt, lookup-reads.Asked, lookup-reads.Learnt, expr-below t, expr.Post) (child-at t) child.Post
 child-returns-3 t c =
     c .before .before .expr .ensures
 
@@ -584,92 +584,92 @@ dict-returns-3 t c = (
 )
 
 -- src/lib.rt:78:9
-expr-node-at-requires : (t : ℕ) → expr-lts.Need-node-at-requires (node-at-reads.Asked, node-at-reads.Learnt, literal-reads.Asked, literal-reads.Learnt, variable-reads.Asked, variable-reads.Learnt, operands-below t, operands.Post, pair-below t, pair.Post, call-below t, call.Post, list-below t, list.Post, dict-below t, dict.Post) (expr-at t) expr.Post
+expr-node-at-requires : (t : ℕ) → expr-lts.Need-node-at-requires (node-at-reads.Asked, node-at-reads.Learnt, literal-reads.Asked, literal-reads.Learnt, lookup-reads.Asked, lookup-reads.Learnt, operands-below t, operands.Post, pair-below t, pair.Post, call-below t, call.Post, list-below t, list.Post, dict-below t, dict.Post) (expr-at t) expr.Post
 expr-node-at-requires t c κs =
     ((c .before .before .pre .1 .1 .0 .sound) .headed, (c .before .before .pre .1 .1 .0 .nodes-at, c .before .before .pre .1 .1 .1 .there))
 
 -- src/lib.rt:81:15
-expr-literal-requires : (t : ℕ) → expr-lts.Need-literal-requires (node-at-reads.Asked, node-at-reads.Learnt, literal-reads.Asked, literal-reads.Learnt, variable-reads.Asked, variable-reads.Learnt, operands-below t, operands.Post, pair-below t, pair.Post, call-below t, call.Post, list-below t, list.Post, dict-below t, dict.Post) (expr-at t) expr.Post
+expr-literal-requires : (t : ℕ) → expr-lts.Need-literal-requires (node-at-reads.Asked, node-at-reads.Learnt, literal-reads.Asked, literal-reads.Learnt, lookup-reads.Asked, lookup-reads.Learnt, operands-below t, operands.Post, pair-below t, pair.Post, call-below t, call.Post, list-below t, list.Post, dict-below t, dict.Post) (expr-at t) expr.Post
 expr-literal-requires t c κs =
     tt
 
 -- src/lib.rt:82:37
-expr-cast-variable : (t : ℕ) → expr-lts.Need-cast-variable (node-at-reads.Asked, node-at-reads.Learnt, literal-reads.Asked, literal-reads.Learnt, variable-reads.Asked, variable-reads.Learnt, operands-below t, operands.Post, pair-below t, pair.Post, call-below t, call.Post, list-below t, list.Post, dict-below t, dict.Post) (expr-at t) expr.Post
-expr-cast-variable t c =
+expr-cast-lookup : (t : ℕ) → expr-lts.Need-cast-lookup (node-at-reads.Asked, node-at-reads.Learnt, literal-reads.Asked, literal-reads.Learnt, lookup-reads.Asked, lookup-reads.Learnt, operands-below t, operands.Post, pair-below t, pair.Post, call-below t, call.Post, list-below t, list.Post, dict-below t, dict.Post) (expr-at t) expr.Post
+expr-cast-lookup t c =
     search needs
 
 -- src/lib.rt:82:15
-expr-variable-requires : (t : ℕ) → expr-lts.Need-variable-requires (node-at-reads.Asked, node-at-reads.Learnt, literal-reads.Asked, literal-reads.Learnt, variable-reads.Asked, variable-reads.Learnt, operands-below t, operands.Post, pair-below t, pair.Post, call-below t, call.Post, list-below t, list.Post, dict-below t, dict.Post) (expr-at t) expr.Post
-expr-variable-requires t c κs =
+expr-lookup-requires : (t : ℕ) → expr-lts.Need-lookup-requires (node-at-reads.Asked, node-at-reads.Learnt, literal-reads.Asked, literal-reads.Learnt, lookup-reads.Asked, lookup-reads.Learnt, operands-below t, operands.Post, pair-below t, pair.Post, call-below t, call.Post, list-below t, list.Post, dict-below t, dict.Post) (expr-at t) expr.Post
+expr-lookup-requires t c κs =
     variable-there (c .before .before .before .before .before .pre .1 .1 .0) (c .before .before .before .before .before .pre .1 .1 .1) (c .before .before .node-at .ensures) (c .before .match .keys2) refl
 
 -- src/lib.rt:93:13
-expr-sub-operands : (t : ℕ) → expr-lts.Need-sub-operands (node-at-reads.Asked, node-at-reads.Learnt, literal-reads.Asked, literal-reads.Learnt, variable-reads.Asked, variable-reads.Learnt, operands-below t, operands.Post, pair-below t, pair.Post, call-below t, call.Post, list-below t, list.Post, dict-below t, dict.Post) (expr-at t) expr.Post
+expr-sub-operands : (t : ℕ) → expr-lts.Need-sub-operands (node-at-reads.Asked, node-at-reads.Learnt, literal-reads.Asked, literal-reads.Learnt, lookup-reads.Asked, lookup-reads.Learnt, operands-below t, operands.Post, pair-below t, pair.Post, call-below t, call.Post, list-below t, list.Post, dict-below t, dict.Post) (expr-at t) expr.Post
 expr-sub-operands t c =
     omega (arith, shallow (c .before .before .before .before .before .before .before .pre .1 .1 .0 .sound) (c .before .before .before .before .before .before .before .pre .1 .1 .1))
 
 -- src/lib.rt:83:15
-expr-operands-requires : (t : ℕ) → expr-lts.Need-operands-requires (node-at-reads.Asked, node-at-reads.Learnt, literal-reads.Asked, literal-reads.Learnt, variable-reads.Asked, variable-reads.Learnt, operands-below t, operands.Post, pair-below t, pair.Post, call-below t, call.Post, list-below t, list.Post, dict-below t, dict.Post) (expr-at t) expr.Post
+expr-operands-requires : (t : ℕ) → expr-lts.Need-operands-requires (node-at-reads.Asked, node-at-reads.Learnt, literal-reads.Asked, literal-reads.Learnt, lookup-reads.Asked, lookup-reads.Learnt, operands-below t, operands.Post, pair-below t, pair.Post, call-below t, call.Post, list-below t, list.Post, dict-below t, dict.Post) (expr-at t) expr.Post
 expr-operands-requires t c κs =
     (omega (arith, c .before .before .before .before .before .before .before .pre .0, shallow (c .before .before .before .before .before .before .before .pre .1 .1 .0 .sound) (c .before .before .before .before .before .before .before .pre .1 .1 .1)), (c .before .before .before .before .before .before .before .pre .1 .0, ((c .before .before .before .before .before .before .before .pre .1 .1 .0), (inner (c .before .before .before .before .before .before .before .pre .1 .1 .0 .sound) (c .before .before .before .before .before .before .before .pre .1 .1 .1) refl, (operand-low (c .before .before .before .before .before .before .before .pre .1 .1 .0 .sound) (inner (c .before .before .before .before .before .before .before .pre .1 .1 .0 .sound) (c .before .before .before .before .before .before .before .pre .1 .1 .1) (c .before .before .before .before .node-at .ensures)) (omega (arith, c .before .before .before .match .keys3)) (omega (arith, c .before .before .before .match .keys3)), no-binary (c .before .before .before .before .node-at .ensures) (λ e. omega (arith, e, c .before .before .before .match .keys3)))))))
 
 -- src/lib.rt:105:13
-expr-sub-pair : (t : ℕ) → expr-lts.Need-sub-pair (node-at-reads.Asked, node-at-reads.Learnt, literal-reads.Asked, literal-reads.Learnt, variable-reads.Asked, variable-reads.Learnt, operands-below t, operands.Post, pair-below t, pair.Post, call-below t, call.Post, list-below t, list.Post, dict-below t, dict.Post) (expr-at t) expr.Post
+expr-sub-pair : (t : ℕ) → expr-lts.Need-sub-pair (node-at-reads.Asked, node-at-reads.Learnt, literal-reads.Asked, literal-reads.Learnt, lookup-reads.Asked, lookup-reads.Learnt, operands-below t, operands.Post, pair-below t, pair.Post, call-below t, call.Post, list-below t, list.Post, dict-below t, dict.Post) (expr-at t) expr.Post
 expr-sub-pair t c =
     omega (arith, shallow (c .before .before .before .before .before .before .before .pre .1 .1 .0 .sound) (c .before .before .before .before .before .before .before .pre .1 .1 .1))
 
 -- src/lib.rt:95:15
-expr-pair-requires : (t : ℕ) → expr-lts.Need-pair-requires (node-at-reads.Asked, node-at-reads.Learnt, literal-reads.Asked, literal-reads.Learnt, variable-reads.Asked, variable-reads.Learnt, operands-below t, operands.Post, pair-below t, pair.Post, call-below t, call.Post, list-below t, list.Post, dict-below t, dict.Post) (expr-at t) expr.Post
+expr-pair-requires : (t : ℕ) → expr-lts.Need-pair-requires (node-at-reads.Asked, node-at-reads.Learnt, literal-reads.Asked, literal-reads.Learnt, lookup-reads.Asked, lookup-reads.Learnt, operands-below t, operands.Post, pair-below t, pair.Post, call-below t, call.Post, list-below t, list.Post, dict-below t, dict.Post) (expr-at t) expr.Post
 expr-pair-requires t c κs =
     (omega (arith, c .before .before .before .before .before .before .before .pre .0, shallow (c .before .before .before .before .before .before .before .pre .1 .1 .0 .sound) (c .before .before .before .before .before .before .before .pre .1 .1 .1)), (c .before .before .before .before .before .before .before .pre .1 .0, ((c .before .before .before .before .before .before .before .pre .1 .1 .0), (inner (c .before .before .before .before .before .before .before .pre .1 .1 .0 .sound) (c .before .before .before .before .before .before .before .pre .1 .1 .1) refl, kind-as (c .before .before .before .before .node-at .ensures) (c .before .before .before .match .keys4)))))
 
 -- src/lib.rt:117:13
-expr-sub-call : (t : ℕ) → expr-lts.Need-sub-call (node-at-reads.Asked, node-at-reads.Learnt, literal-reads.Asked, literal-reads.Learnt, variable-reads.Asked, variable-reads.Learnt, operands-below t, operands.Post, pair-below t, pair.Post, call-below t, call.Post, list-below t, list.Post, dict-below t, dict.Post) (expr-at t) expr.Post
+expr-sub-call : (t : ℕ) → expr-lts.Need-sub-call (node-at-reads.Asked, node-at-reads.Learnt, literal-reads.Asked, literal-reads.Learnt, lookup-reads.Asked, lookup-reads.Learnt, operands-below t, operands.Post, pair-below t, pair.Post, call-below t, call.Post, list-below t, list.Post, dict-below t, dict.Post) (expr-at t) expr.Post
 expr-sub-call t c =
     omega (arith, shallow (c .before .before .before .before .before .before .before .pre .1 .1 .0 .sound) (c .before .before .before .before .before .before .before .pre .1 .1 .1))
 
 -- src/lib.rt:107:15
-expr-call-requires : (t : ℕ) → expr-lts.Need-call-requires (node-at-reads.Asked, node-at-reads.Learnt, literal-reads.Asked, literal-reads.Learnt, variable-reads.Asked, variable-reads.Learnt, operands-below t, operands.Post, pair-below t, pair.Post, call-below t, call.Post, list-below t, list.Post, dict-below t, dict.Post) (expr-at t) expr.Post
+expr-call-requires : (t : ℕ) → expr-lts.Need-call-requires (node-at-reads.Asked, node-at-reads.Learnt, literal-reads.Asked, literal-reads.Learnt, lookup-reads.Asked, lookup-reads.Learnt, operands-below t, operands.Post, pair-below t, pair.Post, call-below t, call.Post, list-below t, list.Post, dict-below t, dict.Post) (expr-at t) expr.Post
 expr-call-requires t c κs =
     (omega (arith, c .before .before .before .before .before .before .before .pre .0, shallow (c .before .before .before .before .before .before .before .pre .1 .1 .0 .sound) (c .before .before .before .before .before .before .before .pre .1 .1 .1)), (c .before .before .before .before .before .before .before .pre .1 .0, ((c .before .before .before .before .before .before .before .pre .1 .1 .0), (inner (c .before .before .before .before .before .before .before .pre .1 .1 .0 .sound) (c .before .before .before .before .before .before .before .pre .1 .1 .1) refl, kind-as (c .before .before .before .before .node-at .ensures) (c .before .before .before .match .keys5)))))
 
 -- src/lib.rt:129:13
-expr-sub-operands-2 : (t : ℕ) → expr-lts.Need-sub-operands-2 (node-at-reads.Asked, node-at-reads.Learnt, literal-reads.Asked, literal-reads.Learnt, variable-reads.Asked, variable-reads.Learnt, operands-below t, operands.Post, pair-below t, pair.Post, call-below t, call.Post, list-below t, list.Post, dict-below t, dict.Post) (expr-at t) expr.Post
+expr-sub-operands-2 : (t : ℕ) → expr-lts.Need-sub-operands-2 (node-at-reads.Asked, node-at-reads.Learnt, literal-reads.Asked, literal-reads.Learnt, lookup-reads.Asked, lookup-reads.Learnt, operands-below t, operands.Post, pair-below t, pair.Post, call-below t, call.Post, list-below t, list.Post, dict-below t, dict.Post) (expr-at t) expr.Post
 expr-sub-operands-2 t c =
     omega (arith, shallow (c .before .before .before .before .before .before .before .pre .1 .1 .0 .sound) (c .before .before .before .before .before .before .before .pre .1 .1 .1))
 
 -- src/lib.rt:119:15
-expr-operands-requires-2 : (t : ℕ) → expr-lts.Need-operands-requires-2 (node-at-reads.Asked, node-at-reads.Learnt, literal-reads.Asked, literal-reads.Learnt, variable-reads.Asked, variable-reads.Learnt, operands-below t, operands.Post, pair-below t, pair.Post, call-below t, call.Post, list-below t, list.Post, dict-below t, dict.Post) (expr-at t) expr.Post
+expr-operands-requires-2 : (t : ℕ) → expr-lts.Need-operands-requires-2 (node-at-reads.Asked, node-at-reads.Learnt, literal-reads.Asked, literal-reads.Learnt, lookup-reads.Asked, lookup-reads.Learnt, operands-below t, operands.Post, pair-below t, pair.Post, call-below t, call.Post, list-below t, list.Post, dict-below t, dict.Post) (expr-at t) expr.Post
 expr-operands-requires-2 t c κs =
     (omega (arith, c .before .before .before .before .before .before .before .pre .0, shallow (c .before .before .before .before .before .before .before .pre .1 .1 .0 .sound) (c .before .before .before .before .before .before .before .pre .1 .1 .1)), (c .before .before .before .before .before .before .before .pre .1 .0, ((c .before .before .before .before .before .before .before .pre .1 .1 .0), (inner (c .before .before .before .before .before .before .before .pre .1 .1 .0 .sound) (c .before .before .before .before .before .before .before .pre .1 .1 .1) refl, (operand-attribute (c .before .before .before .before .before .before .before .pre .1 .1 .0 .sound) (inner (c .before .before .before .before .before .before .before .pre .1 .1 .0 .sound) (c .before .before .before .before .before .before .before .pre .1 .1 .1) (c .before .before .before .before .node-at .ensures)) (c .before .before .before .match .keys6), no-binary (c .before .before .before .before .node-at .ensures) (λ e. omega (arith, e, c .before .before .before .match .keys6)))))))
 
 -- src/lib.rt:141:13
-expr-sub-list : (t : ℕ) → expr-lts.Need-sub-list (node-at-reads.Asked, node-at-reads.Learnt, literal-reads.Asked, literal-reads.Learnt, variable-reads.Asked, variable-reads.Learnt, operands-below t, operands.Post, pair-below t, pair.Post, call-below t, call.Post, list-below t, list.Post, dict-below t, dict.Post) (expr-at t) expr.Post
+expr-sub-list : (t : ℕ) → expr-lts.Need-sub-list (node-at-reads.Asked, node-at-reads.Learnt, literal-reads.Asked, literal-reads.Learnt, lookup-reads.Asked, lookup-reads.Learnt, operands-below t, operands.Post, pair-below t, pair.Post, call-below t, call.Post, list-below t, list.Post, dict-below t, dict.Post) (expr-at t) expr.Post
 expr-sub-list t c =
     omega (arith, shallow (c .before .before .before .before .before .before .before .pre .1 .1 .0 .sound) (c .before .before .before .before .before .before .before .pre .1 .1 .1))
 
 -- src/lib.rt:131:15
-expr-list-requires : (t : ℕ) → expr-lts.Need-list-requires (node-at-reads.Asked, node-at-reads.Learnt, literal-reads.Asked, literal-reads.Learnt, variable-reads.Asked, variable-reads.Learnt, operands-below t, operands.Post, pair-below t, pair.Post, call-below t, call.Post, list-below t, list.Post, dict-below t, dict.Post) (expr-at t) expr.Post
+expr-list-requires : (t : ℕ) → expr-lts.Need-list-requires (node-at-reads.Asked, node-at-reads.Learnt, literal-reads.Asked, literal-reads.Learnt, lookup-reads.Asked, lookup-reads.Learnt, operands-below t, operands.Post, pair-below t, pair.Post, call-below t, call.Post, list-below t, list.Post, dict-below t, dict.Post) (expr-at t) expr.Post
 expr-list-requires t c κs =
     (omega (arith, c .before .before .before .before .before .before .before .pre .0, shallow (c .before .before .before .before .before .before .before .pre .1 .1 .0 .sound) (c .before .before .before .before .before .before .before .pre .1 .1 .1)), (c .before .before .before .before .before .before .before .pre .1 .0, ((c .before .before .before .before .before .before .before .pre .1 .1 .0), (inner (c .before .before .before .before .before .before .before .pre .1 .1 .0 .sound) (c .before .before .before .before .before .before .before .pre .1 .1 .1) refl, kind-as (c .before .before .before .before .node-at .ensures) (c .before .before .before .match .keys7)))))
 
 -- src/lib.rt:153:13
-expr-sub-dict : (t : ℕ) → expr-lts.Need-sub-dict (node-at-reads.Asked, node-at-reads.Learnt, literal-reads.Asked, literal-reads.Learnt, variable-reads.Asked, variable-reads.Learnt, operands-below t, operands.Post, pair-below t, pair.Post, call-below t, call.Post, list-below t, list.Post, dict-below t, dict.Post) (expr-at t) expr.Post
+expr-sub-dict : (t : ℕ) → expr-lts.Need-sub-dict (node-at-reads.Asked, node-at-reads.Learnt, literal-reads.Asked, literal-reads.Learnt, lookup-reads.Asked, lookup-reads.Learnt, operands-below t, operands.Post, pair-below t, pair.Post, call-below t, call.Post, list-below t, list.Post, dict-below t, dict.Post) (expr-at t) expr.Post
 expr-sub-dict t c =
     omega (arith, shallow (c .before .before .before .before .before .before .before .pre .1 .1 .0 .sound) (c .before .before .before .before .before .before .before .pre .1 .1 .1))
 
 -- src/lib.rt:143:15
-expr-dict-requires : (t : ℕ) → expr-lts.Need-dict-requires (node-at-reads.Asked, node-at-reads.Learnt, literal-reads.Asked, literal-reads.Learnt, variable-reads.Asked, variable-reads.Learnt, operands-below t, operands.Post, pair-below t, pair.Post, call-below t, call.Post, list-below t, list.Post, dict-below t, dict.Post) (expr-at t) expr.Post
+expr-dict-requires : (t : ℕ) → expr-lts.Need-dict-requires (node-at-reads.Asked, node-at-reads.Learnt, literal-reads.Asked, literal-reads.Learnt, lookup-reads.Asked, lookup-reads.Learnt, operands-below t, operands.Post, pair-below t, pair.Post, call-below t, call.Post, list-below t, list.Post, dict-below t, dict.Post) (expr-at t) expr.Post
 expr-dict-requires t c κs =
     (omega (arith, c .before .before .before .before .before .before .before .pre .0, shallow (c .before .before .before .before .before .before .before .pre .1 .1 .0 .sound) (c .before .before .before .before .before .before .before .pre .1 .1 .1)), (c .before .before .before .before .before .before .before .pre .1 .0, ((c .before .before .before .before .before .before .before .pre .1 .1 .0), (inner (c .before .before .before .before .before .before .before .pre .1 .1 .0 .sound) (c .before .before .before .before .before .before .before .pre .1 .1 .1) refl, kind-as (c .before .before .before .before .node-at .ensures) (c .before .before .before .match .keys8)))))
 
 -- src/lib.rt:165:13
-expr-sub-operands-3 : (t : ℕ) → expr-lts.Need-sub-operands-3 (node-at-reads.Asked, node-at-reads.Learnt, literal-reads.Asked, literal-reads.Learnt, variable-reads.Asked, variable-reads.Learnt, operands-below t, operands.Post, pair-below t, pair.Post, call-below t, call.Post, list-below t, list.Post, dict-below t, dict.Post) (expr-at t) expr.Post
+expr-sub-operands-3 : (t : ℕ) → expr-lts.Need-sub-operands-3 (node-at-reads.Asked, node-at-reads.Learnt, literal-reads.Asked, literal-reads.Learnt, lookup-reads.Asked, lookup-reads.Learnt, operands-below t, operands.Post, pair-below t, pair.Post, call-below t, call.Post, list-below t, list.Post, dict-below t, dict.Post) (expr-at t) expr.Post
 expr-sub-operands-3 t c =
     omega (arith, shallow (c .before .before .before .before .before .before .before .before .before .pre .1 .1 .0 .sound) (c .before .before .before .before .before .before .before .before .before .pre .1 .1 .1))
 
 -- src/lib.rt:155:20
-expr-operands-requires-3 : (t : ℕ) → expr-lts.Need-operands-requires-3 (node-at-reads.Asked, node-at-reads.Learnt, literal-reads.Asked, literal-reads.Learnt, variable-reads.Asked, variable-reads.Learnt, operands-below t, operands.Post, pair-below t, pair.Post, call-below t, call.Post, list-below t, list.Post, dict-below t, dict.Post) (expr-at t) expr.Post
+expr-operands-requires-3 : (t : ℕ) → expr-lts.Need-operands-requires-3 (node-at-reads.Asked, node-at-reads.Learnt, literal-reads.Asked, literal-reads.Learnt, lookup-reads.Asked, lookup-reads.Learnt, operands-below t, operands.Post, pair-below t, pair.Post, call-below t, call.Post, list-below t, list.Post, dict-below t, dict.Post) (expr-at t) expr.Post
 expr-operands-requires-3 t c κs =
     let m = c .before .before .before .before .before .match .rest in (
       omega (arith, c .before .before .before .before .before .before .before .before .before .pre .0, shallow (c .before .before .before .before .before .before .before .before .before .pre .1 .1 .0 .sound) (c .before .before .before .before .before .before .before .before .before .pre .1 .1 .1)),
@@ -689,85 +689,85 @@ expr-operands-requires-3 t c κs =
     )
 
 -- src/lib.rt:56:1
-expr-returns : (t : ℕ) → expr-lts.Need-returns (node-at-reads.Asked, node-at-reads.Learnt, literal-reads.Asked, literal-reads.Learnt, variable-reads.Asked, variable-reads.Learnt, operands-below t, operands.Post, pair-below t, pair.Post, call-below t, call.Post, list-below t, list.Post, dict-below t, dict.Post) (expr-at t) expr.Post
+expr-returns : (t : ℕ) → expr-lts.Need-returns (node-at-reads.Asked, node-at-reads.Learnt, literal-reads.Asked, literal-reads.Learnt, lookup-reads.Asked, lookup-reads.Learnt, operands-below t, operands.Post, pair-below t, pair.Post, call-below t, call.Post, list-below t, list.Post, dict-below t, dict.Post) (expr-at t) expr.Post
 expr-returns t c =
     (literal-done (c .before .before .before .before .before .pre .1 .1 .0) (c .before .before .before .before .before .pre .1 .1 .1) (c .before .before .node-at .ensures) (c .before .match .keys1) (plain-well _ (c .before .before .before .before .before .pre .1 .0) (literal-few _ (c .literal .ensures))) (c .literal .ensures), kept-number (c .before .before .before .before .before .pre .1 .0) (literal-few _ (c .literal .ensures)))
 
 -- src/lib.rt:56:1
-expr-returns-2 : (t : ℕ) → expr-lts.Need-returns-2 (node-at-reads.Asked, node-at-reads.Learnt, literal-reads.Asked, literal-reads.Learnt, variable-reads.Asked, variable-reads.Learnt, operands-below t, operands.Post, pair-below t, pair.Post, call-below t, call.Post, list-below t, list.Post, dict-below t, dict.Post) (expr-at t) expr.Post
+expr-returns-2 : (t : ℕ) → expr-lts.Need-returns-2 (node-at-reads.Asked, node-at-reads.Learnt, literal-reads.Asked, literal-reads.Learnt, lookup-reads.Asked, lookup-reads.Learnt, operands-below t, operands.Post, pair-below t, pair.Post, call-below t, call.Post, list-below t, list.Post, dict-below t, dict.Post) (expr-at t) expr.Post
 expr-returns-2 t c =
-    (variable-done (c .before .before .before .before .before .before .pre .1 .1 .0) (c .before .before .before .before .before .before .pre .1 .1 .1) (c .before .before .before .node-at .ensures) (c .before .before .match .keys2) refl (plain-well _ (c .before .before .before .before .before .before .pre .1 .0) (variable-few (c .before .before .before .before .before .before .pre .1 .1 .0) (c .variable .ensures))) refl (c .variable .ensures), kept-number (c .before .before .before .before .before .before .pre .1 .0) (variable-few (c .before .before .before .before .before .before .pre .1 .1 .0) (c .variable .ensures)))
+    (variable-done (c .before .before .before .before .before .before .pre .1 .1 .0) (c .before .before .before .before .before .before .pre .1 .1 .1) (c .before .before .before .node-at .ensures) (c .before .before .match .keys2) refl (plain-well _ (c .before .before .before .before .before .before .pre .1 .0) (variable-few (c .before .before .before .before .before .before .pre .1 .1 .0) (c .lookup .ensures))) refl (c .lookup .ensures), kept-number (c .before .before .before .before .before .before .pre .1 .0) (variable-few (c .before .before .before .before .before .before .pre .1 .1 .0) (c .lookup .ensures)))
 
 -- src/lib.rt:56:1
-expr-same-length : (t : ℕ) → expr-lts.Need-same-length (node-at-reads.Asked, node-at-reads.Learnt, literal-reads.Asked, literal-reads.Learnt, variable-reads.Asked, variable-reads.Learnt, operands-below t, operands.Post, pair-below t, pair.Post, call-below t, call.Post, list-below t, list.Post, dict-below t, dict.Post) (expr-at t) expr.Post
+expr-same-length : (t : ℕ) → expr-lts.Need-same-length (node-at-reads.Asked, node-at-reads.Learnt, literal-reads.Asked, literal-reads.Learnt, lookup-reads.Asked, lookup-reads.Learnt, operands-below t, operands.Post, pair-below t, pair.Post, call-below t, call.Post, list-below t, list.Post, dict-below t, dict.Post) (expr-at t) expr.Post
 expr-same-length t c = search needs
 
 -- src/lib.rt:56:1
-expr-returns-3 : (t : ℕ) → expr-lts.Need-returns-3 (node-at-reads.Asked, node-at-reads.Learnt, literal-reads.Asked, literal-reads.Learnt, variable-reads.Asked, variable-reads.Learnt, operands-below t, operands.Post, pair-below t, pair.Post, call-below t, call.Post, list-below t, list.Post, dict-below t, dict.Post) (expr-at t) expr.Post
+expr-returns-3 : (t : ℕ) → expr-lts.Need-returns-3 (node-at-reads.Asked, node-at-reads.Learnt, literal-reads.Asked, literal-reads.Learnt, lookup-reads.Asked, lookup-reads.Learnt, operands-below t, operands.Post, pair-below t, pair.Post, call-below t, call.Post, list-below t, list.Post, dict-below t, dict.Post) (expr-at t) expr.Post
 expr-returns-3 t c =
     (expr-done (c .before .before .before .before .before .before .before .before .before .before .pre .1 .1 .0) (c .before .before .before .before .before .before .before .before .before .before .pre .1 .1 .1) (c .before .before .before .before .before .before .before .node-at .ensures) (c .before .before .operands .ensures .0), c .before .before .operands .ensures .1)
 
 -- src/lib.rt:56:1
-expr-same-length-2 : (t : ℕ) → expr-lts.Need-same-length-2 (node-at-reads.Asked, node-at-reads.Learnt, literal-reads.Asked, literal-reads.Learnt, variable-reads.Asked, variable-reads.Learnt, operands-below t, operands.Post, pair-below t, pair.Post, call-below t, call.Post, list-below t, list.Post, dict-below t, dict.Post) (expr-at t) expr.Post
+expr-same-length-2 : (t : ℕ) → expr-lts.Need-same-length-2 (node-at-reads.Asked, node-at-reads.Learnt, literal-reads.Asked, literal-reads.Learnt, lookup-reads.Asked, lookup-reads.Learnt, operands-below t, operands.Post, pair-below t, pair.Post, call-below t, call.Post, list-below t, list.Post, dict-below t, dict.Post) (expr-at t) expr.Post
 expr-same-length-2 t c = search needs
 
 -- src/lib.rt:56:1
-expr-returns-4 : (t : ℕ) → expr-lts.Need-returns-4 (node-at-reads.Asked, node-at-reads.Learnt, literal-reads.Asked, literal-reads.Learnt, variable-reads.Asked, variable-reads.Learnt, operands-below t, operands.Post, pair-below t, pair.Post, call-below t, call.Post, list-below t, list.Post, dict-below t, dict.Post) (expr-at t) expr.Post
+expr-returns-4 : (t : ℕ) → expr-lts.Need-returns-4 (node-at-reads.Asked, node-at-reads.Learnt, literal-reads.Asked, literal-reads.Learnt, lookup-reads.Asked, lookup-reads.Learnt, operands-below t, operands.Post, pair-below t, pair.Post, call-below t, call.Post, list-below t, list.Post, dict-below t, dict.Post) (expr-at t) expr.Post
 expr-returns-4 t c =
     (expr-done (c .before .before .before .before .before .before .before .before .before .before .pre .1 .1 .0) (c .before .before .before .before .before .before .before .before .before .before .pre .1 .1 .1) (c .before .before .before .before .before .before .before .node-at .ensures) (c .before .before .pair .ensures .0), c .before .before .pair .ensures .1)
 
 -- src/lib.rt:56:1
-expr-same-length-3 : (t : ℕ) → expr-lts.Need-same-length-3 (node-at-reads.Asked, node-at-reads.Learnt, literal-reads.Asked, literal-reads.Learnt, variable-reads.Asked, variable-reads.Learnt, operands-below t, operands.Post, pair-below t, pair.Post, call-below t, call.Post, list-below t, list.Post, dict-below t, dict.Post) (expr-at t) expr.Post
+expr-same-length-3 : (t : ℕ) → expr-lts.Need-same-length-3 (node-at-reads.Asked, node-at-reads.Learnt, literal-reads.Asked, literal-reads.Learnt, lookup-reads.Asked, lookup-reads.Learnt, operands-below t, operands.Post, pair-below t, pair.Post, call-below t, call.Post, list-below t, list.Post, dict-below t, dict.Post) (expr-at t) expr.Post
 expr-same-length-3 t c = search needs
 
 -- src/lib.rt:56:1
-expr-returns-5 : (t : ℕ) → expr-lts.Need-returns-5 (node-at-reads.Asked, node-at-reads.Learnt, literal-reads.Asked, literal-reads.Learnt, variable-reads.Asked, variable-reads.Learnt, operands-below t, operands.Post, pair-below t, pair.Post, call-below t, call.Post, list-below t, list.Post, dict-below t, dict.Post) (expr-at t) expr.Post
+expr-returns-5 : (t : ℕ) → expr-lts.Need-returns-5 (node-at-reads.Asked, node-at-reads.Learnt, literal-reads.Asked, literal-reads.Learnt, lookup-reads.Asked, lookup-reads.Learnt, operands-below t, operands.Post, pair-below t, pair.Post, call-below t, call.Post, list-below t, list.Post, dict-below t, dict.Post) (expr-at t) expr.Post
 expr-returns-5 t c =
     (expr-done (c .before .before .before .before .before .before .before .before .before .before .pre .1 .1 .0) (c .before .before .before .before .before .before .before .before .before .before .pre .1 .1 .1) (c .before .before .before .before .before .before .before .node-at .ensures) (c .before .before .call .ensures .0), c .before .before .call .ensures .1)
 
 -- src/lib.rt:56:1
-expr-same-length-4 : (t : ℕ) → expr-lts.Need-same-length-4 (node-at-reads.Asked, node-at-reads.Learnt, literal-reads.Asked, literal-reads.Learnt, variable-reads.Asked, variable-reads.Learnt, operands-below t, operands.Post, pair-below t, pair.Post, call-below t, call.Post, list-below t, list.Post, dict-below t, dict.Post) (expr-at t) expr.Post
+expr-same-length-4 : (t : ℕ) → expr-lts.Need-same-length-4 (node-at-reads.Asked, node-at-reads.Learnt, literal-reads.Asked, literal-reads.Learnt, lookup-reads.Asked, lookup-reads.Learnt, operands-below t, operands.Post, pair-below t, pair.Post, call-below t, call.Post, list-below t, list.Post, dict-below t, dict.Post) (expr-at t) expr.Post
 expr-same-length-4 t c = search needs
 
 -- src/lib.rt:56:1
-expr-returns-6 : (t : ℕ) → expr-lts.Need-returns-6 (node-at-reads.Asked, node-at-reads.Learnt, literal-reads.Asked, literal-reads.Learnt, variable-reads.Asked, variable-reads.Learnt, operands-below t, operands.Post, pair-below t, pair.Post, call-below t, call.Post, list-below t, list.Post, dict-below t, dict.Post) (expr-at t) expr.Post
+expr-returns-6 : (t : ℕ) → expr-lts.Need-returns-6 (node-at-reads.Asked, node-at-reads.Learnt, literal-reads.Asked, literal-reads.Learnt, lookup-reads.Asked, lookup-reads.Learnt, operands-below t, operands.Post, pair-below t, pair.Post, call-below t, call.Post, list-below t, list.Post, dict-below t, dict.Post) (expr-at t) expr.Post
 expr-returns-6 t c =
     (expr-done (c .before .before .before .before .before .before .before .before .before .before .pre .1 .1 .0) (c .before .before .before .before .before .before .before .before .before .before .pre .1 .1 .1) (c .before .before .before .before .before .before .before .node-at .ensures) (c .before .before .operands2 .ensures .0), c .before .before .operands2 .ensures .1)
 
 -- src/lib.rt:56:1
-expr-same-length-5 : (t : ℕ) → expr-lts.Need-same-length-5 (node-at-reads.Asked, node-at-reads.Learnt, literal-reads.Asked, literal-reads.Learnt, variable-reads.Asked, variable-reads.Learnt, operands-below t, operands.Post, pair-below t, pair.Post, call-below t, call.Post, list-below t, list.Post, dict-below t, dict.Post) (expr-at t) expr.Post
+expr-same-length-5 : (t : ℕ) → expr-lts.Need-same-length-5 (node-at-reads.Asked, node-at-reads.Learnt, literal-reads.Asked, literal-reads.Learnt, lookup-reads.Asked, lookup-reads.Learnt, operands-below t, operands.Post, pair-below t, pair.Post, call-below t, call.Post, list-below t, list.Post, dict-below t, dict.Post) (expr-at t) expr.Post
 expr-same-length-5 t c = search needs
 
 -- src/lib.rt:56:1
-expr-returns-7 : (t : ℕ) → expr-lts.Need-returns-7 (node-at-reads.Asked, node-at-reads.Learnt, literal-reads.Asked, literal-reads.Learnt, variable-reads.Asked, variable-reads.Learnt, operands-below t, operands.Post, pair-below t, pair.Post, call-below t, call.Post, list-below t, list.Post, dict-below t, dict.Post) (expr-at t) expr.Post
+expr-returns-7 : (t : ℕ) → expr-lts.Need-returns-7 (node-at-reads.Asked, node-at-reads.Learnt, literal-reads.Asked, literal-reads.Learnt, lookup-reads.Asked, lookup-reads.Learnt, operands-below t, operands.Post, pair-below t, pair.Post, call-below t, call.Post, list-below t, list.Post, dict-below t, dict.Post) (expr-at t) expr.Post
 expr-returns-7 t c =
     (expr-done (c .before .before .before .before .before .before .before .before .before .before .pre .1 .1 .0) (c .before .before .before .before .before .before .before .before .before .before .pre .1 .1 .1) (c .before .before .before .before .before .before .before .node-at .ensures) (c .before .before .list .ensures .0), c .before .before .list .ensures .1)
 
 -- src/lib.rt:56:1
-expr-same-length-6 : (t : ℕ) → expr-lts.Need-same-length-6 (node-at-reads.Asked, node-at-reads.Learnt, literal-reads.Asked, literal-reads.Learnt, variable-reads.Asked, variable-reads.Learnt, operands-below t, operands.Post, pair-below t, pair.Post, call-below t, call.Post, list-below t, list.Post, dict-below t, dict.Post) (expr-at t) expr.Post
+expr-same-length-6 : (t : ℕ) → expr-lts.Need-same-length-6 (node-at-reads.Asked, node-at-reads.Learnt, literal-reads.Asked, literal-reads.Learnt, lookup-reads.Asked, lookup-reads.Learnt, operands-below t, operands.Post, pair-below t, pair.Post, call-below t, call.Post, list-below t, list.Post, dict-below t, dict.Post) (expr-at t) expr.Post
 expr-same-length-6 t c = search needs
 
 -- src/lib.rt:56:1
-expr-returns-8 : (t : ℕ) → expr-lts.Need-returns-8 (node-at-reads.Asked, node-at-reads.Learnt, literal-reads.Asked, literal-reads.Learnt, variable-reads.Asked, variable-reads.Learnt, operands-below t, operands.Post, pair-below t, pair.Post, call-below t, call.Post, list-below t, list.Post, dict-below t, dict.Post) (expr-at t) expr.Post
+expr-returns-8 : (t : ℕ) → expr-lts.Need-returns-8 (node-at-reads.Asked, node-at-reads.Learnt, literal-reads.Asked, literal-reads.Learnt, lookup-reads.Asked, lookup-reads.Learnt, operands-below t, operands.Post, pair-below t, pair.Post, call-below t, call.Post, list-below t, list.Post, dict-below t, dict.Post) (expr-at t) expr.Post
 expr-returns-8 t c =
     (expr-done (c .before .before .before .before .before .before .before .before .before .before .pre .1 .1 .0) (c .before .before .before .before .before .before .before .before .before .before .pre .1 .1 .1) (c .before .before .before .before .before .before .before .node-at .ensures) (c .before .before .dict .ensures .0), c .before .before .dict .ensures .1)
 
 -- src/lib.rt:56:1
-expr-same-length-7 : (t : ℕ) → expr-lts.Need-same-length-7 (node-at-reads.Asked, node-at-reads.Learnt, literal-reads.Asked, literal-reads.Learnt, variable-reads.Asked, variable-reads.Learnt, operands-below t, operands.Post, pair-below t, pair.Post, call-below t, call.Post, list-below t, list.Post, dict-below t, dict.Post) (expr-at t) expr.Post
+expr-same-length-7 : (t : ℕ) → expr-lts.Need-same-length-7 (node-at-reads.Asked, node-at-reads.Learnt, literal-reads.Asked, literal-reads.Learnt, lookup-reads.Asked, lookup-reads.Learnt, operands-below t, operands.Post, pair-below t, pair.Post, call-below t, call.Post, list-below t, list.Post, dict-below t, dict.Post) (expr-at t) expr.Post
 expr-same-length-7 t c = search needs
 
 -- src/lib.rt:56:1
-expr-returns-9 : (t : ℕ) → expr-lts.Need-returns-9 (node-at-reads.Asked, node-at-reads.Learnt, literal-reads.Asked, literal-reads.Learnt, variable-reads.Asked, variable-reads.Learnt, operands-below t, operands.Post, pair-below t, pair.Post, call-below t, call.Post, list-below t, list.Post, dict-below t, dict.Post) (expr-at t) expr.Post
+expr-returns-9 : (t : ℕ) → expr-lts.Need-returns-9 (node-at-reads.Asked, node-at-reads.Learnt, literal-reads.Asked, literal-reads.Learnt, lookup-reads.Asked, lookup-reads.Learnt, operands-below t, operands.Post, pair-below t, pair.Post, call-below t, call.Post, list-below t, list.Post, dict-below t, dict.Post) (expr-at t) expr.Post
 expr-returns-9 t c =
     (expr-done (c .before .before .before .before .before .before .before .before .before .before .before .before .pre .1 .1 .0) (c .before .before .before .before .before .before .before .before .before .before .before .before .pre .1 .1 .1) (c .before .before .before .before .before .before .before .before .before .node-at .ensures) (c .before .before .operands3 .ensures .0), c .before .before .operands3 .ensures .1)
 
 -- src/lib.rt:56:1
-expr-returns-10 : (t : ℕ) → expr-lts.Need-returns-10 (node-at-reads.Asked, node-at-reads.Learnt, literal-reads.Asked, literal-reads.Learnt, variable-reads.Asked, variable-reads.Learnt, operands-below t, operands.Post, pair-below t, pair.Post, call-below t, call.Post, list-below t, list.Post, dict-below t, dict.Post) (expr-at t) expr.Post
+expr-returns-10 : (t : ℕ) → expr-lts.Need-returns-10 (node-at-reads.Asked, node-at-reads.Learnt, literal-reads.Asked, literal-reads.Learnt, lookup-reads.Asked, lookup-reads.Learnt, operands-below t, operands.Post, pair-below t, pair.Post, call-below t, call.Post, list-below t, list.Post, dict-below t, dict.Post) (expr-at t) expr.Post
 expr-returns-10 t c =
     (lambda-done (c .before .before .before .before .before .pre .1 .1 .0) (c .before .before .before .before .before .pre .1 .1 .1) (c .before .before .node-at .ensures) (inl (c .if1 .taken)) (plain-well 7 (c .before .before .before .before .before .pre .1 .0) (omega arith)) refl, kept-number (c .before .before .before .before .before .pre .1 .0) (omega arith))
 
 -- src/lib.rt:56:1
-expr-returns-11 : (t : ℕ) → expr-lts.Need-returns-11 (node-at-reads.Asked, node-at-reads.Learnt, literal-reads.Asked, literal-reads.Learnt, variable-reads.Asked, variable-reads.Learnt, operands-below t, operands.Post, pair-below t, pair.Post, call-below t, call.Post, list-below t, list.Post, dict-below t, dict.Post) (expr-at t) expr.Post
+expr-returns-11 : (t : ℕ) → expr-lts.Need-returns-11 (node-at-reads.Asked, node-at-reads.Learnt, literal-reads.Asked, literal-reads.Learnt, lookup-reads.Asked, lookup-reads.Learnt, operands-below t, operands.Post, pair-below t, pair.Post, call-below t, call.Post, list-below t, list.Post, dict-below t, dict.Post) (expr-at t) expr.Post
 expr-returns-11 t c =
     (lambda-done (c .before .before .before .before .before .before .pre .1 .1 .0) (c .before .before .before .before .before .before .pre .1 .1 .1) (c .before .before .before .node-at .ensures) (inr (omega (arith, c .if2 .left))) (plain-well 7 (c .before .before .before .before .before .before .pre .1 .0) (omega arith)) refl, kept-number (c .before .before .before .before .before .before .pre .1 .0) (omega arith))
 
@@ -1268,8 +1268,8 @@ pub +arguments+bounds+call+child+dict+expr+list+operands+pair+streams+values-spe
       node-at-reads.Learnt,
       literal-reads.Asked,
       literal-reads.Learnt,
-      variable-reads.Asked,
-      variable-reads.Learnt,
+      lookup-reads.Asked,
+      lookup-reads.Learnt,
       expr-below t,
       expr.Post,
     )
@@ -1278,8 +1278,8 @@ pub +arguments+bounds+call+child+dict+expr+list+operands+pair+streams+values-spe
     (child-node-at-requires t)
     (child-literal-requires t)
     (child-returns t)
-    (child-cast-variable t)
-    (child-variable-requires t)
+    (child-cast-lookup t)
+    (child-lookup-requires t)
     (child-returns-2 t)
     (child-expr-requires t)
     (child-same-length t)
@@ -1329,8 +1329,8 @@ pub +arguments+bounds+call+child+dict+expr+list+operands+pair+streams+values-spe
       node-at-reads.Learnt,
       literal-reads.Asked,
       literal-reads.Learnt,
-      variable-reads.Asked,
-      variable-reads.Learnt,
+      lookup-reads.Asked,
+      lookup-reads.Learnt,
       operands-below t,
       operands.Post,
       pair-below t,
@@ -1346,8 +1346,8 @@ pub +arguments+bounds+call+child+dict+expr+list+operands+pair+streams+values-spe
     expr.Post
     (expr-node-at-requires t)
     (expr-literal-requires t)
-    (expr-cast-variable t)
-    (expr-variable-requires t)
+    (expr-cast-lookup t)
+    (expr-lookup-requires t)
     (expr-sub-operands t)
     (expr-operands-requires t)
     (expr-sub-pair t)

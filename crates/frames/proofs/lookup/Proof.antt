@@ -2,13 +2,14 @@ use Prim.Native.Nat.{ℕ, zero, suc, _+_, _-_, _≤_, _<_}
 use mathlib.Core.Path.{_≡_, refl, sym, _∙_}
 use borrow.Author.Tests.{eq-eqb, ne-eqb}
 use Rattle.frames.specs.Env.{look}
-use Rattle.frames.proofs.Laws.{look-down}
+use Rattle.frames.proofs.Laws.{look-down, looked}
 use native.Mathlib.Omega.{arith}
 use borrow.Author.Needs.{needs}
 use Rattle.frames.proofs.lookup.Statement.{statement}
 use Rattle.frames.proofs.lookup.Tie as tie
 use Rattle.frames.proofs.lookup.Reads as reads
 use Rattle.frames.proofs.lookup.Lts as lts
+use Rattle.frames.proofs.type_in.Reads as type-in-reads
 
 abbrev Inv-loop : tie.InvT-loop
 Inv-loop frames top name i₀ i = (i ≤ 8) × (look frames i name ≡ look frames (top + 1) name)
@@ -16,53 +17,60 @@ Inv-loop frames top name i₀ i = (i ≤ 8) × (look frames i name ≡ look fram
 abbrev μ-loop : tie.MeasureT-loop
 μ-loop frames top name i₀ i = i
 
--- src/lib.rt:13:17
+-- src/lib.rt:50:17
 add-i : tie.Need-add-i Inv-loop μ-loop
 add-i c = search needs
 
--- src/lib.rt:14:5
+-- src/lib.rt:51:5
 loop-holds : tie.Need-loop-holds Inv-loop μ-loop
 loop-holds c = search needs
 
--- src/lib.rt:15:9
+-- src/lib.rt:52:9
 sub-i : tie.Need-sub-i Inv-loop μ-loop
 sub-i c = search needs
 
--- src/lib.rt:16:17
-mul-v : tie.Need-mul-v Inv-loop μ-loop
-mul-v c = search needs
+-- src/lib.rt:53:20
+mul-cell : tie.Need-mul-cell Inv-loop μ-loop
+mul-cell c = search needs
 
--- src/lib.rt:16:17
-mul-v-2 : tie.Need-mul-v-2 Inv-loop μ-loop
-mul-v-2 c = search needs
+-- src/lib.rt:53:20
+mul-cell-2 : tie.Need-mul-cell-2 Inv-loop μ-loop
+mul-cell-2 c = search needs
 
--- src/lib.rt:16:17
-index-1-v : tie.Need-index-1-v Inv-loop μ-loop
-index-1-v c = search needs
+-- src/lib.rt:53:20
+index-1-cell : tie.Need-index-1-cell Inv-loop μ-loop
+index-1-cell c = search needs
 
--- src/lib.rt:16:17
-index-2-v : tie.Need-index-2-v Inv-loop μ-loop
-index-2-v c = search needs
+-- src/lib.rt:53:20
+index-2-cell : tie.Need-index-2-cell Inv-loop μ-loop
+index-2-cell c = search needs
 
--- src/lib.rt:18:13
+-- src/lib.rt:55:13
+type-in-requires : tie.Need-type-in-requires Inv-loop μ-loop
+type-in-requires c κs =
+    omega arith
+
+-- src/lib.rt:55:13
 returns : tie.Need-returns Inv-loop μ-loop
 returns c =
-    sym (rw (ne-eqb _ _ (c .if1 .taken)) at (look-down (c .before .before .before .before .args .frames .now) (c .before .before .before .before .args .name) (c .before .before .before .loop .i) (omega arith))) ∙ c .before .before .before .loop .inv .1
+    looked (sym (rw (ne-eqb _ _ (c .before .if1 .taken)) at (look-down (c .before .before .before .before .before .args .frames .now) (c .before .before .before .before .before .args .name) (c .before .before .before .before .loop .i) (omega arith))) ∙ c .before .before .before .before .loop .inv .1)
+    (λ z. absurd (c .before .if1 .taken z)) (λ z. c .type-in .ensures .0) (c .type-in .ensures .1)
 
--- src/lib.rt:14:5
+-- src/lib.rt:51:5
 loop-less : tie.Need-loop-less Inv-loop μ-loop
 loop-less c = search needs
 
--- src/lib.rt:14:5
+-- src/lib.rt:51:5
 loop-again : tie.Need-loop-again Inv-loop μ-loop
 loop-again c =
     (search needs, sym (rw (eq-eqb _ _ (c .if1 .left)) at (look-down (c .before .before .before .before .args .frames .now) (c .before .before .before .before .args .name) (c .before .before .before .loop .i) (omega arith))) ∙ c .before .before .before .loop .inv .1)
 
--- src/lib.rt:9:1
+-- src/lib.rt:46:1
 returns-2 : tie.Need-returns-2 Inv-loop μ-loop
 unfolding look
 returns-2 c =
-    let e : c .before .loop .i ≡ 0 = omega arith in rw e at (c .before .loop .inv .1)
+    let e : c .before .loop .i ≡ 0 = omega arith in
+    looked {o = 0} (rw e at (c .before .loop .inv .1)) (λ z. refl) (λ z. absurd (z refl)) (omega arith)
 
 pub lookup-spec : {M : Type 1} → statement M
 lookup-spec =
@@ -73,10 +81,11 @@ lookup-spec =
     add-i
     loop-holds
     sub-i
-    mul-v
-    mul-v-2
-    index-1-v
-    index-2-v
+    mul-cell
+    mul-cell-2
+    index-1-cell
+    index-2-cell
+    type-in-requires
     returns
     loop-less
     loop-again

@@ -7,7 +7,7 @@ use Rattle.stmt.proofs.Bodies.{Loop, bodiless, loop-at, loop-deep, loop
 use Rattle.stmt.proofs.Branching.{Choosing, arm-bad, arm-done, arm-last, choosing-as, choosing-branch, choosing-end, choosing-first, choosing-next, choosing-out, choosing-standing, clash-small, last-standing, when-at, when-ready, when-standing}
 use Rattle.stmt.proofs.Cells.{acted-from, armed-ends, armed-from, body-from, done-ends, done-moved, done-refused, moved-noting, moved-trans, ret-back, ret-clear, small-node, standing-as, tab-moved, tells-deep, tells-kept, tells-moved, tells-self, tells-shallow, tells-zero, top-down, top-set, verdict-zero, well-shallow}
 use Rattle.stmt.proofs.Compound.{def-at-block, def-bad, def-deep, def-done, def-some, def-standing, def-within, first-ready, for-bad, for-done, for-name, for-small, for-standing, second-at, second-standing, while-bad, while-done}
-use Rattle.stmt.proofs.Laws.{done-any, few-nodes, never, pair-for, pair-while, some-depth}
+use Rattle.stmt.proofs.Laws.{done-any, few-nodes, never, pair-for, pair-while, some-depth, stop-is}
 use borrow.Author.Tests.{not-false, not-true}
 use mathlib.Core.Bool.{true}
 use mathlib.Core.Logic.{inl, inr, ⊎-elim}
@@ -41,12 +41,13 @@ use Rattle.frames.proofs.bind.Reads as bind-reads
 use Rattle.frames.proofs.clear.Reads as clear-reads
 use Rattle.frames.proofs.commit.Reads as commit-reads
 use Rattle.frames.proofs.note_branch.Reads as note-branch-reads
+use Rattle.image.proofs.Cursor.next.Reads as next-reads
+use Rattle.image.proofs.Cursor.over.Reads as over-reads
 use Rattle.image.proofs.node_at.Reads as node-at-reads
 use Rattle.nodes.proofs.refused.Reads as refused-reads
 use Rattle.nodes.proofs.small.Reads as small-reads
 use Rattle.nodes.proofs.stop_of.Reads as stop-of-reads
 use Rattle.stmt.proofs.after_arm.Reads as after-arm-reads
-use Rattle.stmt.proofs.cell_of.Reads as cell-of-reads
 use Rattle.stmt.proofs.condition.Reads as condition-reads
 use Rattle.stmt.proofs.elements.Reads as elements-reads
 use Rattle.stmt.proofs.fewer.Reads as fewer-reads
@@ -120,81 +121,81 @@ abbrev stmt-below : ℕ → In 5 stmt-kinds.ps
 stmt-below t = and 5 stmt-kinds.ps (falls 5 stmt-kinds.ps _<_ μ-stmt t) stmt.Pre
 
 abbrev block-Inv-loop : block-lts.InvT-loop
-block-Inv-loop image nodes rows₀ table₀ notes₀ stack₀ at depth looped drops d j₀ left₀ rows table notes stack j left =
-    Loop image nodes (tabIn table₀ notes₀) rows₀ (topIn notes₀) (retIn notes₀) at depth looped drops (tabIn table notes) rows (topIn notes) (retIn notes) stack j left × Noting notes
+block-Inv-loop image nodes rows₀ table₀ notes₀ stack₀ at depth looped drops d next₀ left₀ rows table notes stack next left =
+    Loop image nodes (tabIn table₀ notes₀) rows₀ (topIn notes₀) (retIn notes₀) at depth looped drops (tabIn table notes) rows (topIn notes) (retIn notes) stack (next .at) left × Noting notes × (next .nodes ≡ nodes)
 
 abbrev block-μ-loop : block-lts.MeasureT-loop
-block-μ-loop image nodes rows₀ table₀ notes₀ stack₀ at depth looped drops d j₀ left₀ rows table notes stack j left = left
+block-μ-loop image nodes rows₀ table₀ notes₀ stack₀ at depth looped drops d next₀ left₀ rows table notes stack next left = left
 
-block-node-at-requires : (t : ℕ) → block-lts.Need-node-at-requires (node-at-reads.Asked, node-at-reads.Learnt, stmt-below t, stmt.Post, stop-of-reads.Asked, stop-of-reads.Learnt) (block-at t) block.Post block-Inv-loop block-μ-loop
-block-node-at-requires t c κs =
-    (c .before .before .pre .1 .1 .0 .ready .sound .headed, (c .before .before .pre .1 .1 .0 .ready .nodes-at, c .before .before .pre .1 .1 .1 .there))
+block-next-requires : (t : ℕ) → block-lts.Need-next-requires (next-reads.Asked, next-reads.Learnt, stmt-below t, stmt.Post, over-reads.Asked, over-reads.Learnt) (block-at t) block.Post block-Inv-loop block-μ-loop
+block-next-requires t c κs =
+    (c .before .before .pre .1 .1 .0 .ready .sound .headed, record { nodes = c .before .before .pre .1 .1 .0 .ready .nodes-at; within = c .before .before .pre .1 .1 .1 .there })
 
-block-sub-d : (t : ℕ) → block-lts.Need-sub-d (node-at-reads.Asked, node-at-reads.Learnt, stmt-below t, stmt.Post, stop-of-reads.Asked, stop-of-reads.Learnt) (block-at t) block.Post block-Inv-loop block-μ-loop
+block-sub-d : (t : ℕ) → block-lts.Need-sub-d (next-reads.Asked, next-reads.Learnt, stmt-below t, stmt.Post, over-reads.Asked, over-reads.Learnt) (block-at t) block.Post block-Inv-loop block-μ-loop
 block-sub-d t c =
-    let h = some-depth (c .before .before .before .pre .1 .1 .0 .ready .sound) (c .before .before .before .pre .1 .1 .1) in
+    let h = some-depth (c .before .before .before .before .pre .1 .1 .0 .ready .sound) (c .before .before .before .before .pre .1 .1 .1) in
     omega arith
 
-block-add-j : (t : ℕ) → block-lts.Need-add-j (node-at-reads.Asked, node-at-reads.Learnt, stmt-below t, stmt.Post, stop-of-reads.Asked, stop-of-reads.Learnt) (block-at t) block.Post block-Inv-loop block-μ-loop
-block-add-j t c =
-    omega (arith, few-nodes (c .before .before .before .pre .1 .1 .0 .ready .sound), c .before .before .before .pre .1 .1 .1 .there)
-
-block-cast-left : (t : ℕ) → block-lts.Need-cast-left (node-at-reads.Asked, node-at-reads.Learnt, stmt-below t, stmt.Post, stop-of-reads.Asked, stop-of-reads.Learnt) (block-at t) block.Post block-Inv-loop block-μ-loop
+block-cast-left : (t : ℕ) → block-lts.Need-cast-left (next-reads.Asked, next-reads.Learnt, stmt-below t, stmt.Post, over-reads.Asked, over-reads.Learnt) (block-at t) block.Post block-Inv-loop block-μ-loop
 block-cast-left t c = search needs
 
-block-loop-holds : (t : ℕ) → block-lts.Need-loop-holds (node-at-reads.Asked, node-at-reads.Learnt, stmt-below t, stmt.Post, stop-of-reads.Asked, stop-of-reads.Learnt) (block-at t) block.Post block-Inv-loop block-μ-loop
-block-loop-holds t c =
-    (loop-first _ _ (c .before .before .before .before .pre .1 .1 .0) (c .before .before .before .before .pre .1 .1 .1) (ap (λ d. d .children) (c .before .node-at .ensures)), c .before .before .before .before .pre .1 .0)
+block-loop-holds : (t : ℕ) → block-lts.Need-loop-holds (next-reads.Asked, next-reads.Learnt, stmt-below t, stmt.Post, over-reads.Asked, over-reads.Learnt) (block-at t) block.Post block-Inv-loop block-μ-loop
+block-loop-holds t c = (
+  rw (c .before .before .before .next .ensures .at) (loop-first _ _ (c .before .before .before .before .before .before .pre .1 .1 .0) (c .before .before .before .before .before .before .pre .1 .1 .1) (ap (λ d. d .children) (c .before .before .before .next .ensures .node))),
+  c .before .before .before .before .before .before .pre .1 .0,
+  c .before .before .before .next .ensures .nodes ∙ sym (c .before .before .before .before .before .before .pre .1 .1 .0 .ready .nodes-at),
+)
 
-block-stmt-requires : (t : ℕ) → block-lts.Need-stmt-requires (node-at-reads.Asked, node-at-reads.Learnt, stmt-below t, stmt.Post, stop-of-reads.Asked, stop-of-reads.Learnt) (block-at t) block.Post block-Inv-loop block-μ-loop
+block-stmt-requires : (t : ℕ) → block-lts.Need-stmt-requires (next-reads.Asked, next-reads.Learnt, stmt-below t, stmt.Post, over-reads.Asked, over-reads.Learnt) (block-at t) block.Post block-Inv-loop block-μ-loop
 block-stmt-requires t c κs =
-    let h = some-depth (c .before .before .before .before .before .before .before .before .before .before .pre .1 .1 .0 .ready .sound) (c .before .before .before .before .before .before .before .before .before .before .pre .1 .1 .1) in
-    (omega (arith, c .before .before .before .before .before .before .before .before .before .before .pre .0, h), (c .before .before .before .before .before .loop .inv .1, (loop-standing (c .before .before .before .before .before .loop .inv .0) (c .before .before .before .before .loop-test .taken), loop-at (c .before .before .before .before .before .loop .inv .0) (c .before .before .before .before .loop-test .taken))))
+    let h = some-depth (c .before .before .before .before .before .before .before .before .before .before .before .before .pre .1 .1 .0 .ready .sound) (c .before .before .before .before .before .before .before .before .before .before .before .before .pre .1 .1 .1) in
+    (omega (arith, c .before .before .before .before .before .before .before .before .before .before .before .before .pre .0, h), (c .before .before .before .before .before .loop .inv .1, (loop-standing (c .before .before .before .before .before .loop .inv .0) (c .before .before .before .before .loop-test .taken), loop-at (c .before .before .before .before .before .loop .inv .0) (c .before .before .before .before .loop-test .taken))))
 
-block-element-copy-out-if2 : (t : ℕ) → block-lts.Need-element-copy-out-if2 (node-at-reads.Asked, node-at-reads.Learnt, stmt-below t, stmt.Post, stop-of-reads.Asked, stop-of-reads.Learnt) (block-at t) block.Post block-Inv-loop block-μ-loop
+block-element-copy-out-if2 : (t : ℕ) → block-lts.Need-element-copy-out-if2 (next-reads.Asked, next-reads.Learnt, stmt-below t, stmt.Post, over-reads.Asked, over-reads.Learnt) (block-at t) block.Post block-Inv-loop block-μ-loop
 block-element-copy-out-if2 t c = search needs
 
-block-same-length : (t : ℕ) → block-lts.Need-same-length (node-at-reads.Asked, node-at-reads.Learnt, stmt-below t, stmt.Post, stop-of-reads.Asked, stop-of-reads.Learnt) (block-at t) block.Post block-Inv-loop block-μ-loop
+block-same-length : (t : ℕ) → block-lts.Need-same-length (next-reads.Asked, next-reads.Learnt, stmt-below t, stmt.Post, over-reads.Asked, over-reads.Learnt) (block-at t) block.Post block-Inv-loop block-μ-loop
 block-same-length t c = search needs
 
-block-returns : (t : ℕ) → block-lts.Need-returns (node-at-reads.Asked, node-at-reads.Learnt, stmt-below t, stmt.Post, stop-of-reads.Asked, stop-of-reads.Learnt) (block-at t) block.Post block-Inv-loop block-μ-loop
+block-returns : (t : ℕ) → block-lts.Need-returns (next-reads.Asked, next-reads.Learnt, stmt-below t, stmt.Post, over-reads.Asked, over-reads.Learnt) (block-at t) block.Post block-Inv-loop block-μ-loop
 block-returns t c =
     let e = tells-deep (c .before .before .before .before .before .stmt .ensures .1) (c .before .before .if1 .taken) (c .if2 .taken) in
     (loop-deep (c .before .before .before .before .before .before .before .before .before .before .before .loop .inv .0) (c .before .before .before .before .before .before .before .before .before .before .loop-test .taken) (c .before .before .before .before .before .stmt .ensures .0) e, (c .before .before .before .before .before .stmt .ensures .1, λ y n. absurd (n e)))
 
-block-same-length-2 : (t : ℕ) → block-lts.Need-same-length-2 (node-at-reads.Asked, node-at-reads.Learnt, stmt-below t, stmt.Post, stop-of-reads.Asked, stop-of-reads.Learnt) (block-at t) block.Post block-Inv-loop block-μ-loop
+block-same-length-2 : (t : ℕ) → block-lts.Need-same-length-2 (next-reads.Asked, next-reads.Learnt, stmt-below t, stmt.Post, over-reads.Asked, over-reads.Learnt) (block-at t) block.Post block-Inv-loop block-μ-loop
 block-same-length-2 t c = search needs
 
-block-returns-2 : (t : ℕ) → block-lts.Need-returns-2 (node-at-reads.Asked, node-at-reads.Learnt, stmt-below t, stmt.Post, stop-of-reads.Asked, stop-of-reads.Learnt) (block-at t) block.Post block-Inv-loop block-μ-loop
+block-returns-2 : (t : ℕ) → block-lts.Need-returns-2 (next-reads.Asked, next-reads.Learnt, stmt-below t, stmt.Post, over-reads.Asked, over-reads.Learnt) (block-at t) block.Post block-Inv-loop block-μ-loop
 block-returns-2 t c =
     let k = c .before .before .before .before .before .before .stmt .ensures .1 in (
       loop-wrong (c .before .before .before .before .before .before .before .before .before .before .before .before .loop .inv .0) (c .before .before .before .before .before .before .before .before .before .before .before .loop-test .taken) (c .before .before .before .before .before .before .stmt .ensures .0) (went-ill (tells-self k) (c .before .before .before .if1 .taken)) (tells-shallow k (c .before .before .before .if1 .taken) (c .before .if2 .left)) (not-true _ (c .if3 .taken)),
       (k, λ y. never (sym (not-true _ (c .if3 .taken)) ∙ y)),
     )
 
-block-stop-of-requires : (t : ℕ) → block-lts.Need-stop-of-requires (node-at-reads.Asked, node-at-reads.Learnt, stmt-below t, stmt.Post, stop-of-reads.Asked, stop-of-reads.Learnt) (block-at t) block.Post block-Inv-loop block-μ-loop
-block-stop-of-requires t c κs =
-    (c .before .before .before .before .before .before .before .before .before .before .before .before .before .before .pre .1 .1 .0 .ready .sound .headed, (c .before .before .before .before .before .before .before .before .before .before .before .before .before .before .pre .1 .1 .0 .ready .nodes-at, loop-at (c .before .before .before .before .before .before .before .before .before .loop .inv .0) (c .before .before .before .before .before .before .before .before .loop-test .taken) .there))
+block-over-requires : (t : ℕ) → block-lts.Need-over-requires (next-reads.Asked, next-reads.Learnt, stmt-below t, stmt.Post, over-reads.Asked, over-reads.Learnt) (block-at t) block.Post block-Inv-loop block-μ-loop
+block-over-requires t c κs =
+    (c .before .before .before .before .before .before .before .before .before .before .before .before .before .before .before .before .pre .1 .1 .0 .ready .sound .headed, record { nodes = c .before .before .before .before .before .before .before .before .before .loop .inv .2 ∙ c .before .before .before .before .before .before .before .before .before .before .before .before .before .before .before .before .pre .1 .1 .0 .ready .nodes-at; within = loop-at (c .before .before .before .before .before .before .before .before .before .loop .inv .0) (c .before .before .before .before .before .before .before .before .loop-test .taken) .there })
 
-block-sub-left : (t : ℕ) → block-lts.Need-sub-left (node-at-reads.Asked, node-at-reads.Learnt, stmt-below t, stmt.Post, stop-of-reads.Asked, stop-of-reads.Learnt) (block-at t) block.Post block-Inv-loop block-μ-loop
+block-sub-left : (t : ℕ) → block-lts.Need-sub-left (next-reads.Asked, next-reads.Learnt, stmt-below t, stmt.Post, over-reads.Asked, over-reads.Learnt) (block-at t) block.Post block-Inv-loop block-μ-loop
 block-sub-left t c = search needs
 
-block-loop-less : (t : ℕ) → block-lts.Need-loop-less (node-at-reads.Asked, node-at-reads.Learnt, stmt-below t, stmt.Post, stop-of-reads.Asked, stop-of-reads.Learnt) (block-at t) block.Post block-Inv-loop block-μ-loop
+block-loop-less : (t : ℕ) → block-lts.Need-loop-less (next-reads.Asked, next-reads.Learnt, stmt-below t, stmt.Post, over-reads.Asked, over-reads.Learnt) (block-at t) block.Post block-Inv-loop block-μ-loop
 block-loop-less t c = search needs
 
-block-loop-again : (t : ℕ) → block-lts.Need-loop-again (node-at-reads.Asked, node-at-reads.Learnt, stmt-below t, stmt.Post, stop-of-reads.Asked, stop-of-reads.Learnt) (block-at t) block.Post block-Inv-loop block-μ-loop
+block-loop-again : (t : ℕ) → block-lts.Need-loop-again (next-reads.Asked, next-reads.Learnt, stmt-below t, stmt.Post, over-reads.Asked, over-reads.Learnt) (block-at t) block.Post block-Inv-loop block-μ-loop
 block-loop-again t c =
-    let k = c .before .before .before .before .stmt .ensures .1 in (
-      loop-next (c .before .before .before .before .before .before .before .before .before .before .loop .inv .0) (c .before .before .before .before .before .before .before .before .before .loop-test .taken) (c .before .before .before .before .stmt .ensures .0) (c .stop-of .ensures)
-          (⊎-elim (λ w. tells-shallow k (w .0 .taken) (w .2 .left)) (λ w. well-shallow k (w .left)) (c .before .if1 .came))
-          (⊎-elim (λ w. inr (not-false _ (w .3 .left))) (λ w. inl (went-well (tells-self k) (w .left))) (c .before .if1 .came)),
+    let k = c .before .before .before .before .before .stmt .ensures .1 in (
+      loop-next (c .before .before .before .before .before .before .before .before .before .before .before .loop .inv .0) (c .before .before .before .before .before .before .before .before .before .before .loop-test .taken) (c .before .before .before .before .before .stmt .ensures .0) (c .before .over .ensures .at ∙ stop-is (c .before .before .before .before .before .before .before .before .before .before .before .before .before .before .before .before .before .before .pre .1 .1 .0 .ready .sound) _)
+          (⊎-elim (λ w. tells-shallow k (w .0 .taken) (w .2 .left)) (λ w. well-shallow k (w .left)) (c .before .before .if1 .came))
+          (⊎-elim (λ w. inr (not-false _ (w .3 .left))) (λ w. inl (went-well (tells-self k) (w .left))) (c .before .before .if1 .came)),
       k .noting,
+      c .before .over .ensures .nodes ∙ sym (c .before .before .before .before .before .before .before .before .before .before .before .before .before .before .before .before .before .before .pre .1 .1 .0 .ready .nodes-at),
     )
 
-block-same-length-3 : (t : ℕ) → block-lts.Need-same-length-3 (node-at-reads.Asked, node-at-reads.Learnt, stmt-below t, stmt.Post, stop-of-reads.Asked, stop-of-reads.Learnt) (block-at t) block.Post block-Inv-loop block-μ-loop
+block-same-length-3 : (t : ℕ) → block-lts.Need-same-length-3 (next-reads.Asked, next-reads.Learnt, stmt-below t, stmt.Post, over-reads.Asked, over-reads.Learnt) (block-at t) block.Post block-Inv-loop block-μ-loop
 block-same-length-3 t c = search needs
 
-block-returns-3 : (t : ℕ) → block-lts.Need-returns-3 (node-at-reads.Asked, node-at-reads.Learnt, stmt-below t, stmt.Post, stop-of-reads.Asked, stop-of-reads.Learnt) (block-at t) block.Post block-Inv-loop block-μ-loop
+block-returns-3 : (t : ℕ) → block-lts.Need-returns-3 (next-reads.Asked, next-reads.Learnt, stmt-below t, stmt.Post, over-reads.Asked, over-reads.Learnt) (block-at t) block.Post block-Inv-loop block-μ-loop
 block-returns-3 t c =
     (done-any refl (verdict-zero _) (loop-end (c .before .loop .inv .0) (c .loop-test .left)), (tells-zero (c .before .loop .inv .1), λ y n. verdict-zero _))
 
@@ -482,27 +483,27 @@ define-returns-3 t c =
       tells-zero (moved-noting (y .moved)),
     )
 
-each-element-copy-out-wide : (t : ℕ) → each-lts.Need-element-copy-out-wide (wide-reads.Asked, wide-reads.Learnt, elements-reads.Asked, elements-reads.Learnt, node-at-reads.Asked, node-at-reads.Learnt, cell-of-reads.Asked, cell-of-reads.Learnt, bind-reads.Asked, bind-reads.Learnt, stop-of-reads.Asked, stop-of-reads.Learnt, block-below t, block.Post, small-reads.Asked, small-reads.Learnt) (each-at t) each.Post
+each-element-copy-out-wide : (t : ℕ) → each-lts.Need-element-copy-out-wide (wide-reads.Asked, wide-reads.Learnt, elements-reads.Asked, elements-reads.Learnt, node-at-reads.Asked, node-at-reads.Learnt, bind-reads.Asked, bind-reads.Learnt, stop-of-reads.Asked, stop-of-reads.Learnt, block-below t, block.Post, small-reads.Asked, small-reads.Learnt) (each-at t) each.Post
 each-element-copy-out-wide t c = search needs
 
-each-wide-requires : (t : ℕ) → each-lts.Need-wide-requires (wide-reads.Asked, wide-reads.Learnt, elements-reads.Asked, elements-reads.Learnt, node-at-reads.Asked, node-at-reads.Learnt, cell-of-reads.Asked, cell-of-reads.Learnt, bind-reads.Asked, bind-reads.Learnt, stop-of-reads.Asked, stop-of-reads.Learnt, block-below t, block.Post, small-reads.Asked, small-reads.Learnt) (each-at t) each.Post
+each-wide-requires : (t : ℕ) → each-lts.Need-wide-requires (wide-reads.Asked, wide-reads.Learnt, elements-reads.Asked, elements-reads.Learnt, node-at-reads.Asked, node-at-reads.Learnt, bind-reads.Asked, bind-reads.Learnt, stop-of-reads.Asked, stop-of-reads.Learnt, block-below t, block.Post, small-reads.Asked, small-reads.Learnt) (each-at t) each.Post
 each-wide-requires t c κs =
     search needs
 
-each-add-elements : (t : ℕ) → each-lts.Need-add-elements (wide-reads.Asked, wide-reads.Learnt, elements-reads.Asked, elements-reads.Learnt, node-at-reads.Asked, node-at-reads.Learnt, cell-of-reads.Asked, cell-of-reads.Learnt, bind-reads.Asked, bind-reads.Learnt, stop-of-reads.Asked, stop-of-reads.Learnt, block-below t, block.Post, small-reads.Asked, small-reads.Learnt) (each-at t) each.Post
+each-add-elements : (t : ℕ) → each-lts.Need-add-elements (wide-reads.Asked, wide-reads.Learnt, elements-reads.Asked, elements-reads.Learnt, node-at-reads.Asked, node-at-reads.Learnt, bind-reads.Asked, bind-reads.Learnt, stop-of-reads.Asked, stop-of-reads.Learnt, block-below t, block.Post, small-reads.Asked, small-reads.Learnt) (each-at t) each.Post
 each-add-elements t c =
     omega (arith, few-nodes (c .before .before .before .before .before .before .before .pre .1 .1 .0 .ready .sound), c .before .before .before .before .before .before .before .pre .1 .1 .1 .there)
 
-each-elements-requires : (t : ℕ) → each-lts.Need-elements-requires (wide-reads.Asked, wide-reads.Learnt, elements-reads.Asked, elements-reads.Learnt, node-at-reads.Asked, node-at-reads.Learnt, cell-of-reads.Asked, cell-of-reads.Learnt, bind-reads.Asked, bind-reads.Learnt, stop-of-reads.Asked, stop-of-reads.Learnt, block-below t, block.Post, small-reads.Asked, small-reads.Learnt) (each-at t) each.Post
+each-elements-requires : (t : ℕ) → each-lts.Need-elements-requires (wide-reads.Asked, wide-reads.Learnt, elements-reads.Asked, elements-reads.Learnt, node-at-reads.Asked, node-at-reads.Learnt, bind-reads.Asked, bind-reads.Learnt, stop-of-reads.Asked, stop-of-reads.Learnt, block-below t, block.Post, small-reads.Asked, small-reads.Learnt) (each-at t) each.Post
 each-elements-requires t c κs =
     let r = standing-as refl (c .before .before .before .wide .ensures) refl (c .before .before .before .before .before .before .before .pre .1 .1 .0) in
     let p = pair-for (r .ready .sound) (c .before .before .before .before .before .before .before .pre .1 .1 .1) in
     (c .before .before .before .before .before .before .before .pre .1 .0, (first-ready r p, p .first))
 
-each-same-length : (t : ℕ) → each-lts.Need-same-length (wide-reads.Asked, wide-reads.Learnt, elements-reads.Asked, elements-reads.Learnt, node-at-reads.Asked, node-at-reads.Learnt, cell-of-reads.Asked, cell-of-reads.Learnt, bind-reads.Asked, bind-reads.Learnt, stop-of-reads.Asked, stop-of-reads.Learnt, block-below t, block.Post, small-reads.Asked, small-reads.Learnt) (each-at t) each.Post
+each-same-length : (t : ℕ) → each-lts.Need-same-length (wide-reads.Asked, wide-reads.Learnt, elements-reads.Asked, elements-reads.Learnt, node-at-reads.Asked, node-at-reads.Learnt, bind-reads.Asked, bind-reads.Learnt, stop-of-reads.Asked, stop-of-reads.Learnt, block-below t, block.Post, small-reads.Asked, small-reads.Learnt) (each-at t) each.Post
 each-same-length t c = search needs
 
-each-returns : (t : ℕ) → each-lts.Need-returns (wide-reads.Asked, wide-reads.Learnt, elements-reads.Asked, elements-reads.Learnt, node-at-reads.Asked, node-at-reads.Learnt, cell-of-reads.Asked, cell-of-reads.Learnt, bind-reads.Asked, bind-reads.Learnt, stop-of-reads.Asked, stop-of-reads.Learnt, block-below t, block.Post, small-reads.Asked, small-reads.Learnt) (each-at t) each.Post
+each-returns : (t : ℕ) → each-lts.Need-returns (wide-reads.Asked, wide-reads.Learnt, elements-reads.Asked, elements-reads.Learnt, node-at-reads.Asked, node-at-reads.Learnt, bind-reads.Asked, bind-reads.Learnt, stop-of-reads.Asked, stop-of-reads.Learnt, block-below t, block.Post, small-reads.Asked, small-reads.Learnt) (each-at t) each.Post
 each-returns t c =
     let r = standing-as refl (c .before .before .before .before .before .before .before .wide .ensures) refl (c .before .before .before .before .before .before .before .before .before .before .before .pre .1 .1 .0) in
     let k = c .before .before .before .elements .ensures .1 in (
@@ -511,71 +512,68 @@ each-returns t c =
       tells-kept k,
     )
 
-each-node-at-requires : (t : ℕ) → each-lts.Need-node-at-requires (wide-reads.Asked, wide-reads.Learnt, elements-reads.Asked, elements-reads.Learnt, node-at-reads.Asked, node-at-reads.Learnt, cell-of-reads.Asked, cell-of-reads.Learnt, bind-reads.Asked, bind-reads.Learnt, stop-of-reads.Asked, stop-of-reads.Learnt, block-below t, block.Post, small-reads.Asked, small-reads.Learnt) (each-at t) each.Post
+each-node-at-requires : (t : ℕ) → each-lts.Need-node-at-requires (wide-reads.Asked, wide-reads.Learnt, elements-reads.Asked, elements-reads.Learnt, node-at-reads.Asked, node-at-reads.Learnt, bind-reads.Asked, bind-reads.Learnt, stop-of-reads.Asked, stop-of-reads.Learnt, block-below t, block.Post, small-reads.Asked, small-reads.Learnt) (each-at t) each.Post
 each-node-at-requires t c κs =
     (c .before .before .before .before .before .before .before .before .before .before .before .pre .1 .1 .0 .ready .sound .headed, (c .before .before .before .before .before .before .before .before .before .before .before .pre .1 .1 .0 .ready .nodes-at, c .before .before .before .before .before .before .before .before .before .before .before .pre .1 .1 .1 .there))
 
-each-cell-of-requires : (t : ℕ) → each-lts.Need-cell-of-requires (wide-reads.Asked, wide-reads.Learnt, elements-reads.Asked, elements-reads.Learnt, node-at-reads.Asked, node-at-reads.Learnt, cell-of-reads.Asked, cell-of-reads.Learnt, bind-reads.Asked, bind-reads.Learnt, stop-of-reads.Asked, stop-of-reads.Learnt, block-below t, block.Post, small-reads.Asked, small-reads.Learnt) (each-at t) each.Post
-each-cell-of-requires t c κs =
-    let r = standing-as refl (c .before .before .before .before .before .before .before .before .wide .ensures) refl (c .before .before .before .before .before .before .before .before .before .before .before .before .pre .1 .1 .0) in
-    for-small r (c .before .before .before .before .before .before .before .before .before .before .before .before .pre .1 .1 .1) refl (c .before .before .before .before .elements .ensures .0) (went-well (c .before .before .before .before .elements .ensures .1) (c .before .if1 .left))
-
-each-cast-bind : (t : ℕ) → each-lts.Need-cast-bind (wide-reads.Asked, wide-reads.Learnt, elements-reads.Asked, elements-reads.Learnt, node-at-reads.Asked, node-at-reads.Learnt, cell-of-reads.Asked, cell-of-reads.Learnt, bind-reads.Asked, bind-reads.Learnt, stop-of-reads.Asked, stop-of-reads.Learnt, block-below t, block.Post, small-reads.Asked, small-reads.Learnt) (each-at t) each.Post
+each-cast-bind : (t : ℕ) → each-lts.Need-cast-bind (wide-reads.Asked, wide-reads.Learnt, elements-reads.Asked, elements-reads.Learnt, node-at-reads.Asked, node-at-reads.Learnt, bind-reads.Asked, bind-reads.Learnt, stop-of-reads.Asked, stop-of-reads.Learnt, block-below t, block.Post, small-reads.Asked, small-reads.Learnt) (each-at t) each.Post
 each-cast-bind t c = search needs
 
-each-bind-requires : (t : ℕ) → each-lts.Need-bind-requires (wide-reads.Asked, wide-reads.Learnt, elements-reads.Asked, elements-reads.Learnt, node-at-reads.Asked, node-at-reads.Learnt, cell-of-reads.Asked, cell-of-reads.Learnt, bind-reads.Asked, bind-reads.Learnt, stop-of-reads.Asked, stop-of-reads.Learnt, block-below t, block.Post, small-reads.Asked, small-reads.Learnt) (each-at t) each.Post
+each-bind-requires : (t : ℕ) → each-lts.Need-bind-requires (wide-reads.Asked, wide-reads.Learnt, elements-reads.Asked, elements-reads.Learnt, node-at-reads.Asked, node-at-reads.Learnt, bind-reads.Asked, bind-reads.Learnt, stop-of-reads.Asked, stop-of-reads.Learnt, block-below t, block.Post, small-reads.Asked, small-reads.Learnt) (each-at t) each.Post
 each-bind-requires t c κs =
-    let r = standing-as refl (c .before .before .before .before .before .before .before .before .before .before .before .before .wide .ensures) refl (c .before .before .before .before .before .before .before .before .before .before .before .before .before .before .before .before .pre .1 .1 .0) in
-    (r .ready .fit .high, for-name r (c .before .before .before .before .before .before .before .before .before .before .before .before .before .before .before .before .pre .1 .1 .1) (ap (λ d. d .arg) (c .before .before .before .before .node-at .ensures)) (c .before .before .before .before .before .before .before .before .elements .ensures .0))
+    let r = standing-as refl (c .before .before .before .before .before .before .before .before .before .before .before .wide .ensures) refl (c .before .before .before .before .before .before .before .before .before .before .before .before .before .before .before .pre .1 .1 .0) in
+    let q = c .before .before .before .before .before .before .before .before .before .before .before .before .before .before .before .pre .1 .1 .1 in
+    let m = ap (λ d. d .arg) (c .before .before .before .node-at .ensures) in
+    (r .ready .fit .high, for-name r q m (c .before .before .before .before .before .before .before .elements .ensures .0), for-small r q m (c .before .before .before .before .before .before .before .elements .ensures .0) (went-well (c .before .before .before .before .before .before .before .elements .ensures .1) (c .before .before .before .before .if1 .left)))
 
-each-add-stop-of : (t : ℕ) → each-lts.Need-add-stop-of (wide-reads.Asked, wide-reads.Learnt, elements-reads.Asked, elements-reads.Learnt, node-at-reads.Asked, node-at-reads.Learnt, cell-of-reads.Asked, cell-of-reads.Learnt, bind-reads.Asked, bind-reads.Learnt, stop-of-reads.Asked, stop-of-reads.Learnt, block-below t, block.Post, small-reads.Asked, small-reads.Learnt) (each-at t) each.Post
+each-add-stop-of : (t : ℕ) → each-lts.Need-add-stop-of (wide-reads.Asked, wide-reads.Learnt, elements-reads.Asked, elements-reads.Learnt, node-at-reads.Asked, node-at-reads.Learnt, bind-reads.Asked, bind-reads.Learnt, stop-of-reads.Asked, stop-of-reads.Learnt, block-below t, block.Post, small-reads.Asked, small-reads.Learnt) (each-at t) each.Post
 each-add-stop-of t c =
-    let h = few-nodes (c .before .before .before .before .before .before .before .before .before .before .before .before .before .before .before .before .before .pre .1 .1 .0 .ready .sound) in
-    let k = c .before .before .before .before .before .before .before .before .before .before .before .before .before .before .before .before .before .pre .1 .1 .1 .there in
+    let h = few-nodes (c .before .before .before .before .before .before .before .before .before .before .before .before .before .before .before .before .pre .1 .1 .0 .ready .sound) in
+    let k = c .before .before .before .before .before .before .before .before .before .before .before .before .before .before .before .before .pre .1 .1 .1 .there in
     omega arith
 
-each-stop-of-requires : (t : ℕ) → each-lts.Need-stop-of-requires (wide-reads.Asked, wide-reads.Learnt, elements-reads.Asked, elements-reads.Learnt, node-at-reads.Asked, node-at-reads.Learnt, cell-of-reads.Asked, cell-of-reads.Learnt, bind-reads.Asked, bind-reads.Learnt, stop-of-reads.Asked, stop-of-reads.Learnt, block-below t, block.Post, small-reads.Asked, small-reads.Learnt) (each-at t) each.Post
+each-stop-of-requires : (t : ℕ) → each-lts.Need-stop-of-requires (wide-reads.Asked, wide-reads.Learnt, elements-reads.Asked, elements-reads.Learnt, node-at-reads.Asked, node-at-reads.Learnt, bind-reads.Asked, bind-reads.Learnt, stop-of-reads.Asked, stop-of-reads.Learnt, block-below t, block.Post, small-reads.Asked, small-reads.Learnt) (each-at t) each.Post
 each-stop-of-requires t c κs =
-    let r = c .before .before .before .before .before .before .before .before .before .before .before .before .before .before .before .before .before .pre .1 .1 .0 in
-    (r .ready .sound .headed, (r .ready .nodes-at, pair-for (r .ready .sound) (c .before .before .before .before .before .before .before .before .before .before .before .before .before .before .before .before .before .pre .1 .1 .1) .first .there))
+    let r = c .before .before .before .before .before .before .before .before .before .before .before .before .before .before .before .before .pre .1 .1 .0 in
+    (r .ready .sound .headed, (r .ready .nodes-at, pair-for (r .ready .sound) (c .before .before .before .before .before .before .before .before .before .before .before .before .before .before .before .before .pre .1 .1 .1) .first .there))
 
-each-block-requires : (t : ℕ) → each-lts.Need-block-requires (wide-reads.Asked, wide-reads.Learnt, elements-reads.Asked, elements-reads.Learnt, node-at-reads.Asked, node-at-reads.Learnt, cell-of-reads.Asked, cell-of-reads.Learnt, bind-reads.Asked, bind-reads.Learnt, stop-of-reads.Asked, stop-of-reads.Learnt, block-below t, block.Post, small-reads.Asked, small-reads.Learnt) (each-at t) each.Post
+each-block-requires : (t : ℕ) → each-lts.Need-block-requires (wide-reads.Asked, wide-reads.Learnt, elements-reads.Asked, elements-reads.Learnt, node-at-reads.Asked, node-at-reads.Learnt, bind-reads.Asked, bind-reads.Learnt, stop-of-reads.Asked, stop-of-reads.Learnt, block-below t, block.Post, small-reads.Asked, small-reads.Learnt) (each-at t) each.Post
 each-block-requires t c κs =
-    let r = standing-as refl (c .before .before .before .before .before .before .before .before .before .before .before .before .before .before .before .before .before .before .wide .ensures) refl (c .before .before .before .before .before .before .before .before .before .before .before .before .before .before .before .before .before .before .before .before .before .before .pre .1 .1 .0) in
-    let q = c .before .before .before .before .before .before .before .before .before .before .before .before .before .before .before .before .before .before .before .before .before .before .pre .1 .1 .1 in
-    let k = c .before .before .before .before .before .before .before .before .before .before .before .before .before .before .elements .ensures .1 in
-    let m = ap (λ d. d .arg) (c .before .before .before .before .before .before .before .before .before .before .node-at .ensures) in (
-      omega (arith, c .before .before .before .before .before .before .before .before .before .before .before .before .before .before .before .before .before .before .before .before .before .before .pre .0),
+    let r = standing-as refl (c .before .before .before .before .before .before .before .before .before .before .before .before .before .before .before .before .before .wide .ensures) refl (c .before .before .before .before .before .before .before .before .before .before .before .before .before .before .before .before .before .before .before .before .before .pre .1 .1 .0) in
+    let q = c .before .before .before .before .before .before .before .before .before .before .before .before .before .before .before .before .before .before .before .before .before .pre .1 .1 .1 in
+    let k = c .before .before .before .before .before .before .before .before .before .before .before .before .before .elements .ensures .1 in
+    let m = ap (λ d. d .arg) (c .before .before .before .before .before .before .before .before .before .node-at .ensures) in (
+      omega (arith, c .before .before .before .before .before .before .before .before .before .before .before .before .before .before .before .before .before .before .before .before .before .pre .0),
       (
         kept-noting k,
         (
-          standing-as refl (k .top ∙ sym (c .before .before .before .before .before .before .before .before .before .before .before .before .before .before .before .before .before .before .wide .ensures)) (k .ret)
-              (for-standing r q m (c .before .before .before .before .before .before .before .before .before .before .before .before .before .before .elements .ensures .0) (went-well k (c .before .before .before .before .before .before .before .before .before .before .before .if1 .left)) (c .before .before .before .before .before .before .before .before .before .cell-of .ensures) (c .before .before .before .before .before .bind .ensures) (c .before .before .before .before .stop-of .ensures)),
+          standing-as refl (k .top ∙ sym (c .before .before .before .before .before .before .before .before .before .before .before .before .before .before .before .before .before .wide .ensures)) (k .ret)
+              (for-standing r q m (c .before .before .before .before .before .before .before .before .before .before .before .before .before .elements .ensures .0) (went-well k (c .before .before .before .before .before .before .before .before .before .before .if1 .left)) (c .before .before .before .before .before .bind .ensures) (c .before .before .before .before .stop-of .ensures)),
           second-at r (pair-for (r .ready .sound) q) (c .before .before .before .before .stop-of .ensures),
         ),
       ),
     )
 
-each-small-requires : (t : ℕ) → each-lts.Need-small-requires (wide-reads.Asked, wide-reads.Learnt, elements-reads.Asked, elements-reads.Learnt, node-at-reads.Asked, node-at-reads.Learnt, cell-of-reads.Asked, cell-of-reads.Learnt, bind-reads.Asked, bind-reads.Learnt, stop-of-reads.Asked, stop-of-reads.Learnt, block-below t, block.Post, small-reads.Asked, small-reads.Learnt) (each-at t) each.Post
+each-small-requires : (t : ℕ) → each-lts.Need-small-requires (wide-reads.Asked, wide-reads.Learnt, elements-reads.Asked, elements-reads.Learnt, node-at-reads.Asked, node-at-reads.Learnt, bind-reads.Asked, bind-reads.Learnt, stop-of-reads.Asked, stop-of-reads.Learnt, block-below t, block.Post, small-reads.Asked, small-reads.Learnt) (each-at t) each.Post
 each-small-requires t c κs =
-    omega (arith, c .before .before .before .before .before .before .before .before .before .before .before .before .before .before .before .before .before .before .before .before .before .wide .ensures, c .before .before .before .before .before .before .before .before .before .before .before .before .before .before .before .before .before .before .before .before .before .before .before .before .before .pre .1 .1 .0 .ready .fit .high)
+    omega (arith, c .before .before .before .before .before .before .before .before .before .before .before .before .before .before .before .before .before .before .before .before .wide .ensures, c .before .before .before .before .before .before .before .before .before .before .before .before .before .before .before .before .before .before .before .before .before .before .before .before .pre .1 .1 .0 .ready .fit .high)
 
-each-element-write-notes : (t : ℕ) → each-lts.Need-element-write-notes (wide-reads.Asked, wide-reads.Learnt, elements-reads.Asked, elements-reads.Learnt, node-at-reads.Asked, node-at-reads.Learnt, cell-of-reads.Asked, cell-of-reads.Learnt, bind-reads.Asked, bind-reads.Learnt, stop-of-reads.Asked, stop-of-reads.Learnt, block-below t, block.Post, small-reads.Asked, small-reads.Learnt) (each-at t) each.Post
+each-element-write-notes : (t : ℕ) → each-lts.Need-element-write-notes (wide-reads.Asked, wide-reads.Learnt, elements-reads.Asked, elements-reads.Learnt, node-at-reads.Asked, node-at-reads.Learnt, bind-reads.Asked, bind-reads.Learnt, stop-of-reads.Asked, stop-of-reads.Learnt, block-below t, block.Post, small-reads.Asked, small-reads.Learnt) (each-at t) each.Post
 each-element-write-notes t c = search needs
 
-each-same-length-2 : (t : ℕ) → each-lts.Need-same-length-2 (wide-reads.Asked, wide-reads.Learnt, elements-reads.Asked, elements-reads.Learnt, node-at-reads.Asked, node-at-reads.Learnt, cell-of-reads.Asked, cell-of-reads.Learnt, bind-reads.Asked, bind-reads.Learnt, stop-of-reads.Asked, stop-of-reads.Learnt, block-below t, block.Post, small-reads.Asked, small-reads.Learnt) (each-at t) each.Post
+each-same-length-2 : (t : ℕ) → each-lts.Need-same-length-2 (wide-reads.Asked, wide-reads.Learnt, elements-reads.Asked, elements-reads.Learnt, node-at-reads.Asked, node-at-reads.Learnt, bind-reads.Asked, bind-reads.Learnt, stop-of-reads.Asked, stop-of-reads.Learnt, block-below t, block.Post, small-reads.Asked, small-reads.Learnt) (each-at t) each.Post
 each-same-length-2 t c = search needs
 
-each-returns-2 : (t : ℕ) → each-lts.Need-returns-2 (wide-reads.Asked, wide-reads.Learnt, elements-reads.Asked, elements-reads.Learnt, node-at-reads.Asked, node-at-reads.Learnt, cell-of-reads.Asked, cell-of-reads.Learnt, bind-reads.Asked, bind-reads.Learnt, stop-of-reads.Asked, stop-of-reads.Learnt, block-below t, block.Post, small-reads.Asked, small-reads.Learnt) (each-at t) each.Post
+each-returns-2 : (t : ℕ) → each-lts.Need-returns-2 (wide-reads.Asked, wide-reads.Learnt, elements-reads.Asked, elements-reads.Learnt, node-at-reads.Asked, node-at-reads.Learnt, bind-reads.Asked, bind-reads.Learnt, stop-of-reads.Asked, stop-of-reads.Learnt, block-below t, block.Post, small-reads.Asked, small-reads.Learnt) (each-at t) each.Post
 each-returns-2 t c =
-    let r = standing-as refl (c .before .before .before .before .before .before .before .before .before .before .before .before .before .before .before .before .before .before .before .before .before .before .wide .ensures) refl (c .before .before .before .before .before .before .before .before .before .before .before .before .before .before .before .before .before .before .before .before .before .before .before .before .before .before .pre .1 .1 .0) in
-    let q = c .before .before .before .before .before .before .before .before .before .before .before .before .before .before .before .before .before .before .before .before .before .before .before .before .before .before .pre .1 .1 .1 in
-    let k = c .before .before .before .before .before .before .before .before .before .before .before .before .before .before .before .before .before .before .elements .ensures .1 in
-    let m = ap (λ d. d .arg) (c .before .before .before .before .before .before .before .before .before .before .before .before .before .before .node-at .ensures) in
-    let d = body-from _ _ _ _ _ _ refl (k .top ∙ sym (c .before .before .before .before .before .before .before .before .before .before .before .before .before .before .before .before .before .before .before .before .before .before .wide .ensures)) (k .ret) (c .before .before .before .block .ensures .0) in
+    let r = standing-as refl (c .before .before .before .before .before .before .before .before .before .before .before .before .before .before .before .before .before .before .before .before .before .wide .ensures) refl (c .before .before .before .before .before .before .before .before .before .before .before .before .before .before .before .before .before .before .before .before .before .before .before .before .before .pre .1 .1 .0) in
+    let q = c .before .before .before .before .before .before .before .before .before .before .before .before .before .before .before .before .before .before .before .before .before .before .before .before .before .pre .1 .1 .1 in
+    let k = c .before .before .before .before .before .before .before .before .before .before .before .before .before .before .before .before .before .elements .ensures .1 in
+    let m = ap (λ d. d .arg) (c .before .before .before .before .before .before .before .before .before .before .before .before .before .node-at .ensures) in
+    let d = body-from _ _ _ _ _ _ refl (k .top ∙ sym (c .before .before .before .before .before .before .before .before .before .before .before .before .before .before .before .before .before .before .before .before .before .wide .ensures)) (k .ret) (c .before .before .before .block .ensures .0) in
     let s = top-set (c .before .before .before .block .ensures .1 .0 .noting) (c .small .ensures) in (
-      (λ loop. acted-from _ _ _ _ _ _ (c .before .before .before .before .before .before .before .before .before .before .before .before .before .before .before .before .before .before .before .before .before .before .wide .ensures) (done-moved (s .moved) _ (s .top-is) (s .ret-kept)
-          (for-done r q m (c .before .before .before .before .before .before .before .before .before .before .before .before .before .before .before .before .before .before .elements .ensures .0) (went-well k (c .before .before .before .before .before .before .before .before .before .before .before .before .before .before .before .if1 .left)) (c .before .before .before .before .before .before .before .before .before .before .before .before .before .cell-of .ensures) (c .before .before .before .before .before .before .before .before .before .bind .ensures) (c .before .before .before .before .before .before .before .before .stop-of .ensures) d loop))),
+      (λ loop. acted-from _ _ _ _ _ _ (c .before .before .before .before .before .before .before .before .before .before .before .before .before .before .before .before .before .before .before .before .before .wide .ensures) (done-moved (s .moved) _ (s .top-is) (s .ret-kept)
+          (for-done r q m (c .before .before .before .before .before .before .before .before .before .before .before .before .before .before .before .before .before .elements .ensures .0) (went-well k (c .before .before .before .before .before .before .before .before .before .before .before .before .before .before .if1 .left)) (c .before .before .before .before .before .before .before .before .before .bind .ensures) (c .before .before .before .before .before .before .before .before .stop-of .ensures) d loop))),
       tells-moved (s .moved) (c .before .before .before .block .ensures .1 .0),
     )
 
@@ -816,10 +814,9 @@ stmt-returns-5 t c =
 pub +block+choices+define+each+one-arm+repeat+stmt-spec : {M : Type 1} → statement M
 +block+choices+define+each+one-arm+repeat+stmt-spec =
     close μ-block μ-choices μ-define μ-each μ-one-arm μ-repeat μ-stmt
-    (λ t. block-lts.spec (node-at-reads.Asked, node-at-reads.Learnt, stmt-below t, stmt.Post, stop-of-reads.Asked, stop-of-reads.Learnt) (block-at t) block.Post block-Inv-loop block-μ-loop
-    (block-node-at-requires t)
+    (λ t. block-lts.spec (next-reads.Asked, next-reads.Learnt, stmt-below t, stmt.Post, over-reads.Asked, over-reads.Learnt) (block-at t) block.Post block-Inv-loop block-μ-loop
+    (block-next-requires t)
     (block-sub-d t)
-    (block-add-j t)
     (block-cast-left t)
     (block-loop-holds t)
     (block-stmt-requires t)
@@ -828,7 +825,7 @@ pub +block+choices+define+each+one-arm+repeat+stmt-spec : {M : Type 1} → state
     (block-returns t)
     (block-same-length-2 t)
     (block-returns-2 t)
-    (block-stop-of-requires t)
+    (block-over-requires t)
     (block-sub-left t)
     (block-loop-less t)
     (block-loop-again t)
@@ -887,7 +884,7 @@ pub +block+choices+define+each+one-arm+repeat+stmt-spec : {M : Type 1} → state
     (define-element-write-notes-4 t)
     (define-same-length-2 t)
     (define-returns-3 t))
-    (λ t. each-lts.spec (wide-reads.Asked, wide-reads.Learnt, elements-reads.Asked, elements-reads.Learnt, node-at-reads.Asked, node-at-reads.Learnt, cell-of-reads.Asked, cell-of-reads.Learnt, bind-reads.Asked, bind-reads.Learnt, stop-of-reads.Asked, stop-of-reads.Learnt, block-below t, block.Post, small-reads.Asked, small-reads.Learnt) (each-at t) each.Post
+    (λ t. each-lts.spec (wide-reads.Asked, wide-reads.Learnt, elements-reads.Asked, elements-reads.Learnt, node-at-reads.Asked, node-at-reads.Learnt, bind-reads.Asked, bind-reads.Learnt, stop-of-reads.Asked, stop-of-reads.Learnt, block-below t, block.Post, small-reads.Asked, small-reads.Learnt) (each-at t) each.Post
     (each-element-copy-out-wide t)
     (each-wide-requires t)
     (each-add-elements t)
@@ -895,7 +892,6 @@ pub +block+choices+define+each+one-arm+repeat+stmt-spec : {M : Type 1} → state
     (each-same-length t)
     (each-returns t)
     (each-node-at-requires t)
-    (each-cell-of-requires t)
     (each-cast-bind t)
     (each-bind-requires t)
     (each-add-stop-of t)
