@@ -11,14 +11,23 @@ ghost use Rattle.types.specs.Table.{tab};
 ghost use Rattle.frames.specs.Env.{framesOf};
 ghost use Rattle.checker.specs.Answers.{Answers, Wrote, Told, numbersOf, numbersIn, bareNumbers, readingNumbers, rewritingNumbers, rewritten, Rewrote, replyMeans, Replies, Relaid};
 ghost use Rattle.checker.specs.Steps.{Sized, Lent, Accepting, Refusing, refusedAs};
+use frames::ABSENT;
+use frames::Frames;
 use image::Judged;
 use image::areas;
 use image::judge;
 use image::node_at;
+use limits::MOST_FRAMES;
+use limits::MOST_NAMES;
+use limits::MOST_NODES;
 use names::list_names;
+use rules::codes;
 use sheet::read;
 use stmt::program;
+use types::CELLS;
 use types::Counts;
+use types::FRESH;
+use types::STRUCTURED;
 use types::start;
 
 // A typing refusal: its code, 20 to 50, its node with its span, and the length of its message, 0 if that did not fit.
@@ -53,7 +62,7 @@ fn accept(
     image: &[u8],
     table: &[u16],
     counts: Counts,
-    frames: &[[u16; 128]; 8],
+    frames: &Frames,
     top: usize,
     sheet: &mut [u8],
 ) -> Answer
@@ -101,7 +110,7 @@ fn refuse(
 
 // ---- the whole
 
-// The answer for a well-formed image, by a table that has room for its nodes, whatever it holds.
+// The answer for a well-formed image, by a fresh table that has room for its nodes.
 fn walk_in(
     image: &[u8],
     nodes: usize,
@@ -114,14 +123,14 @@ fn walk_in(
         r (now (sheet .entry)) (now (sheet .exit)) (now (message .entry)) (now (message .exit)) ⌝ }
 {
     start(table);
-    let mut frames = [[0u16; 128]; 8];
-    let mut stack = [1u16; 2048];
+    let mut frames = [[ABSENT; MOST_NAMES]; MOST_FRAMES];
+    let mut stack = [FRESH; MOST_NODES];
     let w = program(image, nodes, &mut frames, table, &mut stack);
     let code = w.code;
     if code == 0 {
         return accept(image, table, w.counts, &frames, w.top, sheet);
     }
-    if code == 9 {
+    if code == codes::NINTH_FRAME {
         return Answer::NinthFrame(w.place);
     }
     refuse(
@@ -137,14 +146,24 @@ fn walk_in(
     )
 }
 
-// A filled array costs a store for each few cells, so that few nodes get a small table: 6 cells for each node and each of the 8 plain types.
+// A filled array costs a store for each few cells, so that few nodes get a small table: room for the plain types and one for each node.
+const FEW: usize = 64;
+
+const SOME: usize = 512;
+
+const FEW_CELLS: usize = CELLS * (STRUCTURED + FEW);
+
+const SOME_CELLS: usize = CELLS * (STRUCTURED + SOME);
+
+const MANY_CELLS: usize = CELLS * (STRUCTURED + MOST_NODES);
+
 // Each size has its own function, and so its own frame.
 fn walk_few(image: &[u8], nodes: usize, sheet: &mut [u8], message: &mut [u8]) -> Answer
     requires { ⌜ Sized (now image) nodes 64 ⌝ }
     ensures { λ r. ⌜ Answers (answer (now (image .entry)) (length (now (sheet .entry))) (length (now (message .entry))))
         r (now (sheet .entry)) (now (sheet .exit)) (now (message .entry)) (now (message .exit)) ⌝ }
 {
-    let mut table = [1u16; 432];
+    let mut table = [FRESH; FEW_CELLS];
     walk_in(image, nodes, &mut table, sheet, message)
 }
 
@@ -153,7 +172,7 @@ fn walk_some(image: &[u8], nodes: usize, sheet: &mut [u8], message: &mut [u8]) -
     ensures { λ r. ⌜ Answers (answer (now (image .entry)) (length (now (sheet .entry))) (length (now (message .entry))))
         r (now (sheet .entry)) (now (sheet .exit)) (now (message .entry)) (now (message .exit)) ⌝ }
 {
-    let mut table = [1u16; 3120];
+    let mut table = [FRESH; SOME_CELLS];
     walk_in(image, nodes, &mut table, sheet, message)
 }
 
@@ -162,7 +181,7 @@ fn walk_many(image: &[u8], nodes: usize, sheet: &mut [u8], message: &mut [u8]) -
     ensures { λ r. ⌜ Answers (answer (now (image .entry)) (length (now (sheet .entry))) (length (now (message .entry))))
         r (now (sheet .entry)) (now (sheet .exit)) (now (message .entry)) (now (message .exit)) ⌝ }
 {
-    let mut table = [1u16; 12336];
+    let mut table = [FRESH; MANY_CELLS];
     walk_in(image, nodes, &mut table, sheet, message)
 }
 
@@ -173,10 +192,10 @@ fn walk_image(image: &[u8], sheet: &mut [u8], message: &mut [u8]) -> Answer
         r (now (sheet .entry)) (now (sheet .exit)) (now (message .entry)) (now (message .exit)) ⌝ }
 {
     let l = areas(image);
-    if l.count <= 64 {
+    if l.count <= FEW {
         return walk_few(image, l.nodes, sheet, message);
     }
-    if l.count <= 512 {
+    if l.count <= SOME {
         return walk_some(image, l.nodes, sheet, message);
     }
     walk_many(image, l.nodes, sheet, message)
@@ -213,7 +232,7 @@ pub enum Reading {
 pub fn read_sheet(sheet: &[u8]) -> Reading
     ensures { λ r. ⌜ readingNumbers r ≡ numbersIn (readAnswer (now (sheet .entry))) ⌝ }
 {
-    let mut table = [1u16; 12336];
+    let mut table = [FRESH; MANY_CELLS];
     let mut names = [0u32; 384];
     let r = read(sheet, &mut table, &mut names);
     if r.stands {
@@ -233,7 +252,7 @@ pub enum Rewriting {
 pub fn write_sheet(sheet: &[u8], out: &mut [u8]) -> Rewriting
     ensures { λ r. ⌜ Rewrote (rewritten (now (sheet .entry)) (length (now (out .entry)))) r (now (out .entry)) (now (out .exit)) ⌝ }
 {
-    let mut table = [1u16; 12336];
+    let mut table = [FRESH; MANY_CELLS];
     let mut names = [0u32; 384];
     let r = read(sheet, &mut table, &mut names);
     if !r.stands {

@@ -13,8 +13,9 @@ use frames::Frames;
 use frames::lookup;
 use image::kinds;
 use image::node_at;
-use nodes::NO_TYPE;
+use nodes::ERR;
 use nodes::Notes;
+use nodes::OK;
 use nodes::Stack;
 use nodes::argued;
 use nodes::counts_of;
@@ -244,7 +245,7 @@ fn values(
             at,
             depth,
         );
-        if r == NO_TYPE {
+        if r == ERR {
             return r;
         }
         push(stack, up, r);
@@ -252,7 +253,7 @@ fn values(
         at = stop_of(image, nodes, at);
         left -= 1;
     }
-    0
+    OK
 }
 
 // A node whose children are all checked before its rule looks at them.
@@ -288,7 +289,7 @@ fn operands(
         n,
         depth,
     );
-    if r == NO_TYPE {
+    if r == ERR {
         return r;
     }
     decide(image, nodes, table, notes, stack, sp, at)
@@ -326,7 +327,7 @@ fn pair(
         left,
         depth,
     );
-    if l == NO_TYPE {
+    if l == ERR {
         return l;
     }
     push(stack, sp, l);
@@ -343,7 +344,7 @@ fn pair(
         right,
         depth,
     );
-    if r == NO_TYPE {
+    if r == ERR {
         return r;
     }
     operated(table, notes, l, r, at, node.arg)
@@ -385,7 +386,7 @@ fn list(
             1,
             depth,
         );
-        if r == NO_TYPE {
+        if r == ERR {
             return r;
         }
         let step = list_step(element, number_at(stack, sp));
@@ -436,7 +437,7 @@ fn dict(
             2,
             depth,
         );
-        if r == NO_TYPE {
+        if r == ERR {
             return r;
         }
         let pair = dict_step(key, value, number_at(stack, sp), number_at(stack, sp + 1));
@@ -573,7 +574,7 @@ fn arguments(
                 look,
                 depth,
             );
-            if r == NO_TYPE {
+            if r == ERR {
                 return r;
             }
             argued(table, notes, stack, sp, rule, look, at)
@@ -617,7 +618,7 @@ fn bounds(
             1,
             depth,
         );
-        if r == NO_TYPE {
+        if r == ERR {
             return r;
         }
         let d = bound(number_at(stack, sp));
@@ -673,7 +674,7 @@ fn streams(
         1, // the first alone
         depth,
     );
-    if r == NO_TYPE {
+    if r == ERR {
         return r;
     }
     let d = callable(number_at(stack, sp), first_code(filters));
@@ -694,7 +695,7 @@ fn streams(
         1,
         depth,
     );
-    if s == NO_TYPE {
+    if s == ERR {
         return s;
     }
     let f = stream(table, counts_of(notes), filters, number_at(stack, sp));

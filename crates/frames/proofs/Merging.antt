@@ -3,7 +3,6 @@ use mathlib.Core.Path.{_≡_, refl, sym, ap, _∙_, subst}
 use mathlib.Core.List.{List, [], _∷_, _++_, map}
 use mathlib.Core.Bool.{Bool, true, false, not}
 use mathlib.Core.Option.{Option, none, some}
-use mathlib.Core.Logic.{inl, inr}
 use Prim.Native.Nat.{ℕ, zero, suc, _+_, _-_, _*_, _≤_, _<_}
 use native.Mathlib.Omega.{arith}
 use native.Mathlib.Decide.{decLt, ℕ-discrete}
@@ -24,6 +23,8 @@ use Rattle.meaning.specs.Message.{aText}
 use Rattle.meaning.specs.Frames.{Frame, Frames, newest, slotIn}
 use Rattle.meaning.specs.Walk.{State, state, bind, End, done, wrong, tooDeep, refuse, _>>=_, sameSlot, tells, assigned, mergeName, mergeNames, merge}
 use Rattle.frames.specs.Env.{Rows, cell, put, pick, look, slot, frameOf, below, framesOf, Fit, mergeEnd, tellsCell, noteCell, clashCell, Noted, settleName, settle, Committed}
+use Rattle.frames.specs.declared.Merge.{Merge}
+use Rattle.frames.specs.declared.Merge.the-variants.{Whole, Clash}
 use Rattle.frames.proofs.Laws.{zeros, slot-row, slot-grown, frames-put-cell, fit-put}
 
 never : {A : Type 0} → _≡_ {A = Bool} false true → A
@@ -262,11 +263,11 @@ noted-more {base} {branch} {ms} {ns} {cs} {ds} {x} r q n h l e f =
     }
 
 -- ---- the loop of `commit`
-pub record Committing (fs : Rows) (top : ℕ) (ms : List ℕ) (cs : List Bool) (place : ℕ) (gs : Rows) (x : ℕ) : Type 0 where
+pub record Committing (fs : Rows) (top : ℕ) (ms : List ℕ) (cs : List Bool) (gs : Rows) (x : ℕ) : Type 0 where
   pub here : x ≤ 128
   pub long : length gs ≡ 8
-  pub answer : (ws : List Name) (t : Tab) (r : Ty) → settle ws place (λ y. slot t (getD ms y 0)) (λ y. getD cs y false) (count 0 mostNames) (state (framesOf t fs top) r)
-      ≡ settle ws place (λ y. slot t (getD ms y 0)) (λ y. getD cs y false) (count x (128 - x)) (state (framesOf t gs top) r)
+  pub answer : (ws : List Name) (c : ℕ) (t : Tab) (r : Ty) → settle ws c (λ y. slot t (getD ms y 0)) (λ y. getD cs y false) (count 0 mostNames) (state (framesOf t fs top) r)
+      ≡ settle ws c (λ y. slot t (getD ms y 0)) (λ y. getD cs y false) (count x (128 - x)) (state (framesOf t gs top) r)
   pub fit : (t : Tab) → Fit t fs top → ((y : ℕ) → getD ms y 0 ≤ t.n) → Fit t gs top
 
 count-down : (x n : ℕ) → 0 < n → count x n ≡ x ∷ count (x + 1) (n - 1)
@@ -274,54 +275,53 @@ unfolding count
 count-down x zero h = absurd (omega arith)
 count-down x (suc n) h = rw (sub-one (suc n), add-one x)
 
-pub committing-first : (fs : Rows) (top : ℕ) (ms : List ℕ) (cs : List Bool) (place : ℕ) → length fs ≡ 8 → Committing fs top ms cs place fs 0
-committing-first fs top ms cs place l = record { here = omega arith; long = l; answer = λ ws t r. refl; fit = λ t f h. f }
+pub committing-first : (fs : Rows) (top : ℕ) (ms : List ℕ) (cs : List Bool) → length fs ≡ 8 → Committing fs top ms cs fs 0
+committing-first fs top ms cs l = record { here = omega arith; long = l; answer = λ ws c t r. refl; fit = λ t f h. f }
 
 slot-some : (t : Tab) (m : ℕ) → (m ≡ 0 → ⊥) → slot t m ≡ some (denote t (m - 1))
 unfolding slot
 slot-some t zero z = absurd (z refl)
 slot-some t (suc m) z = rw (sub-one (suc m))
 
-module _ {fs gs : Rows} {top : ℕ} {ms : List ℕ} {cs : List Bool} {place x : ℕ} (l : Committing fs top ms cs place gs x) (p : x < 128) where
-  committing-answer : (ws : List Name) (t : Tab) (r : Ty) → settle ws place (λ y. slot t (getD ms y 0)) (λ y. getD cs y false) (count 0 mostNames) (state (framesOf t fs top) r)
-      ≡ (settleName ws place x (slot t (getD ms x 0)) (getD cs x false) (state (framesOf t gs top) r)
-      >>= λ s. settle ws place (λ y. slot t (getD ms y 0)) (λ y. getD cs y false) (count (x + 1) (128 - (x + 1))) s)
+module _ {fs gs : Rows} {top : ℕ} {ms : List ℕ} {cs : List Bool} {x : ℕ} (l : Committing fs top ms cs gs x) (p : x < 128) where
+  committing-answer : (ws : List Name) (c : ℕ) (t : Tab) (r : Ty) → settle ws c (λ y. slot t (getD ms y 0)) (λ y. getD cs y false) (count 0 mostNames) (state (framesOf t fs top) r)
+      ≡ (settleName ws c x (slot t (getD ms x 0)) (getD cs x false) (state (framesOf t gs top) r)
+      >>= λ s. settle ws c (λ y. slot t (getD ms y 0)) (λ y. getD cs y false) (count (x + 1) (128 - (x + 1))) s)
   unfolding settle
-  committing-answer ws t r =
+  committing-answer ws c t r =
       let e : 128 - x - 1 ≡ 128 - (x + 1) = omega arith in
-      l .answer ws t r ∙ rw (count-down x (128 - x) (omega arith), e)
+      l .answer ws c t r ∙ rw (count-down x (128 - x) (omega arith), e)
 
-  pub committing-skip : getD ms x 0 ≡ 0 → Committing fs top ms cs place gs (x + 1)
+  pub committing-skip : getD ms x 0 ≡ 0 → Committing fs top ms cs gs (x + 1)
   unfolding settleName slot _>>=_
-  committing-skip z = record { here = omega arith; long = l .long; answer = λ ws t r. rw z at (committing-answer ws t r); fit = l .fit }
+  committing-skip z = record { here = omega arith; long = l .long; answer = λ ws c t r. rw z at (committing-answer ws c t r); fit = l .fit }
 
-  pub committing-put : (m : ℕ) → m ≡ getD ms x 0 → (m ≡ 0 → ⊥) → getD cs x false ≡ false → top < 8 → Committing fs top ms cs place (put gs top x m) (x + 1)
+  pub committing-put : (m : ℕ) → m ≡ getD ms x 0 → (m ≡ 0 → ⊥) → getD cs x false ≡ false → top < 8 → Committing fs top ms cs (put gs top x m) (x + 1)
   unfolding settleName _>>=_
-  committing-put m e z c h = record {
+  committing-put m e z o h = record {
     here = omega arith;
     long = length-set gs top _ ∙ l .long;
-    answer = λ ws t r. rw (← e, c, slot-some t m z, ← (frames-put-cell t gs top x m (omega (arith, l .long)) z)) at (committing-answer ws t r);
+    answer = λ ws c t r. rw (← e, o, slot-some t m z, ← (frames-put-cell t gs top x m (omega (arith, l .long)) z)) at (committing-answer ws c t r);
     fit = λ t f b. fit-put x m (l .fit t f b) (rw e (b x));
   }
 
-  pub committing-clash : (m : ℕ) → m ≡ getD ms x 0 → (m ≡ 0 → ⊥) → getD cs x false ≡ true → Committed fs gs top ms cs place 23 x
-  unfolding settleName _>>=_ mergeEnd if_then_else_
-  committing-clash m e z c = record {
-    says = λ ws t r. rw (← e, c, slot-some t m z) at (committing-answer ws t r);
+  pub committing-clash : (m : ℕ) → m ≡ getD ms x 0 → (m ≡ 0 → ⊥) → getD cs x false ≡ true → Committed fs gs top ms cs (Clash x)
+  unfolding settleName _>>=_ mergeEnd
+  committing-clash m e z o = record {
+    says = λ ws c t r. rw (← e, o, slot-some t m z) at (committing-answer ws c t r);
     fit = l .fit;
-    codes = inr refl;
   }
 
-pub committing-end : {fs gs : Rows} {top : ℕ} {ms : List ℕ} {cs : List Bool} {place x : ℕ} → Committing fs top ms cs place gs x → 128 ≤ x
-    → Committed fs gs top ms cs place 0 0
-unfolding settle mergeEnd if_then_else_ count
+pub committing-end : {fs gs : Rows} {top : ℕ} {ms : List ℕ} {cs : List Bool} {x : ℕ} → Committing fs top ms cs gs x → 128 ≤ x
+    → Committed fs gs top ms cs Whole
+unfolding settle mergeEnd count
 committing-end {x = x} l p =
     let e : 128 - x ≡ 0 = omega arith in
-    record { says = λ ws t r. rw e at (l .answer ws t r); fit = l .fit; codes = inl refl }
+    record { says = λ ws c t r. rw e at (l .answer ws c t r); fit = l .fit }
 
 -- ---- what `commit` leaves is what the definition's merge leaves
-pub merged : {t : Tab} {fs gs : Rows} {top : ℕ} {Γ : Frames} {Δs : List Frames} {ms : List ℕ} {cs : List Bool} {place code name : ℕ} (ws : List Name) (y : Ty)
-    → Γ ≡ framesOf t fs top → Tally t Γ Δs ms cs → Committed fs gs top ms cs place code name → merge ws place Δs (state Γ y) ≡ mergeEnd ws t gs top y code place name
+pub merged : {t : Tab} {fs gs : Rows} {top : ℕ} {Γ : Frames} {Δs : List Frames} {ms : List ℕ} {cs : List Bool} {m : Merge} (ws : List Name) (c : ℕ) (y : Ty)
+    → Γ ≡ framesOf t fs top → Tally t Γ Δs ms cs → Committed fs gs top ms cs m → merge ws c Δs (state Γ y) ≡ mergeEnd ws c m (state (framesOf t gs top) y)
 unfolding merge
-merged {t} {fs} {gs} {top} {Γ} {Δs} {ms} {cs} {place} ws y e a c =
-    merge-settle ws place Γ Δs (λ x. slot t (getD ms x 0)) (λ x. getD cs x false) 0 mostNames (state Γ y) (omega arith) (a .first) (a .clash) ∙ rw e (c .says ws t y)
+merged {t} {fs} {gs} {top} {Γ} {Δs} {ms} {cs} ws c y e a m =
+    merge-settle ws c Γ Δs (λ x. slot t (getD ms x 0)) (λ x. getD cs x false) 0 mostNames (state Γ y) (omega arith) (a .first) (a .clash) ∙ rw e (m .says ws c t y)

@@ -3,7 +3,6 @@ use mathlib.Core.Path.{_≡_}
 use mathlib.Core.Bool.{Bool, true, false}
 use mathlib.Core.List.{List, [], _∷_, map}
 use mathlib.Core.Option.{Option, none, some}
-use mathlib.Core.Logic.{_⊎_}
 use Prim.Native.Nat.{ℕ, zero, suc, _+_, _-_, _≤_, _<_}
 use lib.Dec.{eqb, ltb, leb}
 use lib.ListN.{length, getD, set}
@@ -15,6 +14,8 @@ use Rattle.meaning.specs.Image.{Name, nameOf}
 use Rattle.meaning.specs.Message.{aText}
 use Rattle.meaning.specs.Frames.{Frame, Frames, lookup, write}
 use Rattle.meaning.specs.Walk.{State, state, End, done, refuse, _>>=_, bind}
+use Rattle.frames.specs.declared.Merge.{Merge}
+use Rattle.frames.specs.declared.Merge.the-variants.{Whole, Clash}
 
 abbrev pub Rows : Type 0
 Rows = List (List ℕ)
@@ -102,14 +103,22 @@ unfoldable pub settle : List Name → ℕ → (ℕ → Option Ty) → (ℕ → B
 settle ws c first clash [] s = done s
 settle ws c first clash (x ∷ xs) s = settleName ws c x (first x) (clash x) s >>= λ s′. settle ws c first clash xs s′
 
--- how a merge ended, by its code: 0 well, else 23 with the name that clashes
-unfoldable pub mergeEnd : List Name → Tab → Rows → ℕ → Ty → ℕ → ℕ → ℕ → End
-mergeEnd ws t fs top y code place name =
-    let s : State = state (framesOf t fs top) y in
-    if eqb code 0 then done s else refuse 23 place (aText (nameOf ws name .spelling) ∷ []) s
+-- the scope's code of a merge, and the name that its message names
+abbrev pub mergeCode : Merge → ℕ
+mergeCode Whole = 0
+mergeCode (Clash x) = 23
 
--- gs is fs with the names of ms written to the row top, up to the first that clashes; whatever the names and the table
-pub record Committed (fs gs : Rows) (top : ℕ) (ms : List ℕ) (cs : List Bool) (place code name : ℕ) : Type 0 where
-  pub says : (ws : List Name) (t : Tab) (y : Ty) → settle ws place (λ x. slot t (getD ms x 0)) (λ x. getD cs x false) (count 0 mostNames) (state (framesOf t fs top) y) ≡ mergeEnd ws t gs top y code place name
+abbrev pub clashName : Merge → ℕ
+clashName Whole = 0
+clashName (Clash x) = x
+
+-- how a merge ended, at the node c of the first condition
+unfoldable pub mergeEnd : List Name → ℕ → Merge → State → End
+mergeEnd ws c Whole s = done s
+mergeEnd ws c (Clash x) s = refuse 23 c (aText (nameOf ws x .spelling) ∷ []) s
+
+-- gs is fs with the names of ms written to the row top, up to the first that clashes; whatever the names, the condition and the table
+pub record Committed (fs gs : Rows) (top : ℕ) (ms : List ℕ) (cs : List Bool) (m : Merge) : Type 0 where
+  pub says : (ws : List Name) (c : ℕ) (t : Tab) (y : Ty) → settle ws c (λ x. slot t (getD ms x 0)) (λ x. getD cs x false) (count 0 mostNames) (state (framesOf t fs top) y)
+      ≡ mergeEnd ws c m (state (framesOf t gs top) y)
   pub fit : (t : Tab) → Fit t fs top → ((x : ℕ) → getD ms x 0 ≤ t.n) → Fit t gs top
-  pub codes : (code ≡ 0) ⊎ (code ≡ 23)

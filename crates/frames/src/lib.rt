@@ -6,26 +6,22 @@ ghost use lib.ListN.{length, getD, set, replicate};
 ghost use mathlib.Core.List.{List, [], _∷_};
 ghost use Rattle.meaning.specs.Limits.{mostNames, mostFrames};
 ghost use Rattle.frames.specs.Env.{cellRoom, Looked, Bound, noteCell, clashCell, Noted, Committed};
+use limits::MOST_FRAMES;
+use limits::MOST_NAMES;
 use types;
 
 // "Eight rows of 128 type numbers, copied whole": a frame for each Def around a statement and one for the module, a cell for each name.
-pub const MOST_FRAMES: usize = 8;
-
-pub const MOST_NAMES: usize = 128;
-
 pub type Row = [u16; MOST_NAMES];
 
 pub type Frames = [Row; MOST_FRAMES];
+
 // A yes or no per name.
 pub type Marks = [bool; MOST_NAMES];
 
 // A cell of no type, and one of Unknown; every other holds a known type.
-const ABSENT: u16 = 0;
+pub const ABSENT: u16 = 0;
 
 const UNKNOWN: u16 = 1;
-
-// The code of a merge whose branches disagree.
-const INCOMPATIBLE: u32 = 23;
 
 // The type in a cell that holds one, and the cell of a type.
 fn type_in(cell: u16) -> usize
@@ -135,30 +131,27 @@ pub fn note_branch(
     }
 }
 
-// How a merge ended: 0, or 23 with the first name that clashes.
-pub struct Merge {
-    pub code: u32,
-    pub name: usize,
+// How a merge ended: with every name, or at the first whose types clash, which is code 23.
+pub enum Merge {
+    Whole,
+    Clash(usize),
 }
 
 // Writes the merged names in order, up to the first that clashes.
-pub fn commit(frames: &mut Frames, top: usize, merged: &Row, clashes: &Marks, place: usize) -> Merge
+pub fn commit(frames: &mut Frames, top: usize, merged: &Row, clashes: &Marks) -> Merge
     requires { ⌜ (top < mostFrames) × (length (now frames) ≡ mostFrames) ⌝ }
-    ensures { λ r. ⌜ Committed (now (frames .entry)) (now (frames .exit)) top (now (merged .entry)) (now (clashes .entry)) place (r .code) (r .name) ⌝ }
+    ensures { λ r. ⌜ Committed (now (frames .entry)) (now (frames .exit)) top (now (merged .entry)) (now (clashes .entry)) r ⌝ }
 {
     let mut x = 0;
     while x < MOST_NAMES {
         let m = merged[x];
         if m != ABSENT {
             if clashes[x] {
-                return Merge {
-                    code: INCOMPATIBLE,
-                    name: x,
-                };
+                return Merge::Clash(x);
             }
             frames[top][x] = m;
         }
         x += 1;
     }
-    Merge { code: 0, name: 0 }
+    Merge::Whole
 }

@@ -12,18 +12,41 @@ ghost use Rattle.image.specs.Kinds.{recordStands, argLimits, fewestChild
 ghost use Rattle.image.specs.Outcome.{faultOf, placeOf};
 ghost use Rattle.image.specs.Parts.{Laid, nodeMeans, nameMeans, recordOf, nameStands, oneArgument, twoArguments, On, Moved};
 
+mod by_kind;
+mod header;
 pub mod kinds;
-mod limits;
 pub mod literals;
 pub mod roles;
 
-use limits::BELOW;
-use limits::FEWEST;
-use limits::MOST;
+use by_kind::BELOW;
+use by_kind::FEWEST;
+use by_kind::MOST;
+use limits::DEEPEST;
+use limits::LONGEST_NAME;
+use limits::MOST_NAMES;
+use limits::MOST_NODES;
+use limits::MOST_TEXT;
 use words::before;
 use words::get_word;
 use words::same;
 use words::text;
+
+// "Name record, 5 words", "node record, 6 words".
+const NAME_RECORD: usize = 20;
+
+const NODE_RECORD: usize = 24;
+
+// "Each byte is 33..126."
+const FIRST_PRINTABLE: u8 = 33;
+
+const LAST_PRINTABLE: u8 = 126;
+
+// "20 Literal (arg 0..4 ..); 22 Unary (0..2); 23 Binary (0..13)".
+const LITERALS: usize = 5;
+
+const UNARY_OPERATORS: usize = 3;
+
+const BINARY_OPERATORS: usize = 14;
 
 // What a search over names or nodes found: the first that fails, or none.
 enum Found {
@@ -73,9 +96,6 @@ pub struct NameAt {
     pub q: u32,
 }
 
-// "M is 1..2,048".
-pub const MOST_NODES: usize = 2048;
-
 // A place in the node area: the node that it stands at, and where the area starts.
 pub struct Cursor {
     pub at: usize,
@@ -93,10 +113,10 @@ pub struct Read {
 fn head_stands(image: &[u8]) -> bool
     ensures { λ r. ⌜ r ≡ headStands (now (image .entry)) ⌝ }
 {
-    if image.len() < 32 {
+    if image.len() < header::LENGTH {
         return false;
     }
-    get_word(image, 0) == 1
+    get_word(image, header::VERSION) == 1
 }
 
 // The largest sum, the total, stays far below 2^64 whatever the words are.
@@ -104,11 +124,11 @@ pub fn areas(image: &[u8]) -> Layout
     requires { ⌜ 32 ≤ length (now image) ⌝ }
     ensures { λ r. ⌜ Laid (now (image .entry)) r ⌝ }
 {
-    let names = get_word(image, 4) as usize;
-    let count = get_word(image, 12) as usize;
-    let size = get_word(image, 20) as usize;
-    let nodes = 32 + 20 * names;
-    let texts = nodes + 24 * count;
+    let names = get_word(image, header::NAME_COUNT) as usize;
+    let count = get_word(image, header::NODE_COUNT) as usize;
+    let size = get_word(image, header::TEXT_COUNT) as usize;
+    let nodes = header::LENGTH + NAME_RECORD * names;
+    let texts = nodes + NODE_RECORD * count;
     let total = texts + size;
     Layout {
         names,
@@ -124,16 +144,16 @@ fn counts_stand(image: &[u8], l: Layout) -> bool
     requires { ⌜ Laid (now image) l ⌝ }
     ensures { λ r. ⌜ r ≡ countsStand (now (image .entry)) ⌝ }
 {
-    if 128 < l.names {
+    if MOST_NAMES < l.names {
         return false;
     }
     if l.count < 1 {
         return false;
     }
-    if 2048 < l.count {
+    if MOST_NODES < l.count {
         return false;
     }
-    l.size <= 8192
+    l.size <= MOST_TEXT
 }
 
 fn offsets_stand(image: &[u8], l: Layout) -> bool
@@ -141,16 +161,16 @@ fn offsets_stand(image: &[u8], l: Layout) -> bool
     requires { ⌜ Laid (now image) l ⌝ }
     ensures { λ r. ⌜ r ≡ offsetsStand (now (image .entry)) ⌝ }
 {
-    if get_word(image, 8) != 32 {
+    if get_word(image, header::NAMES) as usize != header::LENGTH {
         return false;
     }
-    if get_word(image, 16) as usize != l.nodes {
+    if get_word(image, header::NODES) as usize != l.nodes {
         return false;
     }
-    if get_word(image, 24) as usize != l.texts {
+    if get_word(image, header::TEXTS) as usize != l.texts {
         return false;
     }
-    if get_word(image, 28) as usize != l.total {
+    if get_word(image, header::TOTAL) as usize != l.total {
         return false;
     }
     image.len() == l.total
@@ -202,7 +222,7 @@ pub fn node_at(image: &[u8], nodes: usize, i: usize) -> Node
     requires { ⌜ (nodes ≡ nodesFrom (now image)) × (i < nodeCount (now image)) ⌝ }
     ensures { λ r. ⌜ nodeMeans r ≡ nodeOf (nodesOf (now (image .entry))) i ⌝ }
 {
-    node_words(image, nodes + 24 * i)
+    node_words(image, nodes + NODE_RECORD * i)
 }
 
 pub fn name_at(image: &[u8], k: usize) -> NameAt
@@ -210,7 +230,7 @@ pub fn name_at(image: &[u8], k: usize) -> NameAt
     requires { ⌜ k < nameCount (now image) ⌝ }
     ensures { λ r. ⌜ nameMeans r ≡ recordOf (nameRecords (now (image .entry))) k ⌝ }
 {
-    name_words(image, 32 + 20 * k)
+    name_words(image, header::LENGTH + NAME_RECORD * k)
 }
 
 // A name's text is that part of the image, not a copy. `texts` is where the text area starts.
@@ -231,10 +251,10 @@ fn all_printable(s: &[u8]) -> bool
 {
     let mut i = 0;
     while i < s.len() {
-        if s[i] < 33 {
+        if s[i] < FIRST_PRINTABLE {
             return false;
         }
-        if 126 < s[i] {
+        if LAST_PRINTABLE < s[i] {
             return false;
         }
         i += 1;
@@ -248,7 +268,7 @@ pub fn text_stands(last: &[u8], s: &[u8]) -> bool
     if s.len() < 1 {
         return false;
     }
-    if 64 < s.len() {
+    if LONGEST_NAME < s.len() {
         return false;
     }
     if !all_printable(s) {
@@ -262,14 +282,14 @@ fn role_stands(r: NameAt) -> bool
 {
     let role = r.role;
     match role {
-        0 | 3 => {
+        roles::PLAIN | roles::ANY => {
             if r.p != 0 {
                 return false;
             }
             r.q == 0
         }
-        1 | 4 => r.q == 0,
-        2 => true,
+        roles::EXACTLY | roles::FUNCTION => r.q == 0,
+        roles::BETWEEN => true,
         _ => false,
     }
 }
@@ -359,14 +379,14 @@ pub fn admits(r: NameAt, k: u32) -> bool
 {
     let role = r.role;
     match role {
-        1 => k == r.p,
-        2 => {
+        roles::EXACTLY => k == r.p,
+        roles::BETWEEN => {
             if k < r.p {
                 return false;
             }
             k <= r.q
         }
-        3 => true,
+        roles::ANY => true,
         _ => false,
     }
 }
@@ -405,7 +425,7 @@ fn is_builtin(role: u32) -> bool
     ensures { λ r. ⌜ r ≡ (leb 1 role and leb role 3) ⌝ }
 {
     match role {
-        1..=3 => true,
+        roles::EXACTLY..=roles::ANY => true,
         _ => false,
     }
 }
@@ -446,8 +466,8 @@ fn is_known(kind: u32) -> bool
     ensures { λ r. ⌜ r ≡ (isStatement kind or isSpanless kind or isExpression kind) ⌝ }
 {
     match kind {
-        1..=13 => true,
-        20..=32 => true,
+        kinds::BREAK..=kinds::PARAM => true,
+        kinds::LITERAL..=kinds::LAMBDA => true,
         _ => false,
     }
 }
@@ -456,10 +476,10 @@ fn arg_below(names: usize, kind: u32) -> usize
     ensures { λ r. ⌜ r ≡ argBelow names kind ⌝ }
 {
     match kind {
-        10..=11 | 13 | 21 => names,
-        20 => 5,
-        22 => 3,
-        23 => 14,
+        kinds::FOR..=kinds::DEF | kinds::PARAM | kinds::VARIABLE => names,
+        kinds::LITERAL => LITERALS,
+        kinds::UNARY => UNARY_OPERATORS,
+        kinds::BINARY => BINARY_OPERATORS,
         _ => 1,
     }
 }
@@ -468,20 +488,20 @@ fn count_stands(kind: u32, c: u32) -> bool
     ensures { λ r. ⌜ r ≡ countStands kind c ⌝ }
 {
     match kind {
-        5 => c == 2,
-        6..=7 => c == 1,
-        8 => 2 <= c,
-        9..=10 => c == 2,
-        11 => 1 <= c,
-        12 => true,
-        22 => c == 1,
-        23 => c == 2,
-        24 => 1 <= c,
-        25 => c == 1,
-        26 => true,
-        27 => c % 2 == 0,
-        28..=30 => true,
-        31 => c == 2,
+        kinds::ASSIGN => c == 2,
+        kinds::EXPR..=kinds::RETURN => c == 1,
+        kinds::IF => 2 <= c,
+        kinds::WHILE..=kinds::FOR => c == 2,
+        kinds::DEF => 1 <= c,
+        kinds::BLOCK => true,
+        kinds::UNARY => c == 1,
+        kinds::BINARY => c == 2,
+        kinds::CALL => 1 <= c,
+        kinds::ATTRIBUTE => c == 1,
+        kinds::LIST => true,
+        kinds::DICT => c % 2 == 0,
+        kinds::TUPLE..=kinds::TREE_SET => true,
+        kinds::INDEX => c == 2,
         _ => c == 0,
     }
 }
@@ -492,7 +512,7 @@ fn span_stands(d: Node) -> bool
 {
     let kind = d.kind;
     match kind {
-        12..=13 => {
+        kinds::BLOCK..=kinds::PARAM => {
             if d.begins != 0 {
                 return false;
             }
@@ -604,7 +624,7 @@ fn is_statement(kind: u32) -> bool
     ensures { λ r. ⌜ r ≡ isStatement kind ⌝ }
 {
     match kind {
-        1..=11 => true,
+        kinds::BREAK..=kinds::DEF => true,
         _ => false,
     }
 }
@@ -613,7 +633,7 @@ fn is_expression(kind: u32) -> bool
     ensures { λ r. ⌜ r ≡ isExpression kind ⌝ }
 {
     match kind {
-        20..=32 => true,
+        kinds::LITERAL..=kinds::LAMBDA => true,
         _ => false,
     }
 }
@@ -622,7 +642,7 @@ fn block_or_expression(block: bool, kind: u32) -> bool
     ensures { λ r. ⌜ r ≡ (if block then eqb kind 12 else isExpression kind) ⌝ }
 {
     if block {
-        return kind == 12;
+        return kind == kinds::BLOCK;
     }
     is_expression(kind)
 }
@@ -633,24 +653,24 @@ fn has_business(parent: u32, c: u32, j: u32, kind: u32) -> bool
     requires { ⌜ j < c ⌝ }
     ensures { λ r. ⌜ r ≡ belongs parent c j kind ⌝ }
 {
-    if 12 < parent {
+    if kinds::BLOCK < parent {
         return is_expression(kind);
     }
     match parent {
-        8 => {
+        kinds::IF => {
             if j % 2 == 1 {
-                return kind == 12;
+                return kind == kinds::BLOCK;
             }
             block_or_expression(j + 1 == c, kind)
         }
-        9..=10 => block_or_expression(j + 1 == c, kind),
-        11 => {
+        kinds::WHILE..=kinds::FOR => block_or_expression(j + 1 == c, kind),
+        kinds::DEF => {
             if j + 1 == c {
-                return kind == 12;
+                return kind == kinds::BLOCK;
             }
-            kind == 13
+            kind == kinds::PARAM
         }
-        12 => is_statement(kind),
+        kinds::BLOCK => is_statement(kind),
         _ => is_expression(kind),
     }
 }
@@ -684,7 +704,7 @@ fn root_stands(image: &[u8], nodes: usize, count: usize) -> bool
     ensures { λ r. ⌜ r ≡ rootStands (nodesOf (now (image .entry))) ⌝ }
 {
     let d = node_at(image, nodes, 0);
-    if d.kind != 12 {
+    if d.kind != kinds::BLOCK {
         return false;
     }
     d.stop as usize == count
@@ -730,11 +750,11 @@ fn deep_by_counting(image: &[u8], nodes: usize, count: usize) -> Found
     requires { ⌜ (nodes ≡ nodesFrom (now image)) × (count ≡ nodeCount (now image)) ⌝ }
     ensures { λ r. ⌜ placeOf r ≡ tooDeepNode (now (image .entry)) ⌝ }
 {
-    let mut ends = [1u16; 2049];
+    let mut ends = [1u16; MOST_NODES + 1];
     let mut around = 0;
     let mut i = 0;
     while i < count {
-        if 64 <= around {
+        if DEEPEST <= around {
             return Found::At(i);
         }
         let d = node_at(image, nodes, i);
@@ -753,7 +773,7 @@ fn too_deep(image: &[u8], nodes: usize, count: usize) -> Found
     requires { ⌜ (nodes ≡ nodesFrom (now image)) × (count ≡ nodeCount (now image)) ⌝ }
     ensures { λ r. ⌜ placeOf r ≡ tooDeepNode (now (image .entry)) ⌝ }
 {
-    if count <= 64 {
+    if count <= DEEPEST {
         return Found::Nowhere;
     }
     deep_by_counting(image, nodes, count)

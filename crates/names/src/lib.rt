@@ -4,6 +4,8 @@ ghost use Prim.Native.Nat.{_-_, _<_};
 ghost use lib.ListN.{length};
 ghost use Rattle.meaning.proofs.Faults.{Sound};
 ghost use Rattle.names.specs.Names.{PutName, Names};
+use frames::ABSENT;
+use frames::Frames;
 use image::areas;
 use image::name_at;
 
@@ -26,12 +28,7 @@ fn number_of(cell: u16) -> u32
 }
 
 // Lists the names that the row `top` holds, in order, with their types, and gives their number.
-pub fn list_names(
-    image: &[u8],
-    frames: &[[u16; 128]; 8],
-    top: usize,
-    names: &mut [u32; 384],
-) -> usize
+pub fn list_names(image: &[u8], frames: &Frames, top: usize, names: &mut [u32; 384]) -> usize
     requires { ⌜ Sound (now image) ⌝ }
     requires { ⌜ (top < 8) × (length (now names) ≡ 384) ⌝ }
     ensures { λ r. ⌜ Names (now (image .entry)) (now (frames .entry)) top (now (names .exit)) r ⌝ }
@@ -41,7 +38,7 @@ pub fn list_names(
     let mut c = 0;
     while k < l.names {
         let cell = frames[top][k];
-        if cell != 0 {
+        if cell != ABSENT {
             let name = name_at(image, k);
             put_name(
                 names,

@@ -1,6 +1,6 @@
 -- What is noted while a program is walked, in eight cells: how many types and elements the table has; the code, the node and the two
 -- numbers of the last refusal; the return type so far and the newest frame. A result is a number of the table (or 0 where only the end
--- matters), or 65535 for a refusal.
+-- matters), or `err` for a refusal.
 use mathlib.Core.Path.{_≡_}
 use mathlib.Core.List.{List}
 use Prim.Native.Nat.{ℕ, _<_}
@@ -8,6 +8,9 @@ use lib.Dec.{eqb}
 use lib.ListN.{length, getD}
 use Rattle.meaning.specs.Base.{if_then_else_}
 use Rattle.types.specs.Table.{Tab, tab}
+
+abbrev pub err : ℕ
+err = 65535
 
 abbrev pub typesIn : List ℕ → ℕ
 typesIn ns = getD ns 0 0
@@ -39,7 +42,7 @@ tabIn cells ns = tab cells (typesIn ns) (elementsIn ns)
 
 -- the code that a result tells
 unfoldable pub verdict : ℕ → List ℕ → ℕ
-verdict r ns = if eqb r 65535 then codeIn ns else 0
+verdict r ns = if eqb r err then codeIn ns else 0
 
 -- what is asked of notes
 pub record Noting (ns : List ℕ) : Type 0 where
@@ -50,7 +53,7 @@ pub record Kept (ns ms : List ℕ) (r : ℕ) : Type 0 where
   pub long : length ms ≡ 8
   pub ret : retIn ms ≡ retIn ns
   pub top : topIn ms ≡ topIn ns
-  pub refuses : r ≡ 65535 → codeIn ms ≡ 0 → ⊥
+  pub refuses : r ≡ err → codeIn ms ≡ 0 → ⊥
 
 -- n types and m elements are noted
 pub record Counted (ns ms : List ℕ) (n m : ℕ) : Type 0 where
@@ -62,7 +65,7 @@ pub record Counted (ns ms : List ℕ) (n m : ℕ) : Type 0 where
 
 -- a refusal is noted: its node and numbers where they fit a word
 pub record Refused (ns ms : List ℕ) (r code place a b : ℕ) : Type 0 where
-  pub is : r ≡ 65535
+  pub is : r ≡ err
   pub long : length ms ≡ 8
   pub types-kept : typesIn ms ≡ typesIn ns
   pub elements-kept : elementsIn ms ≡ elementsIn ns

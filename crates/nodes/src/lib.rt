@@ -15,7 +15,6 @@ ghost use Rattle.nodes.specs.Giving.{Given};
 ghost use Rattle.nodes.specs.Notes.{typesIn, elementsIn, codeIn, placeIn, firstIn, secondIn, tabIn, verdict, Noting, Kept, Counted, Refused, Answered};
 ghost use Rattle.nodes.specs.Operands.{literalNumber, operandRule, Decidable, IndexedAt, Operable, Operated};
 ghost use Rattle.nodes.specs.Planning.{countCode, Planned, lookedAt, Argued};
-use image::MOST_NODES;
 use image::Node;
 use image::admits;
 use image::areas;
@@ -25,6 +24,7 @@ use image::name_at;
 use image::name_text;
 use image::node_at;
 use image::roles;
+use limits::MOST_NODES;
 use rules::Decision;
 use rules::binary;
 use rules::builtin;
@@ -59,21 +59,21 @@ pub const RETURNS: usize = 6;
 
 pub const TOP: usize = 7;
 
-pub type Notes = [u32; 8];
+pub const NOTED: usize = 8;
+
+pub type Notes = [u32; NOTED];
 
 // The types of children that wait for their parent's rule, at most one for each node.
 pub type Stack = [u16; MOST_NODES];
 
-// A result of the walk that is no type's number: the refusal stands in the notes.
-pub const NO_TYPE: usize = 65535;
+// A result of the walk, T's `Result`, is one number: a type's, or OK where there is no type to give; or ERR, which is no type's number. What
+// an ERR refuses is noted.
+pub const OK: usize = 0;
 
-// A cell of the notes.
-pub fn noted(notes: &Notes, at: usize) -> usize
-    requires { ⌜ at < 8 ⌝ }
-    ensures { λ r. ⌜ r ≡ getD (now (notes .entry)) at 0 ⌝ }
-{
-    full(notes[at])
-}
+pub const ERR: usize = 65535;
+
+// A cell of the notes holds the numbers below this.
+const CELL_ROOM: usize = 4294967296;
 
 fn full(x: u32) -> usize
     ensures { λ r. ⌜ r ≡ x ⌝ }
@@ -93,7 +93,7 @@ pub fn small(n: usize) -> u32
 fn fitted(n: usize) -> u32
     ensures { λ r. ⌜ (n < 4294967296 → r ≡ n) ⌝ }
 {
-    if n < 4294967296 {
+    if n < CELL_ROOM {
         return n as u32;
     }
     0
@@ -127,7 +127,7 @@ pub fn refused(notes: &mut Notes, code: u32, place: usize, a: usize, b: usize) -
     notes[PLACE] = fitted(place);
     notes[FIRST] = fitted(a);
     notes[SECOND] = fitted(b);
-    NO_TYPE
+    ERR
 }
 
 // What a decision gives at a node.

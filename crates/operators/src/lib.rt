@@ -11,6 +11,9 @@ mod constants;
 use constants::ANSWERS;
 use constants::UNARY_ANSWERS;
 
+// An answer below this is a plain type's number, and one above it a code. This one says: compare the whole types.
+pub const COMPARE: u32 = 8;
+
 // A function of its own: a cast of an array's element would ask for a proof that the element fits.
 fn wide(answer: u8) -> u32
     ensures { λ r. ⌜ r ≡ answer ⌝ }

@@ -15,6 +15,7 @@ ghost use Rattle.rules.specs.Leaves.{Keyed, Indexed, StreamedOf, streamT
 pub mod builtin;
 pub mod codes;
 
+use operators::COMPARE;
 use operators::answer_of;
 use operators::unary_answer_of;
 use types;
@@ -46,7 +47,7 @@ pub fn unary(table: &[u16], op: u32, i: usize) -> Decision
 {
     let kind = kind_of(table, i);
     let answer = unary_answer_of(op, kind as u32);
-    if answer < 8 {
+    if answer < COMPARE {
         return Decision {
             code: 0,
             number: answer as usize,
@@ -62,7 +63,7 @@ pub fn unary(table: &[u16], op: u32, i: usize) -> Decision
     }
 }
 
-// Answer 8 asks whether the whole types are equal: their numbers tell.
+// COMPARE asks whether the whole types are equal: their numbers tell.
 pub fn binary(table: &[u16], op: u32, left: usize, right: usize) -> Decision
     requires { ⌜ op < 14 ⌝ }
     requires { ⌜ (Known (now table) left) × (Known (now table) right) ⌝ }
@@ -71,7 +72,7 @@ pub fn binary(table: &[u16], op: u32, left: usize, right: usize) -> Decision
     let l = kind_of(table, left);
     let r = kind_of(table, right);
     let answer = answer_of(op, l as u32, r as u32);
-    if answer < 8 {
+    if answer < COMPARE {
         return Decision {
             code: 0,
             number: answer as usize,
@@ -79,7 +80,7 @@ pub fn binary(table: &[u16], op: u32, left: usize, right: usize) -> Decision
             b: 0,
         };
     }
-    if answer > 8 {
+    if answer > COMPARE {
         return Decision {
             code: answer,
             number: 0,

@@ -2,7 +2,6 @@
 use mathlib.Core.Path.{_≡_, refl, sym, ap, _∙_}
 use mathlib.Core.Bool.{Bool, true, false}
 use mathlib.Core.List.{List, [], _∷_, _++_}
-use mathlib.Core.Logic.{_⊎_, inl, inr, ⊎-elim}
 use mathlib.Core.Option.{Option, some, none}
 use Prim.Native.Nat.{ℕ, zero, suc, _+_, _-_, _≤_, _<_}
 use native.Mathlib.Omega.{arith}
@@ -22,7 +21,9 @@ use Rattle.meaning.specs.Walk.{State, state, End, done, wrong, tooDeep, refuse,
 use Rattle.meaning.proofs.Decoding.{if-at, arms-down}
 use Rattle.meaning.proofs.Faults.{Sound}
 use Rattle.types.specs.Table.{Tab, tab, Grown, denote}
-use Rattle.frames.specs.Env.{Rows, slot, framesOf, Fit, Noted, settleName, settle, mergeEnd, Committed}
+use Rattle.frames.specs.Env.{Rows, slot, framesOf, Fit, Noted, settleName, settle, mergeCode, clashName, mergeEnd, Committed}
+use Rattle.frames.specs.declared.Merge.{Merge}
+use Rattle.frames.specs.declared.Merge.the-variants.{Whole, Clash}
 use Rattle.frames.proofs.Laws.{frames-grown, fit-grown}
 use Rattle.frames.proofs.Merging.{Tally, tally-none, tally-grown, tally-next, merged}
 use Rattle.rules.specs.Outcome.{typesNamed, pieces}
@@ -322,57 +323,61 @@ weights : List Piece → ℕ
 weights [] = 0
 weights (p ∷ ps) = weight p
 
-clash-name : {fs gs : Rows} {top : ℕ} {ms : List ℕ} {cs : List Bool} {place′ code name : ℕ} (t : Tab) → Committed fs gs top ms cs place′ code name → code ≡ 23 → name < 128
-unfolding mergeEnd if_then_else_ Spelt weights weight
-clash-name {fs} {gs} {top} {ms} {cs} {place′} {code} {name} t c e = elim (decLt name 128) [
+clash-name : {fs gs : Rows} {top : ℕ} {ms : List ℕ} {cs : List Bool} {name : ℕ} (t : Tab) → Committed fs gs top ms cs (Clash name) → name < 128
+unfolding mergeEnd Spelt weights weight
+clash-name {fs} {gs} {top} {ms} {cs} {name} t c = elim (decLt name 128) [
   | yes h ↦ h
   | no h ↦
-      let a = settle-spelt place′ (λ x. slot t (getD ms x 0)) (λ x. getD cs x false) 128 0 (state (framesOf t fs top) (denote t 0)) (omega arith) in
-      let b = rw (c .says someNames t (denote t 0), e, unspelt name (omega arith)) at a in
+      let a = settle-spelt 0 (λ x. slot t (getD ms x 0)) (λ x. getD cs x false) 128 0 (state (framesOf t fs top) (denote t 0)) (omega arith) in
+      let b = rw (c .says someNames 0 t (denote t 0), unspelt name (omega arith)) at a in
       let z : _≡_ {A = ℕ} 0 1 = ap weights b in
       absurd (omega arith)
 ]
 
-pub clash-small : {fs gs : Rows} {top : ℕ} {ms : List ℕ} {cs : List Bool} {place′ code name : ℕ} → Committed fs gs top ms cs place′ code name → (code ≡ 0 → ⊥) → name < 4294967296
-clash-small c z = ⊎-elim (λ y. absurd (z y)) (λ y. omega (arith, clash-name (tab [] 0 0) c y)) (c .codes)
+pub clash-small : {fs gs : Rows} {top : ℕ} {ms : List ℕ} {cs : List Bool} {name : ℕ} → Committed fs gs top ms cs (Clash name) → name < 4294967296
+clash-small c = omega (arith, clash-name (tab [] 0 0) c)
 
 -- ---- the merge
 
-merge-ended : (ws : List Name) (u : Tab) (gs : Rows) (top : ℕ) (y : Ty) (code place′ name : ℕ) → (code ≡ 0) ⊎ (code ≡ 23)
-    → mergeEnd ws u gs top y code place′ name ≡ ended ws u gs top y code place′ name 0
+merge-ended : (ws : List Name) (u : Tab) (gs : Rows) (top : ℕ) (y : Ty) (c : ℕ) (m : Merge)
+    → mergeEnd ws c m (state (framesOf u gs top) y) ≡ ended ws u gs top y (mergeCode m) c (clashName m) 0
 unfolding mergeEnd ended pieces typesNamed isIn choose if_then_else_ _or_
-merge-ended ws u gs top y code place′ name (inl e) = rw e
-merge-ended ws u gs top y code place′ name (inr e) = rw e
+merge-ended ws u gs top y c Whole = refl
+merge-ended ws u gs top y c (Clash x) = refl
 
-merge-named : {fs gs : Rows} {top : ℕ} {ms : List ℕ} {cs : List Bool} {place′ code name M : ℕ} (u : Tab) → Committed fs gs top ms cs place′ code name → place′ < M → (code ≡ 0) ⊎ (code ≡ 23)
-    → Named u M code place′ name 0
+merge-named : {fs gs : Rows} {top : ℕ} {ms : List ℕ} {cs : List Bool} {c M : ℕ} (u : Tab) (m : Merge) → Committed fs gs top ms cs m → c < M
+    → Named u M (mergeCode m) c (clashName m) 0
 unfolding typesNamed isIn if_then_else_ _or_
-merge-named u c h (inl e) = rw e named-well
-merge-named {name = name} u c h (inr e) =
-    let n = clash-name u c e in
-    rw e (record {
+merge-named u Whole k h = named-well
+merge-named u (Clash x) k h =
+    let n = clash-name u k in
+    record {
       first = λ x. absurd (omega (arith, none23));
       second = λ x. absurd (omega (arith, none23));
       small = λ x y. (omega arith, omega arith);
       placed = λ x. h;
-    })
+    }
   where
     none23 : typesNamed 23 ≡ 0
     none23 = refl
 
-pub choosing-end : {bs : List ℕ} {nodes : ℕ} {t : Tab} {fs gs : Rows} {top ret i d : ℕ} {loop : Bool} {u : Tab} {got : ℕ} {su ms : List ℕ} {cs : List Bool} {j left code name : ℕ}
-    → Stmt bs i d 8 → Choosing bs nodes t fs top ret i d loop u got su ms cs j left → left ≤ 0 → Committed fs gs top ms cs (i + 1) code name
-    → Done (namesOf bs) (acted bs loop d i (stateOf t fs top ret)) t u gs top top got su i (stopOf (nodesOf bs) i) (nodeCount bs) code (i + 1) name 0
+merge-shallow : (m : Merge) → mergeCode m ≡ 9 → ⊥
+merge-shallow Whole e = absurd (omega arith)
+merge-shallow (Clash x) e = absurd (omega arith)
+
+pub choosing-end : {bs : List ℕ} {nodes : ℕ} {t : Tab} {fs gs : Rows} {top ret i d : ℕ} {loop : Bool} {u : Tab} {got : ℕ} {su ms : List ℕ} {cs : List Bool} {j left : ℕ} {m : Merge}
+    → Stmt bs i d 8 → Choosing bs nodes t fs top ret i d loop u got su ms cs j left → left ≤ 0 → Committed fs gs top ms cs m
+    → Done (namesOf bs) (acted bs loop d i (stateOf t fs top ret)) t u gs top top got su i (stopOf (nodesOf bs) i) (nodeCount bs) (mergeCode m) (i + 1) (clashName m) 0
 unfolding branches armsFrom
-choosing-end {bs} {nodes} {t} {fs} {gs} {top} {ret} {i} {d} {loop} {u} {got} {su} {ms} {cs} {j} {left} {code} {name} q l z c =
+choosing-end {bs} {nodes} {t} {fs} {gs} {top} {ret} {i} {d} {loop} {u} {got} {su} {ms} {cs} {j} {left} {m} q l z c =
     let o : left ≡ 0 = omega arith in
     let s = l .standing .ready .sound in
     let e = l .spent in
     let h = within-child s (within-all s i (q .there)) (omega (arith, count-if s q)) .2 in
     let le = within-le s (l .within) in
-    let deep : code ≡ 9 → ⊥ = λ x. ⊎-elim (λ y. omega arith) (λ y. omega arith) (c .codes) in
+    let deep = merge-shallow m in
     record {
-      says = (rw o at (l .answer)) ∙ merged (namesOf bs) (denote u got) (sym (l .same)) (l .tally) c ∙ merge-ended (namesOf bs) u gs top (denote u got) code (i + 1) name (c .codes);
+      says = (rw o at (l .answer)) ∙ merged (namesOf bs) (i + 1) (denote u got) (sym (l .same)) (l .tally) c ∙ merge-ended (namesOf bs) u gs top (denote u got) (i + 1) m;
       fine = λ _. record {
         left = record {
           grown = e .grown;
@@ -384,6 +389,6 @@ choosing-end {bs} {nodes} {t} {fs} {gs} {top} {ret} {i} {d} {loop} {u} {got} {su
         kept = l .standing .kept;
         raised = omega arith;
       };
-      named = λ _. merge-named u c h (c .codes);
+      named = λ _. merge-named u m c h;
       placed = λ x. absurd (deep x);
     }

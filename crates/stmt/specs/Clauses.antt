@@ -10,24 +10,20 @@ use Rattle.meaning.specs.Decode.{stopOf}
 use Rattle.meaning.specs.Walk.{State, End}
 use Rattle.nodes.specs.Notes.{placeIn, firstIn, secondIn, retIn, topIn, verdict, Noting, Kept}
 use Rattle.nodes.specs.Lent.{Lent, tableOf, stateIn}
-use Rattle.expr.specs.Contract.{Ready, At}
+use Rattle.expr.specs.Contract.{At}
+use Rattle.expr.specs.Clauses.{Asked, Checkable as Free}
 use Rattle.targets.specs.Ending.{Assigned}
 use Rattle.stmt.specs.Contract.{stateOf, acted, walkedAt, bodyAt, armBlock, armedAt, Tells, Standing, Bodiless, Stmt, Pair, Branch, Done, Armed, Iterated}
 
 -- ---- what is asked
 
--- room for node i, and more
-abbrev pub Asked : List ℕ → ℕ → ℕ → ℕ → Lent → Type 0 → Type 0
-Asked bs nodes top i w more =
-    Noting (w .notes) × (Ready bs nodes (w .rows) top (tableOf w) (w .stack) 0 i (stopOf (nodesOf bs) i) × more)
-
--- an expression at node i, at most d deep
+-- an expression at node i, at most d deep, with the whole stack free
 abbrev pub Checkable : List ℕ → ℕ → ℕ → ℕ → ℕ → Lent → Type 0
-Checkable bs nodes top i d w = Asked bs nodes top i w (At bs i d)
+Checkable bs nodes top i d w = Free bs nodes top 0 i d w
 
 -- two expressions under node i, each at most d deep
 abbrev pub Paired : List ℕ → ℕ → ℕ → ℕ → ℕ → Lent → Type 0
-Paired bs nodes top i d w = Asked bs nodes top i w (Pair bs i d)
+Paired bs nodes top i d w = Asked bs nodes top 0 i (stopOf (nodesOf bs) i) w (Pair bs i d)
 
 -- room for the nodes from i to e, the return type so far, and more
 abbrev pub Stands : List ℕ → ℕ → ℕ → ℕ → ℕ → Lent → Type 0 → Type 0

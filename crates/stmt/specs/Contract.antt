@@ -17,7 +17,7 @@ use Rattle.meaning.proofs.Faults.{Sound}
 use Rattle.meaning.proofs.Nesting.{Children}
 use Rattle.types.specs.Table.{Tab, capacity, Wf, Grown, denote}
 use Rattle.frames.specs.Env.{Rows, framesOf, Fit}
-use Rattle.nodes.specs.Notes.{typesIn, elementsIn, codeIn, placeIn, firstIn, secondIn, verdict, Noting, Kept}
+use Rattle.nodes.specs.Notes.{err, typesIn, elementsIn, codeIn, placeIn, firstIn, secondIn, verdict, Noting, Kept}
 use Rattle.expr.specs.Contract.{Ready, At}
 use Rattle.targets.specs.Ending.{ended, Named, Left}
 
@@ -75,7 +75,7 @@ armedAt bs loop d n i s =
 -- what a result r tells of the notes: a refusal has a code
 pub record Tells (ms : List ℕ) (r : ℕ) : Type 0 where
   pub noting : Noting ms
-  pub refuses : r ≡ 65535 → codeIn ms ≡ 0 → ⊥
+  pub refuses : r ≡ err → codeIn ms ≡ 0 → ⊥
 
 -- a Break or Continue at node i, by its code: all is well in a loop, and else it is refused
 pub record Outside (ns ms : List ℕ) (loop : Bool) (code i r : ℕ) : Type 0 where

@@ -1,7 +1,7 @@
 // The walk over the statements: T's tc_stmt and typecheck_program.
-// A result is 0 where all went well, and 65535 where something was refused: the notes then have the code (9 for a Def that needs a ninth
-// frame, else a typing code), its node and the numbers that a message needs. The notes also have the counts of the table, the return type
-// so far and the newest frame's row (crates/nodes/specs/Notes.antt).
+// A result is OK, or ERR where something was refused: the notes then have the code (9 for a Def that needs a ninth frame, else a typing
+// code), its node and the numbers that a message needs. The notes also have the counts of the table, the return type so far and the newest
+// frame's row (crates/nodes/specs/Notes.antt).
 ghost use mathlib.Core.Path.{_≡_};
 ghost use Prim.Native.Nat.{_+_, _-_, _<_};
 ghost use Rattle.meaning.specs.Image.{nodeCount, nodesFrom, nodesOf};
@@ -15,8 +15,9 @@ ghost use Rattle.stmt.specs.Contract.{Outside, Within, Entered, Started,
 ghost use Rattle.stmt.specs.Clauses.{Checkable, Paired, Returnable, Simple, Walkable, OfKind, InIf};
 ghost use Rattle.stmt.specs.Clauses.{Ends, Iterates, Walks, WalksStmt, WalksBlock, Acts, ActsAnywhere, WalksArm};
 use expr::expr;
+use frames::ABSENT;
 use frames::Frames;
-use frames::MOST_NAMES;
+use frames::Merge;
 use frames::bind;
 use frames::clear;
 use frames::commit;
@@ -24,11 +25,16 @@ use frames::note_branch;
 use image::Cursor;
 use image::kinds;
 use image::node_at;
+use limits::DEEPEST;
+use limits::MOST_FRAMES;
+use limits::MOST_NAMES;
 use nodes::CODE;
 use nodes::ELEMENTS;
+use nodes::ERR;
 use nodes::FIRST;
-use nodes::NO_TYPE;
+use nodes::NOTED;
 use nodes::Notes;
+use nodes::OK;
 use nodes::PLACE;
 use nodes::RETURNS;
 use nodes::SECOND;
@@ -46,6 +52,17 @@ use types;
 use types::Counts;
 use types::agreed;
 use types::element_of;
+
+// The row of a frame that has no room for one more.
+const LAST_FRAME: usize = MOST_FRAMES - 1;
+
+// The levels that are left below the module's Block.
+const BELOW_MODULE: usize = DEEPEST - 1;
+
+// A table starts with the plain types alone, and a return type as Unknown.
+const PLAIN_TYPES: u32 = types::STRUCTURED as u32;
+
+const NOT_RETURNED: u32 = types::UNKNOWN as u32;
 
 fn wide(x: u32) -> usize
     ensures { λ r. ⌜ r ≡ x ⌝ }
@@ -74,13 +91,13 @@ fn condition(
         (conditionAt (now (image .entry)) depth at) ⌝ }
 {
     let v = expr(image, nodes, rows, top, table, notes, stack, 0, at, depth);
-    if v == NO_TYPE {
+    if v == ERR {
         return v;
     }
     if v != types::BOOL {
         return refused(notes, codes::CONDITION, at, 0, 0);
     }
-    0
+    OK
 }
 
 // The Assign at node `at`: its value, the second child, and then its target.
@@ -115,15 +132,15 @@ fn assignment(
         second,
         depth,
     );
-    if v == NO_TYPE {
+    if v == ERR {
         return v;
     }
     let target = Cursor { at: first, nodes };
     let r = assign(image, target, rows, top, table, notes, stack, v, depth);
     let Outcome::Ok = r else {
-        return NO_TYPE;
+        return ERR;
     };
-    0
+    OK
 }
 
 // A Return of the value at node `at`.
@@ -145,14 +162,14 @@ fn give(
         (returnedAt (now (image .entry)) depth at) ⌝ }
 {
     let v = expr(image, nodes, rows, top, table, notes, stack, 0, at, depth);
-    if v == NO_TYPE {
+    if v == ERR {
         return v;
     }
     let ret = wide(notes[RETURNS]);
     let both = agreed(ret, v);
     if both.there {
         notes[RETURNS] = small(both.number);
-        return 0;
+        return OK;
     }
     refused(notes, codes::INCONSISTENT_RETURN, at, ret, v)
 }
@@ -164,7 +181,7 @@ fn outside(notes: &mut Notes, looped: bool, code: u32, at: usize) -> usize
     ensures { λ r. ⌜ Outside (now (notes .entry)) (now (notes .exit)) looped code at r ⌝ }
 {
     if looped {
-        return 0;
+        return OK;
     }
     refused(notes, code, at, 0, 0)
 }
@@ -188,10 +205,10 @@ fn evaluate(
         (evaluatedAt (now (image .entry)) depth at) ⌝ }
 {
     let v = expr(image, nodes, rows, top, table, notes, stack, 0, at, depth);
-    if v == NO_TYPE {
+    if v == ERR {
         return v;
     }
-    0
+    OK
 }
 
 // The statement at node `at`, if it has no body; `depth` is left for its children.
@@ -220,7 +237,7 @@ fn simple(
         kinds::ASSIGN => assignment(image, nodes, rows, top, table, notes, stack, at, depth),
         kinds::EXPR => evaluate(image, nodes, rows, top, table, notes, stack, at + 1, depth),
         kinds::RETURN => give(image, nodes, rows, top, table, notes, stack, at + 1, depth),
-        _ => 0,
+        _ => OK,
     }
 }
 
@@ -272,7 +289,7 @@ fn elements(
         (lent (now (rows .entry)) (now (table .exit)) (now (notes .exit)) (now (stack .exit))) ⌝ }
 {
     let v = expr(image, nodes, rows, top, table, notes, stack, 0, at, depth);
-    if v == NO_TYPE {
+    if v == ERR {
         return v;
     }
     let element = element_of(table, v);
@@ -300,7 +317,7 @@ fn fewer(left: usize) -> usize
     ensures { λ r. ⌜ r ≡ left - 2 ⌝ }
 {
     if left < 2 {
-        return 0;
+        return OK;
     }
     left - 2
 }
@@ -373,7 +390,7 @@ fn block(
     let mut left = node.children as usize;
     while 0 < left {
         let r = stmt(image, nodes, rows, table, notes, stack, next.at, d, looped);
-        if r == NO_TYPE {
+        if r == ERR {
             if notes[CODE] == codes::NINTH_FRAME {
                 return r;
             }
@@ -385,7 +402,7 @@ fn block(
         next = passed.cursor;
         left -= 1;
     }
-    0
+    OK
 }
 
 // The If at node `at`: its branches, each on a copy of the frames, and then the merge.
@@ -405,7 +422,7 @@ fn choices(
         (lent (now (rows .entry)) (now (table .entry)) (now (notes .entry)) (now (stack .entry)))
         (lent (now (rows .exit)) (now (table .exit)) (now (notes .exit)) (now (stack .exit))) ⌝ }
 {
-    let mut merged = [0u16; MOST_NAMES];
+    let mut merged = [ABSENT; MOST_NAMES];
     let mut clashes = [false; MOST_NAMES];
     let node = node_at(image, nodes, at);
     let top = wide(notes[TOP]);
@@ -427,18 +444,18 @@ fn choices(
         );
         let high = wide(notes[TOP]);
         notes[TOP] = small(top);
-        if r == NO_TYPE {
+        if r == ERR {
             return r;
         }
         note_branch(rows, top, &branch, high, &mut merged, &mut clashes);
         j = after_arm(image, nodes, j, left);
         left = fewer(left);
     }
-    let m = commit(rows, top, &merged, &clashes, at + 1);
-    if m.code != 0 {
-        return refused(notes, m.code, at + 1, m.name, 0);
+    let merge = commit(rows, top, &merged, &clashes);
+    match merge {
+        Merge::Whole => OK,
+        Merge::Clash(name) => refused(notes, codes::INCOMPATIBLE_BRANCHES, at + 1, name, 0),
     }
-    0
 }
 
 // The branch at node `at`, of `left` nodes of an If: its condition, if it has one, and its Block, whose errors are dropped.
@@ -463,7 +480,7 @@ fn one_arm(
     if 1 < left {
         let top = wide(notes[TOP]);
         let o = condition(image, nodes, rows, top, table, notes, stack, at, depth);
-        if o == NO_TYPE {
+        if o == ERR {
             return o;
         }
         let b = stop_of(image, nodes, at);
@@ -512,7 +529,7 @@ fn define(
 {
     let top = wide(notes[TOP]);
     let ret = notes[RETURNS];
-    if 7 <= top {
+    if LAST_FRAME <= top {
         return refused(notes, codes::NINTH_FRAME, at, 0, 0);
     }
     let node = node_at(image, nodes, at);
@@ -520,7 +537,7 @@ fn define(
     clear(rows, top + 1);
     let b = parameters(image, nodes, rows, top + 1, at, n - 1);
     notes[TOP] = small(top + 1);
-    notes[RETURNS] = 0;
+    notes[RETURNS] = NOT_RETURNED;
     let r = block(
         image,
         nodes,
@@ -534,11 +551,11 @@ fn define(
         false,
     );
     notes[RETURNS] = ret;
-    if r == NO_TYPE {
+    if r == ERR {
         return r;
     }
     notes[TOP] = notes[TOP] - 1;
-    0
+    OK
 }
 
 // The For at node `at`: its body on a copy of the frames, of which nothing stays; its errors are returned.
@@ -559,7 +576,7 @@ fn each(
 {
     let top = wide(notes[TOP]);
     let v = elements(image, nodes, rows, top, table, notes, stack, at + 1, depth);
-    if v == NO_TYPE {
+    if v == ERR {
         return v;
     }
     let node = node_at(image, nodes, at);
@@ -600,7 +617,7 @@ fn repeat(
 {
     let top = wide(notes[TOP]);
     let o = condition(image, nodes, rows, top, table, notes, stack, at + 1, depth);
-    if o == NO_TYPE {
+    if o == ERR {
         return o;
     }
     let mut inner = *rows;
@@ -647,17 +664,27 @@ pub fn program(
         (tab (now (table .exit)) (r .counts .types) (r .counts .elements))
         (now (frames .exit)) (r .top) (now (stack .exit)) (r .code) (r .place) (r .a) (r .b) ⌝ }
 {
-    let mut notes = [1u32; 8];
-    notes[TYPES] = 8;
+    let mut notes = [1u32; NOTED];
+    notes[TYPES] = PLAIN_TYPES;
     notes[ELEMENTS] = 0;
     notes[TOP] = 0;
     let node = node_at(image, nodes, 0);
     let mut j: usize = 1;
     let mut left = node.children as usize;
     while 0 < left {
-        notes[RETURNS] = 0;
-        let r = stmt(image, nodes, frames, table, &mut notes, stack, j, 63, false);
-        if r == NO_TYPE {
+        notes[RETURNS] = NOT_RETURNED;
+        let r = stmt(
+            image,
+            nodes,
+            frames,
+            table,
+            &mut notes,
+            stack,
+            j,
+            BELOW_MODULE,
+            false,
+        );
+        if r == ERR {
             return Walked {
                 code: notes[CODE],
                 place: wide(notes[PLACE]),

@@ -1,4 +1,4 @@
 pub mod Ending
 pub mod Spreading
 pub mod Answer
-pub mod Contract
+pub mod Clauses

@@ -3,17 +3,17 @@ ghost use mathlib.Core.Path.{_≡_};
 ghost use Prim.Native.Nat.{_<_};
 ghost use Rattle.meaning.specs.Limits.{mostNames, mostFrames};
 ghost use Rattle.rules.specs.Leaves.{Known};
-ghost use Rattle.nodes.specs.Notes.{Noting, Refused};
+ghost use Rattle.nodes.specs.Notes.{err, Noting, Refused};
 ghost use Rattle.nodes.specs.Lent.{lent};
 ghost use Rattle.targets.specs.Spreading.{Written, Unpacks, Sharing, Share};
-ghost use Rattle.targets.specs.Contract.{Checkable, Assignable, Single, Spreadable, Checks, Assigns, AssignsEach};
+ghost use Rattle.targets.specs.Clauses.{Checkable, Assignable, Single, Spreadable, Checks, Assigns, AssignsEach};
 use expr::expr;
 use frames::Frames;
 use frames::bind;
 use frames::lookup;
 use image::Cursor;
 use image::kinds;
-use nodes::NO_TYPE;
+use nodes::ERR;
 use nodes::Notes;
 use nodes::Stack;
 use nodes::refused;
@@ -40,7 +40,7 @@ struct Verdict {
 
 fn refuse(notes: &mut Notes, code: u32, place: usize, a: usize, b: usize) -> Outcome
     requires { ⌜ Noting (now notes) ⌝ }
-    ensures { λ r. ⌜ (r ≡ Outcome.Err) × Refused (now (notes .entry)) (now (notes .exit)) 65535 code place a b ⌝ }
+    ensures { λ r. ⌜ (r ≡ Outcome.Err) × Refused (now (notes .entry)) (now (notes .exit)) err code place a b ⌝ }
 {
     refused(notes, code, place, a, b);
     Outcome::Err
@@ -148,7 +148,7 @@ fn check_only(
         here.at,
         depth,
     );
-    if v == NO_TYPE {
+    if v == ERR {
         return Outcome::Err;
     }
     Outcome::Ok

@@ -33,7 +33,7 @@ pub const FUNCTION: usize = 7;
 // The first number that is no plain type's.
 pub const STRUCTURED: usize = 8;
 
-// The kinds of the others.
+// The kinds of the others: `List` is the first.
 pub const LIST: usize = 8;
 
 pub const DICT: usize = 9;
@@ -43,6 +43,18 @@ pub const TUPLE: usize = 10;
 pub const MAP_ITER: usize = 11;
 
 pub const FILTER_ITER: usize = 12;
+
+// A Tuple's kind as a cell has it.
+const TUPLE_CELL: u16 = TUPLE as u16;
+
+// The cells of a table for each type that it has room for: four of its record, one for a tuple element, one for a slot.
+pub const CELLS: usize = 6;
+
+// What a fresh table is filled with: no chain, for 1 is a plain type. A fill with 0 is made byte by byte, one with 1 by 16 bytes at a time.
+pub const FRESH: u16 = 1;
+
+// The hashes are below this prime, so that two that differ still do when the same numbers follow.
+const HASHES: usize = 4093;
 
 // How many types and how many tuple elements a table has.
 pub struct Counts {
@@ -79,7 +91,7 @@ fn cell(table: &[u16], at: usize) -> usize
 fn base(table: &[u16]) -> usize
     ensures { λ r. ⌜ r ≡ 4 * capacity (now (table .entry)) ⌝ }
 {
-    4 * (table.len() / 6)
+    4 * (table.len() / CELLS)
 }
 
 // Writes record i.
@@ -121,12 +133,12 @@ fn holds(table: &[u16], i: usize, k: u16, p: u16, q: u16) -> bool
     true
 }
 
-// A hash with one number more. 4093 is prime, so that hashes that differ still do when the same numbers follow, and a hash stays small.
+// A hash with one number more.
 fn mixed(h: usize, e: usize) -> usize
     requires { ⌜ (h < 4093) × (e < 65536) ⌝ }
     ensures { λ r. ⌜ (r ≡ step h e) × (r < 4093) ⌝ }
 {
-    (8 * h + e) % 4093
+    (8 * h + e) % HASHES
 }
 
 // The slot of a hash.
@@ -134,7 +146,7 @@ fn slot_of(table: &[u16], h: usize) -> usize
     requires { ⌜ 0 < capacity (now table) ⌝ }
     ensures { λ r. ⌜ r ≡ slotOf (now (table .entry)) h ⌝ }
 {
-    let n = table.len() / 6;
+    let n = table.len() / CELLS;
     5 * n + h % n
 }
 
@@ -215,7 +227,7 @@ fn matches(table: &[u16], elements: usize, i: usize, stack: &[u16], from: usize,
     requires { ⌜ from + n ≤ length (now stack) ⌝ }
     ensures { λ r. ⌜ Told (TupleAt (now (table .entry)) (now (stack .entry)) from n i) r ⌝ }
 {
-    if table[4 * i] != 10 {
+    if table[4 * i] != TUPLE_CELL {
         return false;
     }
     if cell(table, 4 * i + 2) != n {
@@ -237,7 +249,7 @@ fn hash_of(stack: &[u16], from: usize, n: usize) -> usize
     requires { ⌜ from + n ≤ length (now stack) ⌝ }
     ensures { λ r. ⌜ r ≡ tupleHash (take n (drop from (now (stack .entry)))) ⌝ }
 {
-    let mut h: usize = 10;
+    let mut h = TUPLE;
     let mut j: usize = 0;
     while j < n {
         h = mixed(h, number_at(stack, from + j));
@@ -300,7 +312,7 @@ pub fn tuple_of(table: &mut [u16], counts: Counts, stack: &[u16], from: usize, n
         Formed { number: i, counts }
     } else {
         copy(table, base(table) + m, stack, from, n);
-        add(table, slot, types, 10, m as u16, n as u16);
+        add(table, slot, types, TUPLE_CELL, m as u16, n as u16);
         Formed {
             number: types,
             counts: Counts {
@@ -352,18 +364,18 @@ pub fn element_at(table: &[u16], i: usize, j: usize) -> usize
     cell(table, base(table) + p + j)
 }
 
-// The number that the q cells from `at` on share, or 0.
+// The type that the q cells from `at` on share, or Unknown.
 fn shared_of(table: &[u16], at: usize, q: usize) -> usize
     requires { ⌜ at + q ≤ length (now table) ⌝ }
     ensures { λ r. ⌜ r ≡ shared (take q (drop at (now (table .entry)))) ⌝ }
 {
     if q == 0 {
-        return 0;
+        return UNKNOWN;
     }
     let mut j: usize = 1;
     while j < q {
         if table[at + j] != table[at] {
-            return 0;
+            return UNKNOWN;
         }
         j += 1;
     }
@@ -392,7 +404,7 @@ pub fn element_of(table: &[u16], i: usize) -> Perhaps
             number: common_of(table, i),
         };
     }
-    if kind >= STRUCTURED {
+    if kind >= LIST {
         return Perhaps {
             there: true,
             number: part_of(table, i),

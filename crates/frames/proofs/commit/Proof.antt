@@ -10,15 +10,15 @@ use Rattle.frames.proofs.commit.Reads as reads
 use Rattle.frames.proofs.commit.Lts as lts
 
 abbrev Inv-loop : tie.InvT-loop
-Inv-loop frames₀ top merged clashes place x₀ frames x = Committing frames₀ top merged clashes place frames x
+Inv-loop frames₀ top merged clashes x₀ frames x = Committing frames₀ top merged clashes frames x
 
 abbrev μ-loop : tie.MeasureT-loop
-μ-loop frames₀ top merged clashes place x₀ frames x = 128 - x
+μ-loop frames₀ top merged clashes x₀ frames x = 128 - x
 
 -- src/lib.rt:112:5
 loop-holds : tie.Need-loop-holds Inv-loop μ-loop
 loop-holds c =
-    committing-first _ _ _ _ _ (c .pre .1)
+    committing-first _ _ _ _ (c .pre .1)
 
 -- src/lib.rt:113:17
 mul-m : tie.Need-mul-m Inv-loop μ-loop

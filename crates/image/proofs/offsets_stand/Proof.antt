@@ -12,6 +12,9 @@ use Rattle.words.proofs.get_word.Reads as get-word-reads
 get-word-requires : tie.Need-get-word-requires
 get-word-requires c κs = search needs
 
+cast-if1 : tie.Need-cast-if1
+cast-if1 c = search needs
+
 returns : tie.Need-returns
 unfolding offsetsStand _and_
 returns c =
@@ -64,6 +67,7 @@ offsets-stand-spec =
     tie.close
     (tie.spec
     get-word-requires
+    cast-if1
     returns
     get-word-requires-2
     cast-if2

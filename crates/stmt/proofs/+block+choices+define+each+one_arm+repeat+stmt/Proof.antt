@@ -299,45 +299,48 @@ choices-loop-again t c =
       moved-noting (s .moved),
     )
 
-choices-add-commit : (t : ℕ) → choices-lts.Need-add-commit (node-at-reads.Asked, node-at-reads.Learnt, wide-reads.Asked, wide-reads.Learnt, one-arm-below t, one-arm.Post, small-reads.Asked, small-reads.Learnt, note-branch-reads.Asked, note-branch-reads.Learnt, after-arm-reads.Asked, after-arm-reads.Learnt, fewer-reads.Asked, fewer-reads.Learnt, commit-reads.Asked, commit-reads.Learnt, refused-reads.Asked, refused-reads.Learnt) (choices-at t) choices.Post choices-Inv-loop choices-μ-loop
-choices-add-commit t c =
-    omega (arith, few-nodes (c .before .before .before .before .before .before .before .before .before .before .before .pre .1 .1 .0 .ready .sound), c .before .before .before .before .before .before .before .before .before .before .before .pre .1 .1 .1 .there)
-
 choices-commit-requires : (t : ℕ) → choices-lts.Need-commit-requires (node-at-reads.Asked, node-at-reads.Learnt, wide-reads.Asked, wide-reads.Learnt, one-arm-below t, one-arm.Post, small-reads.Asked, small-reads.Learnt, note-branch-reads.Asked, note-branch-reads.Learnt, after-arm-reads.Asked, after-arm-reads.Learnt, fewer-reads.Asked, fewer-reads.Learnt, commit-reads.Asked, commit-reads.Learnt, refused-reads.Asked, refused-reads.Learnt) (choices-at t) choices.Post choices-Inv-loop choices-μ-loop
 choices-commit-requires t c κs =
     (c .before .before .before .before .loop .inv .0 .spent .fit .high, c .before .before .before .before .loop .inv .0 .spent .fit .long)
 
+choices-enum-told : (t : ℕ) → choices-lts.Need-enum-told (node-at-reads.Asked, node-at-reads.Learnt, wide-reads.Asked, wide-reads.Learnt, one-arm-below t, one-arm.Post, small-reads.Asked, small-reads.Learnt, note-branch-reads.Asked, note-branch-reads.Learnt, after-arm-reads.Asked, after-arm-reads.Learnt, fewer-reads.Asked, fewer-reads.Learnt, commit-reads.Asked, commit-reads.Learnt, refused-reads.Asked, refused-reads.Learnt) (choices-at t) choices.Post choices-Inv-loop choices-μ-loop
+choices-enum-told t c = search needs
+
+choices-enum-known-merge : (t : ℕ) → choices-lts.Need-enum-known-merge (node-at-reads.Asked, node-at-reads.Learnt, wide-reads.Asked, wide-reads.Learnt, one-arm-below t, one-arm.Post, small-reads.Asked, small-reads.Learnt, note-branch-reads.Asked, note-branch-reads.Learnt, after-arm-reads.Asked, after-arm-reads.Learnt, fewer-reads.Asked, fewer-reads.Learnt, commit-reads.Asked, commit-reads.Learnt, refused-reads.Asked, refused-reads.Learnt) (choices-at t) choices.Post choices-Inv-loop choices-μ-loop
+choices-enum-known-merge t c = search needs
+
 choices-add-refused : (t : ℕ) → choices-lts.Need-add-refused (node-at-reads.Asked, node-at-reads.Learnt, wide-reads.Asked, wide-reads.Learnt, one-arm-below t, one-arm.Post, small-reads.Asked, small-reads.Learnt, note-branch-reads.Asked, note-branch-reads.Learnt, after-arm-reads.Asked, after-arm-reads.Learnt, fewer-reads.Asked, fewer-reads.Learnt, commit-reads.Asked, commit-reads.Learnt, refused-reads.Asked, refused-reads.Learnt) (choices-at t) choices.Post choices-Inv-loop choices-μ-loop
 choices-add-refused t c =
-    omega (arith, few-nodes (c .before .before .before .before .before .before .before .before .before .before .before .before .before .before .before .pre .1 .1 .0 .ready .sound), c .before .before .before .before .before .before .before .before .before .before .before .before .before .before .before .pre .1 .1 .1 .there)
+    omega (arith, few-nodes (c .before .before .before .before .before .before .before .before .before .before .before .before .before .before .before .before .pre .1 .1 .0 .ready .sound), c .before .before .before .before .before .before .before .before .before .before .before .before .before .before .before .before .pre .1 .1 .1 .there)
 
 choices-refused-requires : (t : ℕ) → choices-lts.Need-refused-requires (node-at-reads.Asked, node-at-reads.Learnt, wide-reads.Asked, wide-reads.Learnt, one-arm-below t, one-arm.Post, small-reads.Asked, small-reads.Learnt, note-branch-reads.Asked, note-branch-reads.Learnt, after-arm-reads.Asked, after-arm-reads.Learnt, fewer-reads.Asked, fewer-reads.Learnt, commit-reads.Asked, commit-reads.Learnt, refused-reads.Asked, refused-reads.Learnt) (choices-at t) choices.Post choices-Inv-loop choices-μ-loop
 choices-refused-requires t c κs =
-    c .before .before .before .before .before .before .before .before .loop .inv .2
+    c .before .before .before .before .before .before .before .before .before .loop .inv .2
 
 choices-same-length-2 : (t : ℕ) → choices-lts.Need-same-length-2 (node-at-reads.Asked, node-at-reads.Learnt, wide-reads.Asked, wide-reads.Learnt, one-arm-below t, one-arm.Post, small-reads.Asked, small-reads.Learnt, note-branch-reads.Asked, note-branch-reads.Learnt, after-arm-reads.Asked, after-arm-reads.Learnt, fewer-reads.Asked, fewer-reads.Learnt, commit-reads.Asked, commit-reads.Learnt, refused-reads.Asked, refused-reads.Learnt) (choices-at t) choices.Post choices-Inv-loop choices-μ-loop
 choices-same-length-2 t c = search needs
 
 choices-returns-2 : (t : ℕ) → choices-lts.Need-returns-2 (node-at-reads.Asked, node-at-reads.Learnt, wide-reads.Asked, wide-reads.Learnt, one-arm-below t, one-arm.Post, small-reads.Asked, small-reads.Learnt, note-branch-reads.Asked, note-branch-reads.Learnt, after-arm-reads.Asked, after-arm-reads.Learnt, fewer-reads.Asked, fewer-reads.Learnt, commit-reads.Asked, commit-reads.Learnt, refused-reads.Asked, refused-reads.Learnt) (choices-at t) choices.Post choices-Inv-loop choices-μ-loop
-choices-returns-2 t c =
-    let f = c .refused .ensures in
-    let h = few-nodes (c .before .before .before .before .before .before .before .before .before .before .before .before .before .before .before .before .pre .1 .1 .0 .ready .sound) in
-    let i = c .before .before .before .before .before .before .before .before .before .before .before .before .before .before .before .before .pre .1 .1 .1 .there in (
-      acted-from _ _ _ _ _ _ (c .before .before .before .before .before .before .before .before .before .before .before .wide .ensures)
-          (done-refused f (omega arith) (clash-small (c .before .before .before .before .commit .ensures) (c .before .before .if2 .taken)) (omega arith) (f .top ∙ c .before .before .before .before .before .before .before .before .before .loop .inv .1) (f .ret)
-          (choosing-end (c .before .before .before .before .before .before .before .before .before .before .before .before .before .before .before .before .pre .1 .1 .1) (c .before .before .before .before .before .before .before .before .before .loop .inv .0) (c .before .before .before .before .before .before .before .before .loop-test .left) (c .before .before .before .before .commit .ensures))),
-      tells-kept (refused-kept (c .before .before .if2 .taken) f),
-    )
+choices-returns-2 t c = (
+  acted-from _ _ _ _ _ _ (c .before .before .before .before .before .before .before .before .before .wide .ensures) (done-any refl (verdict-zero _) (done-ends refl (c .before .before .before .before .before .before .before .loop .inv .1) refl
+      (choosing-end (c .before .before .before .before .before .before .before .before .before .before .before .before .before .before .pre .1 .1 .1) (c .before .before .before .before .before .before .before .loop .inv .0) (c .before .before .before .before .before .before .loop-test .left) (rw (c .enum-told .given .1) at (c .before .before .commit .ensures))))),
+  tells-zero (c .before .before .before .before .before .before .before .loop .inv .2),
+)
 
 choices-same-length-3 : (t : ℕ) → choices-lts.Need-same-length-3 (node-at-reads.Asked, node-at-reads.Learnt, wide-reads.Asked, wide-reads.Learnt, one-arm-below t, one-arm.Post, small-reads.Asked, small-reads.Learnt, note-branch-reads.Asked, note-branch-reads.Learnt, after-arm-reads.Asked, after-arm-reads.Learnt, fewer-reads.Asked, fewer-reads.Learnt, commit-reads.Asked, commit-reads.Learnt, refused-reads.Asked, refused-reads.Learnt) (choices-at t) choices.Post choices-Inv-loop choices-μ-loop
 choices-same-length-3 t c = search needs
 
 choices-returns-3 : (t : ℕ) → choices-lts.Need-returns-3 (node-at-reads.Asked, node-at-reads.Learnt, wide-reads.Asked, wide-reads.Learnt, one-arm-below t, one-arm.Post, small-reads.Asked, small-reads.Learnt, note-branch-reads.Asked, note-branch-reads.Learnt, after-arm-reads.Asked, after-arm-reads.Learnt, fewer-reads.Asked, fewer-reads.Learnt, commit-reads.Asked, commit-reads.Learnt, refused-reads.Asked, refused-reads.Learnt) (choices-at t) choices.Post choices-Inv-loop choices-μ-loop
-choices-returns-3 t c = (
-  acted-from _ _ _ _ _ _ (c .before .before .before .before .before .before .before .before .before .wide .ensures) (done-any (c .if2 .left) (verdict-zero _) (done-ends refl (c .before .before .before .before .before .before .before .loop .inv .1) refl
-      (choosing-end (c .before .before .before .before .before .before .before .before .before .before .before .before .before .before .pre .1 .1 .1) (c .before .before .before .before .before .before .before .loop .inv .0) (c .before .before .before .before .before .before .loop-test .left) (c .before .before .commit .ensures)))),
-  tells-zero (c .before .before .before .before .before .before .before .loop .inv .2),
-)
+choices-returns-3 t c =
+    let f = c .refused .ensures in
+    let k = rw (c .before .before .before .merge .given .1) at (c .before .before .before .before .before .commit .ensures) in
+    let h = few-nodes (c .before .before .before .before .before .before .before .before .before .before .before .before .before .before .before .before .before .pre .1 .1 .0 .ready .sound) in
+    let i = c .before .before .before .before .before .before .before .before .before .before .before .before .before .before .before .before .before .pre .1 .1 .1 .there in (
+      acted-from _ _ _ _ _ _ (c .before .before .before .before .before .before .before .before .before .before .before .before .wide .ensures)
+          (done-refused f (omega arith) (clash-small k) (omega arith) (f .top ∙ c .before .before .before .before .before .before .before .before .before .before .loop .inv .1) (f .ret)
+          (choosing-end (c .before .before .before .before .before .before .before .before .before .before .before .before .before .before .before .before .before .pre .1 .1 .1) (c .before .before .before .before .before .before .before .before .before .before .loop .inv .0) (c .before .before .before .before .before .before .before .before .before .loop-test .left) k)),
+      tells-kept (refused-kept (λ z. omega arith) f),
+    )
 
 define-element-copy-out-wide : (t : ℕ) → define-lts.Need-element-copy-out-wide (wide-reads.Asked, wide-reads.Learnt, refused-reads.Asked, refused-reads.Learnt, node-at-reads.Asked, node-at-reads.Learnt, clear-reads.Asked, clear-reads.Learnt, parameters-reads.Asked, parameters-reads.Learnt, small-reads.Asked, small-reads.Learnt, block-below t, block.Post) (define-at t) define.Post
 define-element-copy-out-wide t c = search needs
@@ -850,8 +853,9 @@ pub +block+choices+define+each+one-arm+repeat+stmt-spec : {M : Type 1} → state
     (choices-fewer-requires t)
     (choices-loop-less t)
     (choices-loop-again t)
-    (choices-add-commit t)
     (choices-commit-requires t)
+    (choices-enum-told t)
+    (choices-enum-known-merge t)
     (choices-add-refused t)
     (choices-refused-requires t)
     (choices-same-length-2 t)

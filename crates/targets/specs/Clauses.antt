@@ -9,9 +9,10 @@ use Rattle.meaning.specs.Decode.{stopOf, exprsFrom, exprAt}
 use Rattle.meaning.specs.Walk.{End, done, checked, assignTo, assignEach}
 use Rattle.types.specs.Table.{denote}
 use Rattle.image.specs.declared.Cursor.{Cursor}
-use Rattle.nodes.specs.Notes.{typesIn, placeIn, firstIn, secondIn, Noting}
+use Rattle.nodes.specs.Notes.{typesIn, placeIn, firstIn, secondIn}
 use Rattle.nodes.specs.Lent.{Lent, tableOf, stateIn}
-use Rattle.expr.specs.Contract.{Ready, At}
+use Rattle.expr.specs.Contract.{At}
+use Rattle.expr.specs.Clauses.{Asked}
 use Rattle.targets.specs.declared.Outcome.{Outcome}
 use Rattle.targets.specs.Ending.{Assigned}
 use Rattle.targets.specs.Answer.{codeOf, Held}
@@ -19,27 +20,26 @@ use Rattle.targets.specs.Spreading.{spread, Spreads, Within}
 
 -- ---- what is asked
 
--- room for all that stands from the cursor's node to its end, and more
-abbrev pub Asked : List ℕ → Cursor → ℕ → Lent → Type 0 → Type 0
-Asked bs c top w more =
-    Noting (w .notes) × (Ready bs (c .nodes) (w .rows) top (tableOf w) (w .stack) 0 (c .at) (stopOf (nodesOf bs) (c .at)) × more)
+-- what an expression asks of room, from the cursor's node to its end and with the whole stack free; and more
+abbrev pub Here : List ℕ → Cursor → ℕ → Lent → Type 0 → Type 0
+Here bs c top w more = Asked bs (c .nodes) top 0 (c .at) (stopOf (nodesOf bs) (c .at)) w more
 
 -- a node, at most d deep
 abbrev pub Checkable : List ℕ → Cursor → ℕ → ℕ → Lent → Type 0
-Checkable bs c top d w = Asked bs c top w (At bs (c .at) d)
+Checkable bs c top d w = Here bs c top w (At bs (c .at) d)
 
 -- a target, at most d deep, for a value of type ty
 abbrev pub Assignable : List ℕ → Cursor → ℕ → ℕ → ℕ → Lent → Type 0
-Assignable bs c top ty d w = Asked bs c top w (At bs (c .at) d × (ty < typesIn (w .notes)))
+Assignable bs c top ty d w = Here bs c top w (At bs (c .at) d × (ty < typesIn (w .notes)))
 
 -- the same, and it is no Tuple
 abbrev pub Single : List ℕ → Cursor → ℕ → ℕ → ℕ → Lent → Type 0
-Single bs c top ty d w = Asked bs c top w (At bs (c .at) d × ((nodeOf (nodesOf bs) (c .at) .kind ≡ 28 → ⊥) × (ty < typesIn (w .notes))))
+Single bs c top ty d w = Here bs c top w (At bs (c .at) d × ((nodeOf (nodesOf bs) (c .at) .kind ≡ 28 → ⊥) × (ty < typesIn (w .notes))))
 
 -- the n targets of a Tuple, each at most d deep, for a value of type ty that can be unpacked into them
 abbrev pub Spreadable : List ℕ → Cursor → ℕ → ℕ → ℕ → ℕ → Lent → Type 0
 Spreadable bs c top n ty d w =
-    Asked bs c top w (Within bs (c .at) n d × ((ty < typesIn (w .notes)) × Spreads (tableOf w) ty n))
+    Here bs c top w (Within bs (c .at) n d × ((ty < typesIn (w .notes)) × Spreads (tableOf w) ty n))
 
 -- ---- what is left
 
