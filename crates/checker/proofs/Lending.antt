@@ -12,10 +12,9 @@ use Rattle.checker.specs.Steps.{Sized, Lent}
 
 module _ {bs cs : List ℕ} {nodes : ℕ} (l : Lent bs nodes cs) where
   pub lent-started : {ds : List ℕ} → length ds ≡ length cs → Wf (tab ds 8 0)
-      → Started bs nodes (replicate 8 (replicate 128 0)) (tab ds 8 0) (replicate 2048 1)
+      → Started bs (replicate 8 (replicate 128 0)) (tab ds 8 0) (replicate 2048 1)
   lent-started {ds} e w = record {
     sound = l .sound;
-    nodes-at = l .nodes-at;
     wf = w;
     types = refl;
     elements = refl;

@@ -125,7 +125,7 @@ fn walk_in(
     start(table);
     let mut frames = [[ABSENT; MOST_NAMES]; MOST_FRAMES];
     let mut stack = [FRESH; MOST_NODES];
-    let w = program(image, nodes, &mut frames, table, &mut stack);
+    let w = program(image, &mut frames, table, &mut stack);
     let code = w.code;
     if code == 0 {
         return accept(image, table, w.counts, &frames, w.top, sheet);

@@ -4,6 +4,7 @@ use mathlib.Core.Bool.{Bool, true, false}
 use mathlib.Core.List.{List, [], _∷_, _++_, map}
 use Prim.Native.Nat.{ℕ, suc, _+_, _-_, _≤_, _<_}
 use lib.ListN.{length, getD, take, drop}
+use Rattle.meaning.specs.Limits.{mostNodes, deepest}
 use Rattle.meaning.specs.Base.{if_then_else_}
 use Rattle.meaning.specs.Types.{Ty, unknown, mapIter, filterIter}
 use Rattle.meaning.specs.Image.{Name, nodeCount, nodesFrom, nodesOf, nodeOf, namesOf, depth}
@@ -27,20 +28,20 @@ pub record Ready (bs : List ℕ) (nodes : ℕ) (fs : Rows) (top : ℕ) (t : Tab)
   pub nodes-at : nodes ≡ nodesFrom bs
   pub wf : Wf t
   pub fit : Fit t fs top
-  pub stack : length st ≡ 2048
+  pub stack : length st ≡ mostNodes
   pub types-room : t.n + e ≤ capacity t.cells + i
   pub elements-room : t.m + e ≤ capacity t.cells + i
-  pub stack-room : sp + e ≤ 2048 + i
+  pub stack-room : sp + e ≤ mostNodes + i
 
 -- node i is there, and d levels from it on are enough
 pub record At (bs : List ℕ) (i d : ℕ) : Type 0 where
   pub there : i < nodeCount bs
-  pub deep : 65 ≤ depth i 0 (nodesOf bs) + d
+  pub deep : suc deepest ≤ depth i 0 (nodesOf bs) + d
 
 -- node i is there and is what was read, and d levels are enough for each of its children
 pub record Inner (bs : List ℕ) (i d : ℕ) (node : ImageNode) : Type 0 where
   pub there : i < nodeCount bs
-  pub deep : 64 ≤ depth i 0 (nodesOf bs) + d
+  pub deep : deepest ≤ depth i 0 (nodesOf bs) + d
   pub read : node ≡ nodeOf (nodesOf bs) i
 
 -- n children of some node start at i, perhaps with more behind them, and d levels are enough for each
@@ -50,7 +51,7 @@ pub record Row (bs : List ℕ) (i n d : ℕ) : Type 0 where
   pub there : parent < nodeCount bs
   pub behind : parent < i
   pub children : ChildrenOf (nodesOf bs) (nodeOf (nodesOf bs) parent) i (n + more)
-  pub deep : 64 ≤ depth parent 0 (nodesOf bs) + d
+  pub deep : deepest ≤ depth parent 0 (nodesOf bs) + d
 
 -- ---- what is left, whether it ended well or not
 
@@ -60,7 +61,7 @@ pub record Fine (t u : Tab) (st su : List ℕ) (sp i e x : ℕ) : Type 0 where
   pub grown : Grown t u
   pub types-spent : u.n + i ≤ t.n + e
   pub elements-spent : u.m + i + x ≤ t.m + e
-  pub stack : length su ≡ 2048
+  pub stack : length su ≡ mostNodes
   pub kept : (j : ℕ) → j < sp → getD su j 0 ≡ getD st j 0
 
 -- r is the type of a number of the table u, or a refusal

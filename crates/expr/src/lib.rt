@@ -3,8 +3,10 @@
 ghost use mathlib.Core.Path.{_≡_};
 ghost use Prim.Native.Nat.{_<_};
 ghost use lib.ListN.{getD, set};
+ghost use Rattle.meaning.specs.Limits.{mostNodes};
 ghost use Rattle.meaning.specs.Image.{nodeCount};
 ghost use Rattle.meaning.specs.Rules.{rangeRule};
+ghost use Rattle.types.specs.Table.{mostNumbers};
 ghost use Rattle.rules.specs.Builtins.{numberedRule};
 ghost use Rattle.nodes.specs.Lent.{lent};
 ghost use Rattle.expr.specs.Contract.{Enough, firstCode, streamOf};
@@ -47,14 +49,14 @@ fn wide(x: u16) -> usize
 
 // The number at a place of the stack.
 fn number_at(stack: &Stack, at: usize) -> usize
-    requires { ⌜ at < 2048 ⌝ }
+    requires { ⌜ at < mostNodes ⌝ }
     ensures { λ r. ⌜ r ≡ getD (now (stack .entry)) at 0 ⌝ }
 {
     wide(stack[at])
 }
 
 fn push(stack: &mut Stack, at: usize, number: usize)
-    requires { ⌜ (at < 2048) × (number < 2056) ⌝ }
+    requires { ⌜ (at < mostNodes) × (number < mostNumbers) ⌝ }
     ensures { λ _. ⌜ now (stack .exit) ≡ set (now (stack .entry)) at number ⌝ }
 {
     stack[at] = number as u16;

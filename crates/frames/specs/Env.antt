@@ -58,10 +58,10 @@ framesOf t fs top = below t fs (suc top)
 
 -- the rows are eight of 128 cells, `top` is one of them, and each cell is within the table
 pub record Fit (t : Tab) (fs : Rows) (top : ℕ) : Type 0 where
-  pub long : length fs ≡ 8
-  pub wide : (i : ℕ) → i < 8 → length (getD fs i []) ≡ 128
-  pub high : top < 8
-  pub known : (i x : ℕ) → i < 8 → cell fs i x ≤ t.n
+  pub long : length fs ≡ mostFrames
+  pub wide : (i : ℕ) → i < mostFrames → length (getD fs i []) ≡ mostNames
+  pub high : top < mostFrames
+  pub known : (i x : ℕ) → i < mostFrames → cell fs i x ≤ t.n
 
 -- r is the number of the type of name x, whatever the table
 pub record Looked (fs : Rows) (top x r : ℕ) : Type 0 where

@@ -5,3 +5,4 @@ pub mod Plainly
 pub mod Nesting
 pub mod Depth
 pub mod Answers
+pub mod Moving

@@ -1,4 +1,4 @@
-// The kinds of nodes, by the scope's numbers.
+// The kinds of nodes, by document 01's numbers: all of them, also those that no code has to tell from their neighbours.
 
 // ---- statements
 pub const BREAK: u32 = 1;

@@ -3,6 +3,7 @@ use mathlib.Core.Path.{_≡_}
 use mathlib.Core.List.{List, [], _∷_}
 use Prim.Native.Nat.{ℕ, suc, _<_}
 use lib.ListN.{length, getD}
+use Rattle.meaning.specs.Limits.{mostNodes}
 use Rattle.meaning.specs.Base.{choose}
 use Rattle.meaning.specs.Types.{Ty, unknown, tuple, tys}
 use Rattle.meaning.specs.Image.{Name, nodeCount, nodesFrom, nodesOf, nodeOf}
@@ -39,7 +40,7 @@ pub record Decidable (bs : List ℕ) (nodes : ℕ) (t : Tab) (st : List ℕ) (sp
   pub there : i < nodeCount bs
   pub node : d ≡ nodeOf (nodesOf bs) i
   pub listed : Listed t st sp (d .children)
-  pub stack : length st ≡ 2048
+  pub stack : length st ≡ mostNodes
   pub unary : d .kind ≡ 22 → (d .arg < 3) × (d .children ≡ 1)
   pub binary : d .kind ≡ 23 → (d .arg < 14) × (d .children ≡ 2)
   pub index : d .kind ≡ 31 → (d .children ≡ 2) × (suc i < nodeCount bs) × (stopOf (nodesOf bs) (suc i) < nodeCount bs)
@@ -59,7 +60,7 @@ pub record Operable (t : Tab) (left right n arg : ℕ) : Type 0 where
   pub wf : Wf t
   pub first : left < t.n
   pub second : right < t.n
-  pub node : n < 2048
+  pub node : n < mostNodes
   pub operator : arg < 14
 
 -- whatever the names and the number of nodes

@@ -195,7 +195,13 @@ pub fn list_of(table: &mut [u16], notes: &mut Notes, element: usize) -> usize
         0 ⌝ }
     ensures { λ r. ⌜ Kept (now (notes .entry)) (now (notes .exit)) r ⌝ }
 {
-    let formed = form(table, counts_of(notes), types::LIST, element, 0);
+    let formed = form(
+        table,
+        counts_of(notes),
+        types::LIST,
+        element,
+        types::NO_PART,
+    );
     keep(notes, formed.counts);
     formed.number
 }
@@ -274,7 +280,7 @@ pub fn operated(
     decided(notes, binary(table, arg, left, right), at)
 }
 
-// What node `at` gives, its children's types on the stack from sp on.
+// What node `at` gives, if it is no Binary, its children's types on the stack from sp on.
 pub fn decide(
     image: &[u8],
     nodes: usize,

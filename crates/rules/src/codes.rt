@@ -1,4 +1,4 @@
-// The codes of typing refusals, in T's words: 20 to 50.
+// The codes of typing refusals, 20 to 50, in document 01's words. Those that are missing, 29 to 31 and 33 to 35, stand in the operators' table.
 pub const BREAK: u32 = 20;
 
 pub const CONTINUE: u32 = 21;

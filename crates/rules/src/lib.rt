@@ -368,9 +368,15 @@ fn iterator(table: &mut [u16], counts: Counts, filters: bool, element: usize) ->
         0 ⌝ }
 {
     if filters {
-        return form(table, counts, types::FILTER_ITER, element, 0);
+        return form(table, counts, types::FILTER_ITER, element, types::NO_PART);
     }
-    form(table, counts, types::MAP_ITER, types::UNKNOWN, 0)
+    form(
+        table,
+        counts,
+        types::MAP_ITER,
+        types::UNKNOWN,
+        types::NO_PART,
+    )
 }
 
 // A decision, and the counts of the table that has its type.

@@ -11,7 +11,7 @@ use lib.Dec.{leb, ltb}
 use lib.ListN.{length, replicate, length-replicate, getD-replicate}
 use Rattle.meaning.specs.Base.{_and_, if_then_else_}
 use Rattle.meaning.specs.Types.{Ty, unknown}
-use Rattle.meaning.specs.Image.{Node, Name, nodeCount, nodesOf, nodeOf, namesOf, depth}
+use Rattle.meaning.specs.Image.{Node, Name, nodeCount, nodesFrom, nodesOf, nodeOf, namesOf, depth}
 use Rattle.meaning.specs.Decode.{stopOf, stmtAt, blockAt, stmtsFrom, treeOf}
 use Rattle.meaning.specs.Walk.{State, state, End, done, wrong, tooDeep, _>>=_, walk, program, start}
 use Rattle.meaning.specs.Answer.{walked}
@@ -52,14 +52,14 @@ pub record Running (bs : List ℕ) (nodes : ℕ) (t u : Tab) (gs : Rows) (high :
   pub returns : Ty
   pub answer : walked bs ≡ program (namesOf bs) (stmtsFrom (nodesOf bs) (λ k. stmtAt (nodesOf bs) 63 k) left j) (state (framesOf u gs high) returns)
 
-pub running-first : {bs : List ℕ} {nodes : ℕ} {fs : Rows} {t : Tab} {st : List ℕ} {n : ℕ} → Started bs nodes fs t st → n ≡ nodeOf (nodesOf bs) 0 .children
+pub running-first : {bs : List ℕ} {nodes : ℕ} {fs : Rows} {t : Tab} {st : List ℕ} {n : ℕ} → Started bs fs t st → nodes ≡ nodesFrom bs → n ≡ nodeOf (nodesOf bs) 0 .children
     → Running bs nodes t t fs 0 st 1 n
 unfolding walked treeOf start
-running-first {bs} {nodes} {fs} {t} {st} {n} a e =
+running-first {bs} {nodes} {fs} {t} {st} {n} a k e =
     let s = a .sound in
     let r : Ready bs nodes fs 0 t st 0 0 (nodeCount bs) = record {
       sound = s;
-      nodes-at = a .nodes-at;
+      nodes-at = k;
       wf = a .wf;
       fit = a .fit;
       stack = a .stack;

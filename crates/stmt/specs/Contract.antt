@@ -5,10 +5,11 @@ use mathlib.Core.List.{List, [], _∷_}
 use Prim.Native.Nat.{ℕ, _+_, _≤_, _<_}
 use lib.Dec.{ltb}
 use lib.ListN.{length, getD}
+use Rattle.meaning.specs.Limits.{mostNodes, deepest}
 use Rattle.meaning.specs.Base.{if_then_else_}
 use Rattle.meaning.specs.Types.{Ty}
 use Rattle.meaning.specs.Tree.{place, on, otherwise}
-use Rattle.meaning.specs.Image.{Name, nodeCount, nodesFrom, nodesOf, nodeOf, namesOf, depth}
+use Rattle.meaning.specs.Image.{Name, nodeCount, nodesOf, nodeOf, namesOf, depth}
 use Rattle.meaning.specs.Decode.{stopOf, exprAt, actAt, stmtAt, blockAt}
 use Rattle.meaning.specs.Frames.{Frame, Frames, empty}
 use Rattle.meaning.specs.Walk.{State, state, End, done, checked, condition, assignTo, returnRule, overElements, withParams, walk, act, body, arm}
@@ -102,7 +103,7 @@ pub record Bodiless (k : ℕ) : Type 0 where
 -- node i is a statement of kind k, and d levels are enough for each of its children
 pub record Stmt (bs : List ℕ) (i d k : ℕ) : Type 0 where
   pub there : i < nodeCount bs
-  pub deep : 64 ≤ depth i 0 (nodesOf bs) + d
+  pub deep : deepest ≤ depth i 0 (nodesOf bs) + d
   pub kind : nodeOf (nodesOf bs) i .kind ≡ k
 
 -- node i has two children
@@ -165,15 +166,14 @@ pub record Iterated (bs : List ℕ) (d : ℕ) (t u : Tab) (fs : Rows) (top : ℕ
 -- ---- the program
 
 -- a sound image, a table of the plain types with room for its nodes, and an empty module frame
-pub record Started (bs : List ℕ) (nodes : ℕ) (fs : Rows) (t : Tab) (st : List ℕ) : Type 0 where
+pub record Started (bs : List ℕ) (fs : Rows) (t : Tab) (st : List ℕ) : Type 0 where
   pub sound : Sound bs
-  pub nodes-at : nodes ≡ nodesFrom bs
   pub wf : Wf t
   pub types : t.n ≡ 8
   pub elements : t.m ≡ 0
   pub fit : Fit t fs 0
   pub module-frame : framesOf t fs 0 ≡ empty ∷ []
-  pub stack : length st ≡ 2048
+  pub stack : length st ≡ mostNodes
   pub room : nodeCount bs + 8 ≤ capacity t.cells
 
 -- how the whole walk ended, y being the return type where it stood

@@ -4,12 +4,14 @@
 // frame's row (crates/nodes/specs/Notes.antt).
 ghost use mathlib.Core.Path.{_≡_};
 ghost use Prim.Native.Nat.{_+_, _-_, _<_};
+ghost use Rattle.meaning.specs.Limits.{mostNodes, mostFrames};
 ghost use Rattle.meaning.specs.Image.{nodeCount, nodesFrom, nodesOf};
 ghost use Rattle.meaning.specs.Decode.{stopOf, past, paramsFrom};
 ghost use Rattle.meaning.proofs.Faults.{Sound, Headed};
 ghost use Rattle.types.specs.Table.{tab};
 ghost use Rattle.nodes.specs.Notes.{Noting};
 ghost use Rattle.nodes.specs.Lent.{lent};
+ghost use Rattle.image.specs.Parts.{On};
 ghost use Rattle.stmt.specs.Contract.{acted, conditionAt, evaluatedAt, assignedAt, returnedAt, armBlock};
 ghost use Rattle.stmt.specs.Contract.{Outside, Within, Entered, Started, Ran};
 ghost use Rattle.stmt.specs.Clauses.{Checkable, Paired, Returnable, Simple, Walkable, OfKind, InIf};
@@ -177,7 +179,7 @@ fn give(
 // A Break or Continue at node `at`: one outside a loop is refused by the code.
 fn outside(notes: &mut Notes, looped: bool, code: u32, at: usize) -> usize
     requires { ⌜ Noting (now notes) ⌝ }
-    requires { ⌜ (at < 2048) × (code ≡ 0 → ⊥) ⌝ }
+    requires { ⌜ (at < mostNodes) × (code ≡ 0 → ⊥) ⌝ }
     ensures { λ r. ⌜ Outside (now (notes .entry)) (now (notes .exit)) looped code at r ⌝ }
 {
     if looped {
@@ -251,7 +253,7 @@ fn parameters(
     n: usize,
 ) -> usize
     requires { ⌜ Sound (now image) ⌝ }
-    requires { ⌜ (nodes ≡ nodesFrom (now image)) × (top < 8) × Within (now image) at (at + 1) (n + 1) ⌝ }
+    requires { ⌜ (nodes ≡ nodesFrom (now image)) × (top < mostFrames) × Within (now image) at (at + 1) (n + 1) ⌝ }
     ensures { λ r. ⌜ (r ≡ past (nodesOf (now (image .entry))) n (at + 1)) × Within (now (image .entry)) at r 1 ⌝ }
     ensures { λ _. ⌜ Entered (now (rows .entry)) (now (rows .exit)) top (paramsFrom (nodesOf (now (image .entry))) n (at + 1)) ⌝ }
 {
@@ -299,17 +301,20 @@ fn elements(
     refused(notes, codes::NOT_ITERABLE, at, v, 0)
 }
 
-// Where the branch after the one at node `at` starts, of `left` nodes of an If.
-fn after_arm(image: &[u8], nodes: usize, at: usize, left: usize) -> usize
+// The cursor moved over the branch that it stands at, of `left` nodes of an If.
+fn after_arm(image: &[u8], here: Cursor, left: usize) -> Cursor
     requires { ⌜ Headed (now image) ⌝ }
-    requires { ⌜ (nodes ≡ nodesFrom (now image)) × (at < nodeCount (now image)) × (armBlock (now image) left at < nodeCount (now image)) ⌝ }
-    ensures { λ r. ⌜ r ≡ stopOf (nodesOf (now (image .entry))) (armBlock (now (image .entry)) left at) ⌝ }
+    requires { ⌜ On (now image) here × (armBlock (now image) left (here .at) < nodeCount (now image)) ⌝ }
+    ensures { λ r. ⌜ r .at ≡ stopOf (nodesOf (now (image .entry))) (armBlock (now (image .entry)) left (here .at)) ⌝ }
+    ensures { λ r. ⌜ r .nodes ≡ nodesFrom (now (image .entry)) ⌝ }
 {
+    let first = here.over(image);
+    let block = first.cursor;
     if 1 < left {
-        let b = stop_of(image, nodes, at);
-        return stop_of(image, nodes, b);
+        let second = block.over(image);
+        return second.cursor;
     }
-    stop_of(image, nodes, at)
+    block
 }
 
 // Two less, or none.
@@ -424,9 +429,11 @@ fn choices(
 {
     let mut merged = [ABSENT; MOST_NAMES];
     let mut clashes = [false; MOST_NAMES];
-    let node = node_at(image, nodes, at);
+    let here = Cursor { at, nodes };
+    let read = here.next(image);
+    let node = read.node;
     let top = wide(notes[TOP]);
-    let mut j = at + 1;
+    let mut next = read.cursor;
     let mut left = node.children as usize;
     while 0 < left {
         let mut branch = *rows;
@@ -437,7 +444,7 @@ fn choices(
             table,
             notes,
             stack,
-            j,
+            next.at,
             left,
             depth,
             looped,
@@ -448,7 +455,7 @@ fn choices(
             return r;
         }
         note_branch(rows, top, &branch, high, &mut merged, &mut clashes);
-        j = after_arm(image, nodes, j, left);
+        next = after_arm(image, next, left);
         left = fewer(left);
     }
     let merge = commit(rows, top, &merged, &clashes);
@@ -651,14 +658,8 @@ pub struct Walked {
 }
 
 // The module's statements: errors are returned, and each has a return type of its own.
-pub fn program(
-    image: &[u8],
-    nodes: usize,
-    frames: &mut Frames,
-    table: &mut [u16],
-    stack: &mut Stack,
-) -> Walked
-    requires { ⌜ Started (now image) nodes (now frames) (tab (now table) 8 0) (now stack) ⌝ }
+pub fn program(image: &[u8], frames: &mut Frames, table: &mut [u16], stack: &mut Stack) -> Walked
+    requires { ⌜ Started (now image) (now frames) (tab (now table) 8 0) (now stack) ⌝ }
     ensures { λ r. ⌜ Ran (now (image .entry))
         (tab (now (table .entry)) 8 0)
         (tab (now (table .exit)) (r .counts .types) (r .counts .elements))
@@ -668,8 +669,11 @@ pub fn program(
     notes[TYPES] = PLAIN_TYPES;
     notes[ELEMENTS] = 0;
     notes[TOP] = 0;
-    let node = node_at(image, nodes, 0);
-    let mut j: usize = 1;
+    let module = Cursor::first(image);
+    let nodes = module.nodes;
+    let read = module.next(image);
+    let node = read.node;
+    let mut next = read.cursor;
     let mut left = node.children as usize;
     while 0 < left {
         notes[RETURNS] = NOT_RETURNED;
@@ -680,7 +684,7 @@ pub fn program(
             table,
             &mut notes,
             stack,
-            j,
+            next.at,
             BELOW_MODULE,
             false,
         );
@@ -694,7 +698,8 @@ pub fn program(
                 top: wide(notes[TOP]),
             };
         }
-        j = stop_of(image, nodes, j);
+        let passed = next.over(image);
+        next = passed.cursor;
         left -= 1;
     }
     Walked {

@@ -1,14 +1,22 @@
 -- What a target's answer says of the notes, from part to part.
 use mathlib.Core.Path.{_≡_, refl, sym, ap, _∙_}
 use mathlib.Core.List.{List}
-use Prim.Native.Nat.{ℕ}
+use Prim.Native.Nat.{ℕ, _≤_}
+use native.Mathlib.Decide.{ℕ-discrete}
 use native.Mathlib.Omega.{arith}
 use borrow.Author.Tests.{eq-eqb}
 use Rattle.meaning.specs.Base.{if_then_else_}
-use Rattle.nodes.specs.Notes.{codeIn, verdict, Noting, Kept, Refused}
+use Rattle.meaning.specs.Types.{Ty}
+use Rattle.meaning.specs.Image.{Name}
+use Rattle.meaning.specs.Walk.{End}
+use Rattle.types.specs.Table.{Tab}
+use Rattle.frames.specs.Env.{Rows}
+use Rattle.nodes.specs.Notes.{codeIn, placeIn, firstIn, secondIn, tabIn, verdict, Noting, Kept, Refused}
 use Rattle.targets.specs.declared.Outcome.{Outcome}
 use Rattle.targets.specs.declared.Outcome.the-variants.{Ok, Err}
-use Rattle.targets.specs.Answer.{codeOf, Held}
+use Rattle.targets.specs.Answer.{codeOf, Held, Settled}
+use Rattle.targets.specs.Ending.{Assigned}
+use Rattle.targets.proofs.Endings.{assigned-well, assigned-noted}
 
 told : Outcome → ℕ
 told Ok = 0
@@ -49,6 +57,33 @@ held-trans g h = record { long = h .long; ret = h .ret ∙ g .ret; top = h .top 
 
 pub held-on : {ns ms : List ℕ} {o : Outcome} → Held ns ms o → Held ns ms Ok
 held-on h = record { long = h .long; ret = h .ret; top = h .top; refuses = λ e. ok-no-err e }
+
+-- ---- what was decided at a node is the answer
+
+pub settled-well : {ns : List ℕ} {n a b : ℕ} → Settled ns ns Ok 0 n a b
+settled-well = record { well = λ z. (refl, refl); ill = λ z. absurd (z refl) }
+
+pub settled-ill : {ns ms : List ℕ} {o : Outcome} {code n a b : ℕ} → (code ≡ 0 → ⊥) → (o ≡ Err) × Refused ns ms 65535 code n a b → Settled ns ms o code n a b
+settled-ill z f = record { well = λ y. absurd (z y); ill = λ y. f }
+
+module _ {ns ms : List ℕ} {o : Outcome} {code n a b : ℕ} (s : Settled ns ms o code n a b) where
+  pub settled-ok : o ≡ Ok → (code ≡ 0) × (ms ≡ ns)
+  settled-ok e = elim (ℕ-discrete code 0) [
+    | yes z ↦ (z, s .well z .1)
+    | no z ↦ ok-no-err (sym e ∙ s .ill z .0)
+  ]
+
+  pub settled-err : o ≡ Err → code ≡ 0 → ⊥
+  settled-err e z = ok-no-err (sym (s .well z .0) ∙ e)
+
+  -- a target ended as it was decided
+  pub settled-ends : {ws : List Name} {r : Ty → End} {t : Tab} {cells : List ℕ} {gs : Rows} {top : ℕ} {su : List ℕ} {i e M : ℕ} → Noting ns → M ≤ 4294967296
+      → Assigned ws r t (tabIn cells ns) gs top su i e M code n a b
+      → Assigned ws r t (tabIn cells ms) gs top su i e M (codeOf o ms) (placeIn ms) (firstIn ms) (secondIn ms) × Held ns ms o
+  settled-ends k l x = elim (ℕ-discrete code 0) [
+    | yes z ↦ rw (s .well z .0, s .well z .1) (assigned-well z refl x, held-none k)
+    | no z ↦ rw (s .ill z .0) (assigned-noted l z x (s .ill z .1), held-refused z (s .ill z .1))
+  ]
 
 -- ---- the same by a number, for callers whose result is one
 

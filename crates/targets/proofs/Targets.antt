@@ -15,6 +15,7 @@ use Rattle.meaning.proofs.Decoding.{tuple-at}
 use Rattle.types.specs.Table.{Tab, Means, denote}
 use Rattle.frames.specs.Env.{Rows, framesOf}
 use Rattle.image.specs.Parts.{Moved}
+use Rattle.image.proofs.Moving.{parent-of}
 use Rattle.image.specs.declared.Cursor.{Cursor}
 use Rattle.image.specs.declared.Read.{Read}
 use Rattle.expr.specs.Contract.{Ready, At}
@@ -102,14 +103,6 @@ pub record Loop (bs : List ℕ) (nodes : ℕ) (fs : Rows) (top : ℕ) (t : Tab) 
   pub left : Left t u gs top su (suc i) j
   pub answer : (y : Ty) → Each bs d n (suc i) (spread n (denote t ty)) (state (framesOf t fs top) y)
       ≡ Each bs d (n - k) j (drop k (spread n (denote t ty))) (state (framesOf u gs top) y)
-
--- the cursor at a first child tells its parent, and that behind a node where it ends
-pub parent-of : {bs : List ℕ} {c : Cursor} {r : Read} → Moved bs c r (c .at + 1) → r .cursor .at - 1 ≡ c .at
-parent-of m = omega (arith, m .at)
-
-pub stops : {bs : List ℕ} {c : Cursor} {r : Read} → Moved bs c r (nodeOf (nodesOf bs) (c .at) .stop) → r .cursor .at ≡ stopOf (nodesOf bs) (c .at)
-unfolding stopOf
-stops m = m .at
 
 loop-start : {bs : List ℕ} {nodes : ℕ} {fs : Rows} {top : ℕ} {t : Tab} {st : List ℕ} {i n ty d : ℕ} → Ready bs nodes fs top t st 0 i (stopOf (nodesOf bs) i)
     → Within bs i n d → ty < t.n → Spreads t ty n → (j : ℕ) → j ≡ suc i → Loop bs nodes fs top t st i n ty d t fs st j 0

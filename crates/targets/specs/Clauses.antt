@@ -8,6 +8,7 @@ use Rattle.meaning.specs.Image.{nodeCount, nodesOf, nodeOf, namesOf}
 use Rattle.meaning.specs.Decode.{stopOf, exprsFrom, exprAt}
 use Rattle.meaning.specs.Walk.{End, done, checked, assignTo, assignEach}
 use Rattle.types.specs.Table.{denote}
+use Rattle.frames.specs.Env.{Rows}
 use Rattle.image.specs.declared.Cursor.{Cursor}
 use Rattle.nodes.specs.Notes.{typesIn, placeIn, firstIn, secondIn}
 use Rattle.nodes.specs.Lent.{Lent, tableOf, stateIn}
@@ -15,33 +16,49 @@ use Rattle.expr.specs.Contract.{At}
 use Rattle.expr.specs.Clauses.{Asked}
 use Rattle.targets.specs.declared.Outcome.{Outcome}
 use Rattle.targets.specs.Ending.{Assigned}
-use Rattle.targets.specs.Answer.{codeOf, Held}
-use Rattle.targets.specs.Spreading.{spread, Spreads, Within}
+use Rattle.targets.specs.Answer.{codeOf, Held, Settled}
+use Rattle.targets.specs.Spreading.{Written, spread, Spreads, Unpacks, Within}
 
 -- ---- what is asked
 
 -- what an expression asks of room, from the cursor's node to its end and with the whole stack free; and more
-abbrev pub Here : List ℕ → Cursor → ℕ → Lent → Type 0 → Type 0
-Here bs c top w more = Asked bs (c .nodes) top 0 (c .at) (stopOf (nodesOf bs) (c .at)) w more
+abbrev pub Room : List ℕ → Cursor → ℕ → Lent → Type 0 → Type 0
+Room bs c top w more = Asked bs (c .nodes) top 0 (c .at) (stopOf (nodesOf bs) (c .at)) w more
 
 -- a node, at most d deep
 abbrev pub Checkable : List ℕ → Cursor → ℕ → ℕ → Lent → Type 0
-Checkable bs c top d w = Here bs c top w (At bs (c .at) d)
+Checkable bs c top d w = Room bs c top w (At bs (c .at) d)
 
 -- a target, at most d deep, for a value of type ty
 abbrev pub Assignable : List ℕ → Cursor → ℕ → ℕ → ℕ → Lent → Type 0
-Assignable bs c top ty d w = Here bs c top w (At bs (c .at) d × (ty < typesIn (w .notes)))
+Assignable bs c top ty d w = Room bs c top w (At bs (c .at) d × (ty < typesIn (w .notes)))
 
 -- the same, and it is no Tuple
 abbrev pub Single : List ℕ → Cursor → ℕ → ℕ → ℕ → Lent → Type 0
-Single bs c top ty d w = Here bs c top w (At bs (c .at) d × ((nodeOf (nodesOf bs) (c .at) .kind ≡ 28 → ⊥) × (ty < typesIn (w .notes))))
+Single bs c top ty d w = Room bs c top w (At bs (c .at) d × ((nodeOf (nodesOf bs) (c .at) .kind ≡ 28 → ⊥) × (ty < typesIn (w .notes))))
 
 -- the n targets of a Tuple, each at most d deep, for a value of type ty that can be unpacked into them
 abbrev pub Spreadable : List ℕ → Cursor → ℕ → ℕ → ℕ → ℕ → Lent → Type 0
 Spreadable bs c top n ty d w =
-    Here bs c top w (Within bs (c .at) n d × ((ty < typesIn (w .notes)) × Spreads (tableOf w) ty n))
+    Room bs c top w (Within bs (c .at) n d × ((ty < typesIn (w .notes)) × Spreads (tableOf w) ty n))
 
 -- ---- what is left
+
+-- type ty is assigned to name x at node n, and o is the answer
+pub record AssignsName (top n x ty : ℕ) (o : Outcome) (fs gs : Rows) (ns ms : List ℕ) : Type 0 where
+  pub code : ℕ
+  pub a : ℕ
+  pub b : ℕ
+  pub written : Written fs gs top n x ty code a b
+  pub settled : Settled ns ms o code n a b
+
+-- type ty can be unpacked into the k targets of the Tuple at node n, or not, and o is the answer
+pub record UnpacksInto (n k ty : ℕ) (o : Outcome) (cs ns ms : List ℕ) : Type 0 where
+  pub code : ℕ
+  pub a : ℕ
+  pub b : ℕ
+  pub unpacks : Unpacks cs ty k code a b
+  pub settled : Settled ns ms o code n a b
 
 -- the nodes from the cursor's to its end ended as r says, whatever the return type so far, and o is the answer
 abbrev pub Ends : List ℕ → Cursor → ℕ → Outcome → Lent → Lent → (Ty → End) → Type 0

@@ -4,6 +4,7 @@ use mathlib.Core.List.{List}
 use Prim.Native.Nat.{ℕ, _+_, _≤_, _<_}
 use lib.Dec.{eqb}
 use lib.ListN.{length}
+use Rattle.meaning.specs.Limits.{mostNodes}
 use Rattle.meaning.specs.Base.{if_then_else_}
 use Rattle.meaning.specs.Types.{Ty}
 use Rattle.meaning.specs.Image.{Name}
@@ -30,7 +31,7 @@ pub record Named (u : Tab) (M code place a b : ℕ) : Type 0 where
 pub record Left (t u : Tab) (gs : Rows) (high : ℕ) (su : List ℕ) (i e : ℕ) : Type 0 where
   pub grown : Grown t u
   pub fit : Fit u gs high
-  pub stack : length su ≡ 2048
+  pub stack : length su ≡ mostNodes
   pub types-spent : u.n + i ≤ t.n + e
   pub elements-spent : u.m + i ≤ t.m + e
 

@@ -4,6 +4,7 @@ use mathlib.Core.List.{List, []}
 use mathlib.Core.Logic.{_⊎_}
 use Prim.Native.Nat.{ℕ, _+_, _≤_, _<_}
 use lib.ListN.{length, getD}
+use Rattle.meaning.specs.Limits.{deepest}
 use Rattle.meaning.specs.Base.{orElse}
 use Rattle.meaning.specs.Types.{Ty, unknown, kind, parts}
 use Rattle.meaning.specs.Image.{Name, nodeCount, nodesOf, nodeOf, depth}
@@ -61,4 +62,4 @@ pub record Share (cs : List ℕ) (i j r : ℕ) : Type 0 where
 pub record Within (bs : List ℕ) (i n d : ℕ) : Type 0 where
   pub there : i < nodeCount bs
   pub many : n ≡ nodeOf (nodesOf bs) i .children
-  pub deep : 64 ≤ depth i 0 (nodesOf bs) + d
+  pub deep : deepest ≤ depth i 0 (nodesOf bs) + d

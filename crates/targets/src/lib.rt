@@ -5,8 +5,9 @@ ghost use Rattle.meaning.specs.Limits.{mostNames, mostFrames};
 ghost use Rattle.rules.specs.Leaves.{Known};
 ghost use Rattle.nodes.specs.Notes.{err, Noting, Refused};
 ghost use Rattle.nodes.specs.Lent.{lent};
-ghost use Rattle.targets.specs.Spreading.{Written, Unpacks, Sharing, Share};
-ghost use Rattle.targets.specs.Clauses.{Checkable, Assignable, Single, Spreadable, Checks, Assigns, AssignsEach};
+ghost use Rattle.types.specs.Table.{mostNumbers};
+ghost use Rattle.targets.specs.Spreading.{Sharing, Share};
+ghost use Rattle.targets.specs.Clauses.{Checkable, Assignable, Single, Spreadable, AssignsName, UnpacksInto, Checks, Assigns, AssignsEach};
 use expr::expr;
 use frames::Frames;
 use frames::bind;
@@ -31,13 +32,6 @@ pub enum Outcome {
     Err,
 }
 
-// Code 0, or a typing code and the numbers that its message needs.
-struct Verdict {
-    code: u32,
-    a: usize,
-    b: usize,
-}
-
 fn refuse(notes: &mut Notes, code: u32, place: usize, a: usize, b: usize) -> Outcome
     requires { ⌜ Noting (now notes) ⌝ }
     ensures { λ r. ⌜ (r ≡ Outcome.Err) × Refused (now (notes .entry)) (now (notes .exit)) err code place a b ⌝ }
@@ -47,64 +41,44 @@ fn refuse(notes: &mut Notes, code: u32, place: usize, a: usize, b: usize) -> Out
 }
 
 // "Absent or Unknown takes the new type; Unknown keeps the old one; otherwise equal or 25": type `ty` for name x, at node `at`.
-fn assign_name(frames: &mut Frames, top: usize, at: usize, x: usize, ty: usize) -> Verdict
-    requires { ⌜ (top < mostFrames) × (x < mostNames) × (ty < 2056) ⌝ }
-    ensures { λ r. ⌜ Written (now (frames .entry)) (now (frames .exit)) top at x ty (r .code) (r .a) (r .b) ⌝ }
+fn assign_name(
+    frames: &mut Frames,
+    top: usize,
+    notes: &mut Notes,
+    at: usize,
+    x: usize,
+    ty: usize,
+) -> Outcome
+    requires { ⌜ Noting (now notes) ⌝ }
+    requires { ⌜ (top < mostFrames) × (x < mostNames) × (ty < mostNumbers) ⌝ }
+    ensures { λ r. ⌜ AssignsName top at x ty r (now (frames .entry)) (now (frames .exit)) (now (notes .entry)) (now (notes .exit)) ⌝ }
 {
     let old = lookup(frames, top, x);
     let both = agreed(old, ty);
     if both.there {
         bind(frames, top, x, both.number);
-        return Verdict {
-            code: 0,
-            a: 0,
-            b: 0,
-        };
+        return Outcome::Ok;
     }
-    Verdict {
-        code: codes::CANNOT_ASSIGN,
-        a: ty,
-        b: old,
-    }
+    refuse(notes, codes::CANNOT_ASSIGN, at, ty, old)
 }
 
-// Whether type `ty` can be unpacked into k targets: 26 where a Tuple has another length, 27 where the type has no parts to give.
-fn unpack(table: &[u16], ty: usize, k: u32) -> Verdict
+// Whether type `ty` can be unpacked into the k targets of the Tuple at node `at`: a List and Unknown into any number.
+fn unpack(table: &[u16], notes: &mut Notes, at: usize, ty: usize, k: u32) -> Outcome
+    requires { ⌜ Noting (now notes) ⌝ }
     requires { ⌜ Known (now table) ty ⌝ }
-    ensures { λ r. ⌜ Unpacks (now (table .entry)) ty k (r .code) (r .a) (r .b) ⌝ }
+    ensures { λ r. ⌜ UnpacksInto at k ty r (now (table .entry)) (now (notes .entry)) (now (notes .exit)) ⌝ }
 {
     match kind_of(table, ty) {
-        types::UNKNOWN => Verdict {
-            code: 0,
-            a: 0,
-            b: 0,
-        },
-        types::LIST => Verdict {
-            code: 0,
-            a: 0,
-            b: 0,
-        },
+        types::UNKNOWN | types::LIST => Outcome::Ok,
         types::TUPLE => {
             let n = count_of(table, ty);
             let k = k as usize;
             if n == k {
-                return Verdict {
-                    code: 0,
-                    a: 0,
-                    b: 0,
-                };
+                return Outcome::Ok;
             }
-            Verdict {
-                code: codes::UNPACK_LENGTH,
-                a: n,
-                b: k,
-            }
+            refuse(notes, codes::UNPACK_LENGTH, at, n, k)
         }
-        _ => Verdict {
-            code: codes::UNPACK_NON_ITERABLE,
-            a: ty,
-            b: 0,
-        },
+        _ => refuse(notes, codes::UNPACK_NON_ITERABLE, at, ty, 0),
     }
 }
 
@@ -175,15 +149,10 @@ fn single(
     let node = read.node;
     let kind = node.kind;
     match kind {
-        kinds::VARIABLE => {
-            let v = assign_name(frames, top, here.at, node.arg as usize, ty);
-            if v.code != 0 {
-                return refuse(notes, v.code, here.at, v.a, v.b);
-            }
-            Outcome::Ok
+        kinds::VARIABLE => assign_name(frames, top, notes, here.at, node.arg as usize, ty),
+        kinds::ATTRIBUTE | kinds::INDEX => {
+            check_only(image, here, frames, top, table, notes, stack, depth)
         }
-        kinds::ATTRIBUTE => check_only(image, here, frames, top, table, notes, stack, depth),
-        kinds::INDEX => check_only(image, here, frames, top, table, notes, stack, depth),
         _ => refuse(notes, codes::INVALID_TARGET, here.at, 0, 0),
     }
 }
@@ -210,10 +179,10 @@ pub fn assign(
     if node.kind != kinds::TUPLE {
         return single(image, here, frames, top, table, notes, stack, ty, depth);
     }
-    let v = unpack(table, ty, node.children);
-    if v.code != 0 {
-        return refuse(notes, v.code, here.at, v.a, v.b);
-    }
+    let r = unpack(table, notes, here.at, ty, node.children);
+    let Outcome::Ok = r else {
+        return r;
+    };
     let n = node.children as usize;
     assign_each(
         image,

@@ -4,8 +4,13 @@ use mathlib.Core.List.{List, [], _∷_, _++_, map}
 use Prim.Native.Nat.{ℕ, zero, suc, _+_, _*_, _/_, _%_, _≤_, _<_}
 use lib.Dec.{eqb}
 use lib.ListN.{length, getD, take, drop}
+use Rattle.meaning.specs.Limits.{mostNodes}
 use Rattle.meaning.specs.Base.{choose, if_then_else_}
 use Rattle.meaning.specs.Types.{Ty, Tys, unknown, list, dict, tuple, mapIter, filterIter, tys, no-types, plain}
+
+-- "no more than 8 plus M distinct types ever exist"
+abbrev pub mostNumbers : ℕ
+mostNumbers = 8 + mostNodes
 
 -- ---- the cells: room for as many elements and as many chains as records; with N for that number, record i at 4 · i (kind, p, q, and
 -- the record before it in its chain), element j at 4 · N + j and the last record of a chain from 5 · N on; n records and m elements
@@ -133,11 +138,11 @@ Chained cs n = Chains cs n
 -- cells that a table may be started in: all chains are empty
 pub record Fresh (cs : List ℕ) : Type 0 where
   pub room : 8 ≤ capacity cs
-  pub most : capacity cs ≤ 2056
+  pub most : capacity cs ≤ mostNumbers
   pub heads : (x : ℕ) → 5 * capacity cs ≤ x → x < 6 * capacity cs → getD cs x 0 < 8
 
 pub record Wf (t : Tab) : Type 0 where
-  pub most : capacity t.cells ≤ 2056
+  pub most : capacity t.cells ≤ mostNumbers
   pub base : 8 ≤ t.n
   pub room : t.n ≤ capacity t.cells
   pub space : t.m ≤ capacity t.cells

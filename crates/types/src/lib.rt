@@ -1,7 +1,7 @@
 // The type table: types as numbers, equal numbers for equal types. The plain types are the numbers 0 to 7. One lent slice is the whole
 // table: record i at cells 4 * i (kind), 4 * i + 1 (p), 4 * i + 2 (q) and 4 * i + 3 (its link); behind the room for records, tuple elements,
-// and behind the room for these, the slots of the chains. Its length, at most 12341, tells the room: as many elements and as many slots as
-// records, at 6 cells for the three.
+// and behind the room for these, the slots of the chains. Its length tells the room: as many elements and as many slots as records, CELLS
+// cells for the three.
 // A record is List(p), Dict(p, q), Tuple (q elements from element p on), MapIter(p) or FilterIter(p), and has 0 where it has no part.
 // A record's hash names its slot. The slot has the last number of its chain and a record's link the one before; a number below 8 ends it.
 ghost use mathlib.Core.Path.{_≡_};
@@ -49,6 +49,9 @@ const TUPLE_CELL: u16 = TUPLE as u16;
 
 // The cells of a table for each type that it has room for: four of its record, one for a tuple element, one for a slot.
 pub const CELLS: usize = 6;
+
+// What a record has where it has no part.
+pub const NO_PART: usize = 0;
 
 // What a fresh table is filled with: no chain, for 1 is a plain type. A fill with 0 is made byte by byte, one with 1 by 16 bytes at a time.
 pub const FRESH: u16 = 1;

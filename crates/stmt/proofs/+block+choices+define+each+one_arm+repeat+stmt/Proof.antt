@@ -7,7 +7,8 @@ use Rattle.stmt.proofs.Bodies.{Loop, bodiless, loop-at, loop-deep, loop
 use Rattle.stmt.proofs.Branching.{Choosing, arm-bad, arm-done, arm-last, choosing-as, choosing-branch, choosing-end, choosing-first, choosing-next, choosing-out, choosing-standing, clash-small, last-standing, when-at, when-ready, when-standing}
 use Rattle.stmt.proofs.Cells.{acted-from, armed-ends, armed-from, body-from, done-ends, done-moved, done-refused, moved-noting, moved-trans, ret-back, ret-clear, small-node, standing-as, tab-moved, tells-deep, tells-kept, tells-moved, tells-self, tells-shallow, tells-zero, top-down, top-set, verdict-zero, well-shallow}
 use Rattle.stmt.proofs.Compound.{def-at-block, def-bad, def-deep, def-done, def-some, def-standing, def-within, first-ready, for-bad, for-done, for-name, for-small, for-standing, second-at, second-standing, while-bad, while-done}
-use Rattle.stmt.proofs.Laws.{done-any, few-nodes, never, pair-for, pair-while, some-depth, stop-is}
+use Rattle.stmt.proofs.Laws.{done-any, few-nodes, never, pair-for, pair-while, some-depth}
+use Rattle.image.proofs.Moving.{stops}
 use borrow.Author.Tests.{not-false, not-true}
 use mathlib.Core.Bool.{true}
 use mathlib.Core.Logic.{inl, inr, ⊎-elim}
@@ -185,7 +186,7 @@ block-loop-less t c = search needs
 block-loop-again : (t : ℕ) → block-lts.Need-loop-again (next-reads.Asked, next-reads.Learnt, stmt-below t, stmt.Post, over-reads.Asked, over-reads.Learnt) (block-at t) block.Post block-Inv-loop block-μ-loop
 block-loop-again t c =
     let k = c .before .before .before .before .before .stmt .ensures .1 in (
-      loop-next (c .before .before .before .before .before .before .before .before .before .before .before .loop .inv .0) (c .before .before .before .before .before .before .before .before .before .before .loop-test .taken) (c .before .before .before .before .before .stmt .ensures .0) (c .before .over .ensures .at ∙ stop-is (c .before .before .before .before .before .before .before .before .before .before .before .before .before .before .before .before .before .before .pre .1 .1 .0 .ready .sound) _)
+      loop-next (c .before .before .before .before .before .before .before .before .before .before .before .loop .inv .0) (c .before .before .before .before .before .before .before .before .before .before .loop-test .taken) (c .before .before .before .before .before .stmt .ensures .0) (stops (c .before .over .ensures))
           (⊎-elim (λ w. tells-shallow k (w .0 .taken) (w .2 .left)) (λ w. well-shallow k (w .left)) (c .before .before .if1 .came))
           (⊎-elim (λ w. inr (not-false _ (w .3 .left))) (λ w. inl (went-well (tells-self k) (w .left))) (c .before .before .if1 .came)),
       k .noting,
@@ -200,40 +201,37 @@ block-returns-3 t c =
     (done-any refl (verdict-zero _) (loop-end (c .before .loop .inv .0) (c .loop-test .left)), (tells-zero (c .before .loop .inv .1), λ y n. verdict-zero _))
 
 abbrev choices-Inv-loop : choices-lts.InvT-loop
-choices-Inv-loop image nodes rows table₀ notes₀ stack₀ at depth looped merged₀ clashes₀ top j₀ left₀ table notes stack merged clashes j left =
-    Choosing image nodes (tabIn table₀ notes₀) rows top (retIn notes₀) at depth looped (tabIn table notes) (retIn notes) stack merged clashes j left × (topIn notes ≡ top) × Noting notes
+choices-Inv-loop image nodes rows table₀ notes₀ stack₀ at depth looped merged₀ clashes₀ top next₀ left₀ table notes stack merged clashes next left =
+    Choosing image nodes (tabIn table₀ notes₀) rows top (retIn notes₀) at depth looped (tabIn table notes) (retIn notes) stack merged clashes (next .at) left × (topIn notes ≡ top) × Noting notes × (next .nodes ≡ nodes)
 
 abbrev choices-μ-loop : choices-lts.MeasureT-loop
-choices-μ-loop image nodes rows table₀ notes₀ stack₀ at depth looped merged₀ clashes₀ top j₀ left₀ table notes stack merged clashes j left = left
+choices-μ-loop image nodes rows table₀ notes₀ stack₀ at depth looped merged₀ clashes₀ top next₀ left₀ table notes stack merged clashes next left = left
 
-choices-node-at-requires : (t : ℕ) → choices-lts.Need-node-at-requires (node-at-reads.Asked, node-at-reads.Learnt, wide-reads.Asked, wide-reads.Learnt, one-arm-below t, one-arm.Post, small-reads.Asked, small-reads.Learnt, note-branch-reads.Asked, note-branch-reads.Learnt, after-arm-reads.Asked, after-arm-reads.Learnt, fewer-reads.Asked, fewer-reads.Learnt, commit-reads.Asked, commit-reads.Learnt, refused-reads.Asked, refused-reads.Learnt) (choices-at t) choices.Post choices-Inv-loop choices-μ-loop
-choices-node-at-requires t c κs =
-    (c .before .before .pre .1 .1 .0 .ready .sound .headed, (c .before .before .pre .1 .1 .0 .ready .nodes-at, c .before .before .pre .1 .1 .1 .there))
+choices-next-requires : (t : ℕ) → choices-lts.Need-next-requires (next-reads.Asked, next-reads.Learnt, wide-reads.Asked, wide-reads.Learnt, one-arm-below t, one-arm.Post, small-reads.Asked, small-reads.Learnt, note-branch-reads.Asked, note-branch-reads.Learnt, after-arm-reads.Asked, after-arm-reads.Learnt, fewer-reads.Asked, fewer-reads.Learnt, commit-reads.Asked, commit-reads.Learnt, refused-reads.Asked, refused-reads.Learnt) (choices-at t) choices.Post choices-Inv-loop choices-μ-loop
+choices-next-requires t c κs =
+    (c .before .before .pre .1 .1 .0 .ready .sound .headed, record { nodes = c .before .before .pre .1 .1 .0 .ready .nodes-at; within = c .before .before .pre .1 .1 .1 .there })
 
-choices-element-copy-out-wide : (t : ℕ) → choices-lts.Need-element-copy-out-wide (node-at-reads.Asked, node-at-reads.Learnt, wide-reads.Asked, wide-reads.Learnt, one-arm-below t, one-arm.Post, small-reads.Asked, small-reads.Learnt, note-branch-reads.Asked, note-branch-reads.Learnt, after-arm-reads.Asked, after-arm-reads.Learnt, fewer-reads.Asked, fewer-reads.Learnt, commit-reads.Asked, commit-reads.Learnt, refused-reads.Asked, refused-reads.Learnt) (choices-at t) choices.Post choices-Inv-loop choices-μ-loop
+choices-element-copy-out-wide : (t : ℕ) → choices-lts.Need-element-copy-out-wide (next-reads.Asked, next-reads.Learnt, wide-reads.Asked, wide-reads.Learnt, one-arm-below t, one-arm.Post, small-reads.Asked, small-reads.Learnt, note-branch-reads.Asked, note-branch-reads.Learnt, after-arm-reads.Asked, after-arm-reads.Learnt, fewer-reads.Asked, fewer-reads.Learnt, commit-reads.Asked, commit-reads.Learnt, refused-reads.Asked, refused-reads.Learnt) (choices-at t) choices.Post choices-Inv-loop choices-μ-loop
 choices-element-copy-out-wide t c = search needs
 
-choices-wide-requires : (t : ℕ) → choices-lts.Need-wide-requires (node-at-reads.Asked, node-at-reads.Learnt, wide-reads.Asked, wide-reads.Learnt, one-arm-below t, one-arm.Post, small-reads.Asked, small-reads.Learnt, note-branch-reads.Asked, note-branch-reads.Learnt, after-arm-reads.Asked, after-arm-reads.Learnt, fewer-reads.Asked, fewer-reads.Learnt, commit-reads.Asked, commit-reads.Learnt, refused-reads.Asked, refused-reads.Learnt) (choices-at t) choices.Post choices-Inv-loop choices-μ-loop
+choices-wide-requires : (t : ℕ) → choices-lts.Need-wide-requires (next-reads.Asked, next-reads.Learnt, wide-reads.Asked, wide-reads.Learnt, one-arm-below t, one-arm.Post, small-reads.Asked, small-reads.Learnt, note-branch-reads.Asked, note-branch-reads.Learnt, after-arm-reads.Asked, after-arm-reads.Learnt, fewer-reads.Asked, fewer-reads.Learnt, commit-reads.Asked, commit-reads.Learnt, refused-reads.Asked, refused-reads.Learnt) (choices-at t) choices.Post choices-Inv-loop choices-μ-loop
 choices-wide-requires t c κs =
     search needs
 
-choices-add-j : (t : ℕ) → choices-lts.Need-add-j (node-at-reads.Asked, node-at-reads.Learnt, wide-reads.Asked, wide-reads.Learnt, one-arm-below t, one-arm.Post, small-reads.Asked, small-reads.Learnt, note-branch-reads.Asked, note-branch-reads.Learnt, after-arm-reads.Asked, after-arm-reads.Learnt, fewer-reads.Asked, fewer-reads.Learnt, commit-reads.Asked, commit-reads.Learnt, refused-reads.Asked, refused-reads.Learnt) (choices-at t) choices.Post choices-Inv-loop choices-μ-loop
-choices-add-j t c =
-    omega (arith, few-nodes (c .before .before .before .before .before .pre .1 .1 .0 .ready .sound), c .before .before .before .before .before .pre .1 .1 .1 .there)
-
-choices-cast-left : (t : ℕ) → choices-lts.Need-cast-left (node-at-reads.Asked, node-at-reads.Learnt, wide-reads.Asked, wide-reads.Learnt, one-arm-below t, one-arm.Post, small-reads.Asked, small-reads.Learnt, note-branch-reads.Asked, note-branch-reads.Learnt, after-arm-reads.Asked, after-arm-reads.Learnt, fewer-reads.Asked, fewer-reads.Learnt, commit-reads.Asked, commit-reads.Learnt, refused-reads.Asked, refused-reads.Learnt) (choices-at t) choices.Post choices-Inv-loop choices-μ-loop
+choices-cast-left : (t : ℕ) → choices-lts.Need-cast-left (next-reads.Asked, next-reads.Learnt, wide-reads.Asked, wide-reads.Learnt, one-arm-below t, one-arm.Post, small-reads.Asked, small-reads.Learnt, note-branch-reads.Asked, note-branch-reads.Learnt, after-arm-reads.Asked, after-arm-reads.Learnt, fewer-reads.Asked, fewer-reads.Learnt, commit-reads.Asked, commit-reads.Learnt, refused-reads.Asked, refused-reads.Learnt) (choices-at t) choices.Post choices-Inv-loop choices-μ-loop
 choices-cast-left t c = search needs
 
-choices-loop-holds : (t : ℕ) → choices-lts.Need-loop-holds (node-at-reads.Asked, node-at-reads.Learnt, wide-reads.Asked, wide-reads.Learnt, one-arm-below t, one-arm.Post, small-reads.Asked, small-reads.Learnt, note-branch-reads.Asked, note-branch-reads.Learnt, after-arm-reads.Asked, after-arm-reads.Learnt, fewer-reads.Asked, fewer-reads.Learnt, commit-reads.Asked, commit-reads.Learnt, refused-reads.Asked, refused-reads.Learnt) (choices-at t) choices.Post choices-Inv-loop choices-μ-loop
+choices-loop-holds : (t : ℕ) → choices-lts.Need-loop-holds (next-reads.Asked, next-reads.Learnt, wide-reads.Asked, wide-reads.Learnt, one-arm-below t, one-arm.Post, small-reads.Asked, small-reads.Learnt, note-branch-reads.Asked, note-branch-reads.Learnt, after-arm-reads.Asked, after-arm-reads.Learnt, fewer-reads.Asked, fewer-reads.Learnt, commit-reads.Asked, commit-reads.Learnt, refused-reads.Asked, refused-reads.Learnt) (choices-at t) choices.Post choices-Inv-loop choices-μ-loop
 choices-loop-holds t c = (
-  choosing-first _ (standing-as refl (c .before .wide .ensures) refl (c .before .before .before .before .before .before .pre .1 .1 .0)) (c .before .before .before .before .before .before .pre .1 .1 .1) (ap (λ d. d .children) (c .before .before .before .node-at .ensures)),
-  sym (c .before .wide .ensures),
-  c .before .before .before .before .before .before .pre .1 .0,
+  rw (c .before .before .before .before .before .next .ensures .at) (choosing-first _ (standing-as refl (c .before .before .wide .ensures) refl (c .before .before .before .before .before .before .before .before .pre .1 .1 .0)) (c .before .before .before .before .before .before .before .before .pre .1 .1 .1) (ap (λ d. d .children) (c .before .before .before .before .before .next .ensures .node))),
+  sym (c .before .before .wide .ensures),
+  c .before .before .before .before .before .before .before .before .pre .1 .0,
+  c .before .before .before .before .before .next .ensures .nodes ∙ sym (c .before .before .before .before .before .before .before .before .pre .1 .1 .0 .ready .nodes-at),
 )
 
-choices-one-arm-requires : (t : ℕ) → choices-lts.Need-one-arm-requires (node-at-reads.Asked, node-at-reads.Learnt, wide-reads.Asked, wide-reads.Learnt, one-arm-below t, one-arm.Post, small-reads.Asked, small-reads.Learnt, note-branch-reads.Asked, note-branch-reads.Learnt, after-arm-reads.Asked, after-arm-reads.Learnt, fewer-reads.Asked, fewer-reads.Learnt, commit-reads.Asked, commit-reads.Learnt, refused-reads.Asked, refused-reads.Learnt) (choices-at t) choices.Post choices-Inv-loop choices-μ-loop
+choices-one-arm-requires : (t : ℕ) → choices-lts.Need-one-arm-requires (next-reads.Asked, next-reads.Learnt, wide-reads.Asked, wide-reads.Learnt, one-arm-below t, one-arm.Post, small-reads.Asked, small-reads.Learnt, note-branch-reads.Asked, note-branch-reads.Learnt, after-arm-reads.Asked, after-arm-reads.Learnt, fewer-reads.Asked, fewer-reads.Learnt, commit-reads.Asked, commit-reads.Learnt, refused-reads.Asked, refused-reads.Learnt) (choices-at t) choices.Post choices-Inv-loop choices-μ-loop
 choices-one-arm-requires t c κs = (
-  omega (arith, c .before .before .before .before .before .before .before .before .before .before .before .before .before .pre .0),
+  omega (arith, c .before .before .before .before .before .before .before .before .before .before .before .before .before .before .before .pre .0),
   (
     c .before .before .before .before .before .before .loop .inv .2,
     (
@@ -243,102 +241,103 @@ choices-one-arm-requires t c κs = (
   ),
 )
 
-choices-element-copy-out-wide-2 : (t : ℕ) → choices-lts.Need-element-copy-out-wide-2 (node-at-reads.Asked, node-at-reads.Learnt, wide-reads.Asked, wide-reads.Learnt, one-arm-below t, one-arm.Post, small-reads.Asked, small-reads.Learnt, note-branch-reads.Asked, note-branch-reads.Learnt, after-arm-reads.Asked, after-arm-reads.Learnt, fewer-reads.Asked, fewer-reads.Learnt, commit-reads.Asked, commit-reads.Learnt, refused-reads.Asked, refused-reads.Learnt) (choices-at t) choices.Post choices-Inv-loop choices-μ-loop
+choices-element-copy-out-wide-2 : (t : ℕ) → choices-lts.Need-element-copy-out-wide-2 (next-reads.Asked, next-reads.Learnt, wide-reads.Asked, wide-reads.Learnt, one-arm-below t, one-arm.Post, small-reads.Asked, small-reads.Learnt, note-branch-reads.Asked, note-branch-reads.Learnt, after-arm-reads.Asked, after-arm-reads.Learnt, fewer-reads.Asked, fewer-reads.Learnt, commit-reads.Asked, commit-reads.Learnt, refused-reads.Asked, refused-reads.Learnt) (choices-at t) choices.Post choices-Inv-loop choices-μ-loop
 choices-element-copy-out-wide-2 t c = search needs
 
-choices-wide-requires-2 : (t : ℕ) → choices-lts.Need-wide-requires-2 (node-at-reads.Asked, node-at-reads.Learnt, wide-reads.Asked, wide-reads.Learnt, one-arm-below t, one-arm.Post, small-reads.Asked, small-reads.Learnt, note-branch-reads.Asked, note-branch-reads.Learnt, after-arm-reads.Asked, after-arm-reads.Learnt, fewer-reads.Asked, fewer-reads.Learnt, commit-reads.Asked, commit-reads.Learnt, refused-reads.Asked, refused-reads.Learnt) (choices-at t) choices.Post choices-Inv-loop choices-μ-loop
+choices-wide-requires-2 : (t : ℕ) → choices-lts.Need-wide-requires-2 (next-reads.Asked, next-reads.Learnt, wide-reads.Asked, wide-reads.Learnt, one-arm-below t, one-arm.Post, small-reads.Asked, small-reads.Learnt, note-branch-reads.Asked, note-branch-reads.Learnt, after-arm-reads.Asked, after-arm-reads.Learnt, fewer-reads.Asked, fewer-reads.Learnt, commit-reads.Asked, commit-reads.Learnt, refused-reads.Asked, refused-reads.Learnt) (choices-at t) choices.Post choices-Inv-loop choices-μ-loop
 choices-wide-requires-2 t c κs =
     search needs
 
-choices-small-requires : (t : ℕ) → choices-lts.Need-small-requires (node-at-reads.Asked, node-at-reads.Learnt, wide-reads.Asked, wide-reads.Learnt, one-arm-below t, one-arm.Post, small-reads.Asked, small-reads.Learnt, note-branch-reads.Asked, note-branch-reads.Learnt, after-arm-reads.Asked, after-arm-reads.Learnt, fewer-reads.Asked, fewer-reads.Learnt, commit-reads.Asked, commit-reads.Learnt, refused-reads.Asked, refused-reads.Learnt) (choices-at t) choices.Post choices-Inv-loop choices-μ-loop
+choices-small-requires : (t : ℕ) → choices-lts.Need-small-requires (next-reads.Asked, next-reads.Learnt, wide-reads.Asked, wide-reads.Learnt, one-arm-below t, one-arm.Post, small-reads.Asked, small-reads.Learnt, note-branch-reads.Asked, note-branch-reads.Learnt, after-arm-reads.Asked, after-arm-reads.Learnt, fewer-reads.Asked, fewer-reads.Learnt, commit-reads.Asked, commit-reads.Learnt, refused-reads.Asked, refused-reads.Learnt) (choices-at t) choices.Post choices-Inv-loop choices-μ-loop
 choices-small-requires t c κs =
     omega (arith, c .before .before .before .before .before .before .before .before .before .before .before .loop .inv .0 .spent .fit .high)
 
-choices-element-write-notes : (t : ℕ) → choices-lts.Need-element-write-notes (node-at-reads.Asked, node-at-reads.Learnt, wide-reads.Asked, wide-reads.Learnt, one-arm-below t, one-arm.Post, small-reads.Asked, small-reads.Learnt, note-branch-reads.Asked, note-branch-reads.Learnt, after-arm-reads.Asked, after-arm-reads.Learnt, fewer-reads.Asked, fewer-reads.Learnt, commit-reads.Asked, commit-reads.Learnt, refused-reads.Asked, refused-reads.Learnt) (choices-at t) choices.Post choices-Inv-loop choices-μ-loop
+choices-element-write-notes : (t : ℕ) → choices-lts.Need-element-write-notes (next-reads.Asked, next-reads.Learnt, wide-reads.Asked, wide-reads.Learnt, one-arm-below t, one-arm.Post, small-reads.Asked, small-reads.Learnt, note-branch-reads.Asked, note-branch-reads.Learnt, after-arm-reads.Asked, after-arm-reads.Learnt, fewer-reads.Asked, fewer-reads.Learnt, commit-reads.Asked, commit-reads.Learnt, refused-reads.Asked, refused-reads.Learnt) (choices-at t) choices.Post choices-Inv-loop choices-μ-loop
 choices-element-write-notes t c = search needs
 
-choices-same-length : (t : ℕ) → choices-lts.Need-same-length (node-at-reads.Asked, node-at-reads.Learnt, wide-reads.Asked, wide-reads.Learnt, one-arm-below t, one-arm.Post, small-reads.Asked, small-reads.Learnt, note-branch-reads.Asked, note-branch-reads.Learnt, after-arm-reads.Asked, after-arm-reads.Learnt, fewer-reads.Asked, fewer-reads.Learnt, commit-reads.Asked, commit-reads.Learnt, refused-reads.Asked, refused-reads.Learnt) (choices-at t) choices.Post choices-Inv-loop choices-μ-loop
+choices-same-length : (t : ℕ) → choices-lts.Need-same-length (next-reads.Asked, next-reads.Learnt, wide-reads.Asked, wide-reads.Learnt, one-arm-below t, one-arm.Post, small-reads.Asked, small-reads.Learnt, note-branch-reads.Asked, note-branch-reads.Learnt, after-arm-reads.Asked, after-arm-reads.Learnt, fewer-reads.Asked, fewer-reads.Learnt, commit-reads.Asked, commit-reads.Learnt, refused-reads.Asked, refused-reads.Learnt) (choices-at t) choices.Post choices-Inv-loop choices-μ-loop
 choices-same-length t c = search needs
 
-choices-returns : (t : ℕ) → choices-lts.Need-returns (node-at-reads.Asked, node-at-reads.Learnt, wide-reads.Asked, wide-reads.Learnt, one-arm-below t, one-arm.Post, small-reads.Asked, small-reads.Learnt, note-branch-reads.Asked, note-branch-reads.Learnt, after-arm-reads.Asked, after-arm-reads.Learnt, fewer-reads.Asked, fewer-reads.Learnt, commit-reads.Asked, commit-reads.Learnt, refused-reads.Asked, refused-reads.Learnt) (choices-at t) choices.Post choices-Inv-loop choices-μ-loop
+choices-returns : (t : ℕ) → choices-lts.Need-returns (next-reads.Asked, next-reads.Learnt, wide-reads.Asked, wide-reads.Learnt, one-arm-below t, one-arm.Post, small-reads.Asked, small-reads.Learnt, note-branch-reads.Asked, note-branch-reads.Learnt, after-arm-reads.Asked, after-arm-reads.Learnt, fewer-reads.Asked, fewer-reads.Learnt, commit-reads.Asked, commit-reads.Learnt, refused-reads.Asked, refused-reads.Learnt) (choices-at t) choices.Post choices-Inv-loop choices-μ-loop
 choices-returns t c =
     let k = c .before .before .before .before .before .before .one-arm .ensures .1 in
     let s = top-set (k .noting) (c .before .small .ensures) in
     let g = armed-from _ _ _ _ _ (c .before .before .before .before .before .before .before .before .before .before .before .before .before .loop .inv .1) (c .before .before .before .before .before .before .one-arm .ensures .0) in (
-      acted-from _ _ _ _ _ _ (c .before .before .before .before .before .before .before .before .before .before .before .before .before .before .before .wide .ensures) (done-moved (s .moved) _ (s .top-is) (s .ret-kept)
+      acted-from _ _ _ _ _ _ (c .before .before .before .before .before .before .before .before .before .before .before .before .before .before .before .before .wide .ensures) (done-moved (s .moved) _ (s .top-is) (s .ret-kept)
           (choosing-out (c .before .before .before .before .before .before .before .before .before .before .before .before .before .loop .inv .0) (c .before .before .before .before .before .before .before .before .before .before .before .before .loop-test .taken) g (went-ill (tells-self k) (c .if1 .taken)))),
       tells-moved (s .moved) k,
     )
 
-choices-note-branch-requires : (t : ℕ) → choices-lts.Need-note-branch-requires (node-at-reads.Asked, node-at-reads.Learnt, wide-reads.Asked, wide-reads.Learnt, one-arm-below t, one-arm.Post, small-reads.Asked, small-reads.Learnt, note-branch-reads.Asked, note-branch-reads.Learnt, after-arm-reads.Asked, after-arm-reads.Learnt, fewer-reads.Asked, fewer-reads.Learnt, commit-reads.Asked, commit-reads.Learnt, refused-reads.Asked, refused-reads.Learnt) (choices-at t) choices.Post choices-Inv-loop choices-μ-loop
+choices-note-branch-requires : (t : ℕ) → choices-lts.Need-note-branch-requires (next-reads.Asked, next-reads.Learnt, wide-reads.Asked, wide-reads.Learnt, one-arm-below t, one-arm.Post, small-reads.Asked, small-reads.Learnt, note-branch-reads.Asked, note-branch-reads.Learnt, after-arm-reads.Asked, after-arm-reads.Learnt, fewer-reads.Asked, fewer-reads.Learnt, commit-reads.Asked, commit-reads.Learnt, refused-reads.Asked, refused-reads.Learnt) (choices-at t) choices.Post choices-Inv-loop choices-μ-loop
 choices-note-branch-requires t c κs =
     let f = c .before .before .before .before .before .before .before .before .before .before .one-arm .ensures .0 .done .fine (well-shallow (c .before .before .before .before .before .before .before .before .before .before .one-arm .ensures .1) (c .before .before .before .before .if1 .left)) in
     ((c .before .before .before .before .before .before .before .before .before .before .before .before .before .before .before .before .before .loop .inv .0 .spent .fit .high, omega (arith, c .before .before .before .before .before .before .wide2 .ensures, f .left .fit .high)), (c .before .before .before .before .before .before .before .before .before .before .before .before .before .before .before .before .before .loop .inv .0 .tally .lm, c .before .before .before .before .before .before .before .before .before .before .before .before .before .before .before .before .before .loop .inv .0 .tally .lc))
 
-choices-after-arm-requires : (t : ℕ) → choices-lts.Need-after-arm-requires (node-at-reads.Asked, node-at-reads.Learnt, wide-reads.Asked, wide-reads.Learnt, one-arm-below t, one-arm.Post, small-reads.Asked, small-reads.Learnt, note-branch-reads.Asked, note-branch-reads.Learnt, after-arm-reads.Asked, after-arm-reads.Learnt, fewer-reads.Asked, fewer-reads.Learnt, commit-reads.Asked, commit-reads.Learnt, refused-reads.Asked, refused-reads.Learnt) (choices-at t) choices.Post choices-Inv-loop choices-μ-loop
+choices-after-arm-requires : (t : ℕ) → choices-lts.Need-after-arm-requires (next-reads.Asked, next-reads.Learnt, wide-reads.Asked, wide-reads.Learnt, one-arm-below t, one-arm.Post, small-reads.Asked, small-reads.Learnt, note-branch-reads.Asked, note-branch-reads.Learnt, after-arm-reads.Asked, after-arm-reads.Learnt, fewer-reads.Asked, fewer-reads.Learnt, commit-reads.Asked, commit-reads.Learnt, refused-reads.Asked, refused-reads.Learnt) (choices-at t) choices.Post choices-Inv-loop choices-μ-loop
 choices-after-arm-requires t c κs =
     let b = choosing-branch (c .before .before .before .before .before .before .before .before .before .before .before .before .before .before .before .before .before .before .loop .inv .0) (c .before .before .before .before .before .before .before .before .before .before .before .before .before .before .before .before .before .loop-test .taken) in
-    (c .before .before .before .before .before .before .before .before .before .before .before .before .before .before .before .before .before .before .before .before .before .before .before .before .before .pre .1 .1 .0 .ready .sound .headed, (c .before .before .before .before .before .before .before .before .before .before .before .before .before .before .before .before .before .before .before .before .before .before .before .before .before .pre .1 .1 .0 .ready .nodes-at, b .first .there, b .block .there))
+    (c .before .before .before .before .before .before .before .before .before .before .before .before .before .before .before .before .before .before .before .before .before .before .before .before .before .before .before .pre .1 .1 .0 .ready .sound .headed, (record { nodes = c .before .before .before .before .before .before .before .before .before .before .before .before .before .before .before .before .before .before .loop .inv .3 ∙ c .before .before .before .before .before .before .before .before .before .before .before .before .before .before .before .before .before .before .before .before .before .before .before .before .before .before .before .pre .1 .1 .0 .ready .nodes-at; within = b .first .there }, b .block .there))
 
-choices-fewer-requires : (t : ℕ) → choices-lts.Need-fewer-requires (node-at-reads.Asked, node-at-reads.Learnt, wide-reads.Asked, wide-reads.Learnt, one-arm-below t, one-arm.Post, small-reads.Asked, small-reads.Learnt, note-branch-reads.Asked, note-branch-reads.Learnt, after-arm-reads.Asked, after-arm-reads.Learnt, fewer-reads.Asked, fewer-reads.Learnt, commit-reads.Asked, commit-reads.Learnt, refused-reads.Asked, refused-reads.Learnt) (choices-at t) choices.Post choices-Inv-loop choices-μ-loop
+choices-fewer-requires : (t : ℕ) → choices-lts.Need-fewer-requires (next-reads.Asked, next-reads.Learnt, wide-reads.Asked, wide-reads.Learnt, one-arm-below t, one-arm.Post, small-reads.Asked, small-reads.Learnt, note-branch-reads.Asked, note-branch-reads.Learnt, after-arm-reads.Asked, after-arm-reads.Learnt, fewer-reads.Asked, fewer-reads.Learnt, commit-reads.Asked, commit-reads.Learnt, refused-reads.Asked, refused-reads.Learnt) (choices-at t) choices.Post choices-Inv-loop choices-μ-loop
 choices-fewer-requires t c κs =
     search needs
 
-choices-loop-less : (t : ℕ) → choices-lts.Need-loop-less (node-at-reads.Asked, node-at-reads.Learnt, wide-reads.Asked, wide-reads.Learnt, one-arm-below t, one-arm.Post, small-reads.Asked, small-reads.Learnt, note-branch-reads.Asked, note-branch-reads.Learnt, after-arm-reads.Asked, after-arm-reads.Learnt, fewer-reads.Asked, fewer-reads.Learnt, commit-reads.Asked, commit-reads.Learnt, refused-reads.Asked, refused-reads.Learnt) (choices-at t) choices.Post choices-Inv-loop choices-μ-loop
+choices-loop-less : (t : ℕ) → choices-lts.Need-loop-less (next-reads.Asked, next-reads.Learnt, wide-reads.Asked, wide-reads.Learnt, one-arm-below t, one-arm.Post, small-reads.Asked, small-reads.Learnt, note-branch-reads.Asked, note-branch-reads.Learnt, after-arm-reads.Asked, after-arm-reads.Learnt, fewer-reads.Asked, fewer-reads.Learnt, commit-reads.Asked, commit-reads.Learnt, refused-reads.Asked, refused-reads.Learnt) (choices-at t) choices.Post choices-Inv-loop choices-μ-loop
 choices-loop-less t c =
     omega (arith, c .fewer .ensures, c .before .before .before .before .before .before .before .before .before .before .before .before .before .before .before .before .before .before .before .loop-test .taken)
 
-choices-loop-again : (t : ℕ) → choices-lts.Need-loop-again (node-at-reads.Asked, node-at-reads.Learnt, wide-reads.Asked, wide-reads.Learnt, one-arm-below t, one-arm.Post, small-reads.Asked, small-reads.Learnt, note-branch-reads.Asked, note-branch-reads.Learnt, after-arm-reads.Asked, after-arm-reads.Learnt, fewer-reads.Asked, fewer-reads.Learnt, commit-reads.Asked, commit-reads.Learnt, refused-reads.Asked, refused-reads.Learnt) (choices-at t) choices.Post choices-Inv-loop choices-μ-loop
+choices-loop-again : (t : ℕ) → choices-lts.Need-loop-again (next-reads.Asked, next-reads.Learnt, wide-reads.Asked, wide-reads.Learnt, one-arm-below t, one-arm.Post, small-reads.Asked, small-reads.Learnt, note-branch-reads.Asked, note-branch-reads.Learnt, after-arm-reads.Asked, after-arm-reads.Learnt, fewer-reads.Asked, fewer-reads.Learnt, commit-reads.Asked, commit-reads.Learnt, refused-reads.Asked, refused-reads.Learnt) (choices-at t) choices.Post choices-Inv-loop choices-μ-loop
 choices-loop-again t c =
     let k = c .before .before .before .before .before .before .before .before .before .before .before .before .before .one-arm .ensures .1 in
     let s = top-set (k .noting) (c .before .before .before .before .before .before .before .before .small .ensures) in
     let g = armed-from _ _ _ _ _ (c .before .before .before .before .before .before .before .before .before .before .before .before .before .before .before .before .before .before .before .before .loop .inv .1) (c .before .before .before .before .before .before .before .before .before .before .before .before .before .one-arm .ensures .0) in (
       choosing-as (tab-moved (s .moved) _) (s .ret-kept)
-          (choosing-next (c .before .before .before .before .before .before .before .before .before .before .before .before .before .before .before .before .before .before .before .before .loop .inv .0) (c .before .before .before .before .before .before .before .before .before .before .before .before .before .before .before .before .before .before .before .loop-test .taken) g (c .before .after-arm .ensures) (c .fewer .ensures) (went-well (tells-self k) (c .before .before .before .before .before .before .before .if1 .left)) (c .before .before .before .before .before .before .before .before .before .wide2 .ensures) (c .before .before .note-branch .ensures)),
+          (choosing-next (c .before .before .before .before .before .before .before .before .before .before .before .before .before .before .before .before .before .before .before .before .loop .inv .0) (c .before .before .before .before .before .before .before .before .before .before .before .before .before .before .before .before .before .before .before .loop-test .taken) g (c .before .after-arm .ensures .0) (c .fewer .ensures) (went-well (tells-self k) (c .before .before .before .before .before .before .before .if1 .left)) (c .before .before .before .before .before .before .before .before .before .wide2 .ensures) (c .before .before .note-branch .ensures)),
       s .top-is,
       moved-noting (s .moved),
+      c .before .after-arm .ensures .1 ∙ sym (c .before .before .before .before .before .before .before .before .before .before .before .before .before .before .before .before .before .before .before .before .before .before .before .before .before .before .before .before .before .pre .1 .1 .0 .ready .nodes-at),
     )
 
-choices-commit-requires : (t : ℕ) → choices-lts.Need-commit-requires (node-at-reads.Asked, node-at-reads.Learnt, wide-reads.Asked, wide-reads.Learnt, one-arm-below t, one-arm.Post, small-reads.Asked, small-reads.Learnt, note-branch-reads.Asked, note-branch-reads.Learnt, after-arm-reads.Asked, after-arm-reads.Learnt, fewer-reads.Asked, fewer-reads.Learnt, commit-reads.Asked, commit-reads.Learnt, refused-reads.Asked, refused-reads.Learnt) (choices-at t) choices.Post choices-Inv-loop choices-μ-loop
+choices-commit-requires : (t : ℕ) → choices-lts.Need-commit-requires (next-reads.Asked, next-reads.Learnt, wide-reads.Asked, wide-reads.Learnt, one-arm-below t, one-arm.Post, small-reads.Asked, small-reads.Learnt, note-branch-reads.Asked, note-branch-reads.Learnt, after-arm-reads.Asked, after-arm-reads.Learnt, fewer-reads.Asked, fewer-reads.Learnt, commit-reads.Asked, commit-reads.Learnt, refused-reads.Asked, refused-reads.Learnt) (choices-at t) choices.Post choices-Inv-loop choices-μ-loop
 choices-commit-requires t c κs =
     (c .before .before .before .before .loop .inv .0 .spent .fit .high, c .before .before .before .before .loop .inv .0 .spent .fit .long)
 
-choices-enum-told : (t : ℕ) → choices-lts.Need-enum-told (node-at-reads.Asked, node-at-reads.Learnt, wide-reads.Asked, wide-reads.Learnt, one-arm-below t, one-arm.Post, small-reads.Asked, small-reads.Learnt, note-branch-reads.Asked, note-branch-reads.Learnt, after-arm-reads.Asked, after-arm-reads.Learnt, fewer-reads.Asked, fewer-reads.Learnt, commit-reads.Asked, commit-reads.Learnt, refused-reads.Asked, refused-reads.Learnt) (choices-at t) choices.Post choices-Inv-loop choices-μ-loop
+choices-enum-told : (t : ℕ) → choices-lts.Need-enum-told (next-reads.Asked, next-reads.Learnt, wide-reads.Asked, wide-reads.Learnt, one-arm-below t, one-arm.Post, small-reads.Asked, small-reads.Learnt, note-branch-reads.Asked, note-branch-reads.Learnt, after-arm-reads.Asked, after-arm-reads.Learnt, fewer-reads.Asked, fewer-reads.Learnt, commit-reads.Asked, commit-reads.Learnt, refused-reads.Asked, refused-reads.Learnt) (choices-at t) choices.Post choices-Inv-loop choices-μ-loop
 choices-enum-told t c = search needs
 
-choices-enum-known-merge : (t : ℕ) → choices-lts.Need-enum-known-merge (node-at-reads.Asked, node-at-reads.Learnt, wide-reads.Asked, wide-reads.Learnt, one-arm-below t, one-arm.Post, small-reads.Asked, small-reads.Learnt, note-branch-reads.Asked, note-branch-reads.Learnt, after-arm-reads.Asked, after-arm-reads.Learnt, fewer-reads.Asked, fewer-reads.Learnt, commit-reads.Asked, commit-reads.Learnt, refused-reads.Asked, refused-reads.Learnt) (choices-at t) choices.Post choices-Inv-loop choices-μ-loop
+choices-enum-known-merge : (t : ℕ) → choices-lts.Need-enum-known-merge (next-reads.Asked, next-reads.Learnt, wide-reads.Asked, wide-reads.Learnt, one-arm-below t, one-arm.Post, small-reads.Asked, small-reads.Learnt, note-branch-reads.Asked, note-branch-reads.Learnt, after-arm-reads.Asked, after-arm-reads.Learnt, fewer-reads.Asked, fewer-reads.Learnt, commit-reads.Asked, commit-reads.Learnt, refused-reads.Asked, refused-reads.Learnt) (choices-at t) choices.Post choices-Inv-loop choices-μ-loop
 choices-enum-known-merge t c = search needs
 
-choices-add-refused : (t : ℕ) → choices-lts.Need-add-refused (node-at-reads.Asked, node-at-reads.Learnt, wide-reads.Asked, wide-reads.Learnt, one-arm-below t, one-arm.Post, small-reads.Asked, small-reads.Learnt, note-branch-reads.Asked, note-branch-reads.Learnt, after-arm-reads.Asked, after-arm-reads.Learnt, fewer-reads.Asked, fewer-reads.Learnt, commit-reads.Asked, commit-reads.Learnt, refused-reads.Asked, refused-reads.Learnt) (choices-at t) choices.Post choices-Inv-loop choices-μ-loop
+choices-add-refused : (t : ℕ) → choices-lts.Need-add-refused (next-reads.Asked, next-reads.Learnt, wide-reads.Asked, wide-reads.Learnt, one-arm-below t, one-arm.Post, small-reads.Asked, small-reads.Learnt, note-branch-reads.Asked, note-branch-reads.Learnt, after-arm-reads.Asked, after-arm-reads.Learnt, fewer-reads.Asked, fewer-reads.Learnt, commit-reads.Asked, commit-reads.Learnt, refused-reads.Asked, refused-reads.Learnt) (choices-at t) choices.Post choices-Inv-loop choices-μ-loop
 choices-add-refused t c =
-    omega (arith, few-nodes (c .before .before .before .before .before .before .before .before .before .before .before .before .before .before .before .before .pre .1 .1 .0 .ready .sound), c .before .before .before .before .before .before .before .before .before .before .before .before .before .before .before .before .pre .1 .1 .1 .there)
+    omega (arith, few-nodes (c .before .before .before .before .before .before .before .before .before .before .before .before .before .before .before .before .before .before .pre .1 .1 .0 .ready .sound), c .before .before .before .before .before .before .before .before .before .before .before .before .before .before .before .before .before .before .pre .1 .1 .1 .there)
 
-choices-refused-requires : (t : ℕ) → choices-lts.Need-refused-requires (node-at-reads.Asked, node-at-reads.Learnt, wide-reads.Asked, wide-reads.Learnt, one-arm-below t, one-arm.Post, small-reads.Asked, small-reads.Learnt, note-branch-reads.Asked, note-branch-reads.Learnt, after-arm-reads.Asked, after-arm-reads.Learnt, fewer-reads.Asked, fewer-reads.Learnt, commit-reads.Asked, commit-reads.Learnt, refused-reads.Asked, refused-reads.Learnt) (choices-at t) choices.Post choices-Inv-loop choices-μ-loop
+choices-refused-requires : (t : ℕ) → choices-lts.Need-refused-requires (next-reads.Asked, next-reads.Learnt, wide-reads.Asked, wide-reads.Learnt, one-arm-below t, one-arm.Post, small-reads.Asked, small-reads.Learnt, note-branch-reads.Asked, note-branch-reads.Learnt, after-arm-reads.Asked, after-arm-reads.Learnt, fewer-reads.Asked, fewer-reads.Learnt, commit-reads.Asked, commit-reads.Learnt, refused-reads.Asked, refused-reads.Learnt) (choices-at t) choices.Post choices-Inv-loop choices-μ-loop
 choices-refused-requires t c κs =
     c .before .before .before .before .before .before .before .before .before .loop .inv .2
 
-choices-same-length-2 : (t : ℕ) → choices-lts.Need-same-length-2 (node-at-reads.Asked, node-at-reads.Learnt, wide-reads.Asked, wide-reads.Learnt, one-arm-below t, one-arm.Post, small-reads.Asked, small-reads.Learnt, note-branch-reads.Asked, note-branch-reads.Learnt, after-arm-reads.Asked, after-arm-reads.Learnt, fewer-reads.Asked, fewer-reads.Learnt, commit-reads.Asked, commit-reads.Learnt, refused-reads.Asked, refused-reads.Learnt) (choices-at t) choices.Post choices-Inv-loop choices-μ-loop
+choices-same-length-2 : (t : ℕ) → choices-lts.Need-same-length-2 (next-reads.Asked, next-reads.Learnt, wide-reads.Asked, wide-reads.Learnt, one-arm-below t, one-arm.Post, small-reads.Asked, small-reads.Learnt, note-branch-reads.Asked, note-branch-reads.Learnt, after-arm-reads.Asked, after-arm-reads.Learnt, fewer-reads.Asked, fewer-reads.Learnt, commit-reads.Asked, commit-reads.Learnt, refused-reads.Asked, refused-reads.Learnt) (choices-at t) choices.Post choices-Inv-loop choices-μ-loop
 choices-same-length-2 t c = search needs
 
-choices-returns-2 : (t : ℕ) → choices-lts.Need-returns-2 (node-at-reads.Asked, node-at-reads.Learnt, wide-reads.Asked, wide-reads.Learnt, one-arm-below t, one-arm.Post, small-reads.Asked, small-reads.Learnt, note-branch-reads.Asked, note-branch-reads.Learnt, after-arm-reads.Asked, after-arm-reads.Learnt, fewer-reads.Asked, fewer-reads.Learnt, commit-reads.Asked, commit-reads.Learnt, refused-reads.Asked, refused-reads.Learnt) (choices-at t) choices.Post choices-Inv-loop choices-μ-loop
+choices-returns-2 : (t : ℕ) → choices-lts.Need-returns-2 (next-reads.Asked, next-reads.Learnt, wide-reads.Asked, wide-reads.Learnt, one-arm-below t, one-arm.Post, small-reads.Asked, small-reads.Learnt, note-branch-reads.Asked, note-branch-reads.Learnt, after-arm-reads.Asked, after-arm-reads.Learnt, fewer-reads.Asked, fewer-reads.Learnt, commit-reads.Asked, commit-reads.Learnt, refused-reads.Asked, refused-reads.Learnt) (choices-at t) choices.Post choices-Inv-loop choices-μ-loop
 choices-returns-2 t c = (
-  acted-from _ _ _ _ _ _ (c .before .before .before .before .before .before .before .before .before .wide .ensures) (done-any refl (verdict-zero _) (done-ends refl (c .before .before .before .before .before .before .before .loop .inv .1) refl
-      (choosing-end (c .before .before .before .before .before .before .before .before .before .before .before .before .before .before .pre .1 .1 .1) (c .before .before .before .before .before .before .before .loop .inv .0) (c .before .before .before .before .before .before .loop-test .left) (rw (c .enum-told .given .1) at (c .before .before .commit .ensures))))),
+  acted-from _ _ _ _ _ _ (c .before .before .before .before .before .before .before .before .before .before .wide .ensures) (done-any refl (verdict-zero _) (done-ends refl (c .before .before .before .before .before .before .before .loop .inv .1) refl
+      (choosing-end (c .before .before .before .before .before .before .before .before .before .before .before .before .before .before .before .before .pre .1 .1 .1) (c .before .before .before .before .before .before .before .loop .inv .0) (c .before .before .before .before .before .before .loop-test .left) (rw (c .enum-told .given .1) at (c .before .before .commit .ensures))))),
   tells-zero (c .before .before .before .before .before .before .before .loop .inv .2),
 )
 
-choices-same-length-3 : (t : ℕ) → choices-lts.Need-same-length-3 (node-at-reads.Asked, node-at-reads.Learnt, wide-reads.Asked, wide-reads.Learnt, one-arm-below t, one-arm.Post, small-reads.Asked, small-reads.Learnt, note-branch-reads.Asked, note-branch-reads.Learnt, after-arm-reads.Asked, after-arm-reads.Learnt, fewer-reads.Asked, fewer-reads.Learnt, commit-reads.Asked, commit-reads.Learnt, refused-reads.Asked, refused-reads.Learnt) (choices-at t) choices.Post choices-Inv-loop choices-μ-loop
+choices-same-length-3 : (t : ℕ) → choices-lts.Need-same-length-3 (next-reads.Asked, next-reads.Learnt, wide-reads.Asked, wide-reads.Learnt, one-arm-below t, one-arm.Post, small-reads.Asked, small-reads.Learnt, note-branch-reads.Asked, note-branch-reads.Learnt, after-arm-reads.Asked, after-arm-reads.Learnt, fewer-reads.Asked, fewer-reads.Learnt, commit-reads.Asked, commit-reads.Learnt, refused-reads.Asked, refused-reads.Learnt) (choices-at t) choices.Post choices-Inv-loop choices-μ-loop
 choices-same-length-3 t c = search needs
 
-choices-returns-3 : (t : ℕ) → choices-lts.Need-returns-3 (node-at-reads.Asked, node-at-reads.Learnt, wide-reads.Asked, wide-reads.Learnt, one-arm-below t, one-arm.Post, small-reads.Asked, small-reads.Learnt, note-branch-reads.Asked, note-branch-reads.Learnt, after-arm-reads.Asked, after-arm-reads.Learnt, fewer-reads.Asked, fewer-reads.Learnt, commit-reads.Asked, commit-reads.Learnt, refused-reads.Asked, refused-reads.Learnt) (choices-at t) choices.Post choices-Inv-loop choices-μ-loop
+choices-returns-3 : (t : ℕ) → choices-lts.Need-returns-3 (next-reads.Asked, next-reads.Learnt, wide-reads.Asked, wide-reads.Learnt, one-arm-below t, one-arm.Post, small-reads.Asked, small-reads.Learnt, note-branch-reads.Asked, note-branch-reads.Learnt, after-arm-reads.Asked, after-arm-reads.Learnt, fewer-reads.Asked, fewer-reads.Learnt, commit-reads.Asked, commit-reads.Learnt, refused-reads.Asked, refused-reads.Learnt) (choices-at t) choices.Post choices-Inv-loop choices-μ-loop
 choices-returns-3 t c =
     let f = c .refused .ensures in
     let k = rw (c .before .before .before .merge .given .1) at (c .before .before .before .before .before .commit .ensures) in
-    let h = few-nodes (c .before .before .before .before .before .before .before .before .before .before .before .before .before .before .before .before .before .pre .1 .1 .0 .ready .sound) in
-    let i = c .before .before .before .before .before .before .before .before .before .before .before .before .before .before .before .before .before .pre .1 .1 .1 .there in (
-      acted-from _ _ _ _ _ _ (c .before .before .before .before .before .before .before .before .before .before .before .before .wide .ensures)
+    let h = few-nodes (c .before .before .before .before .before .before .before .before .before .before .before .before .before .before .before .before .before .before .before .pre .1 .1 .0 .ready .sound) in
+    let i = c .before .before .before .before .before .before .before .before .before .before .before .before .before .before .before .before .before .before .before .pre .1 .1 .1 .there in (
+      acted-from _ _ _ _ _ _ (c .before .before .before .before .before .before .before .before .before .before .before .before .before .wide .ensures)
           (done-refused f (omega arith) (clash-small k) (omega arith) (f .top ∙ c .before .before .before .before .before .before .before .before .before .before .loop .inv .1) (f .ret)
-          (choosing-end (c .before .before .before .before .before .before .before .before .before .before .before .before .before .before .before .before .before .pre .1 .1 .1) (c .before .before .before .before .before .before .before .before .before .before .loop .inv .0) (c .before .before .before .before .before .before .before .before .before .loop-test .left) k)),
+          (choosing-end (c .before .before .before .before .before .before .before .before .before .before .before .before .before .before .before .before .before .before .before .pre .1 .1 .1) (c .before .before .before .before .before .before .before .before .before .before .loop .inv .0) (c .before .before .before .before .before .before .before .before .before .loop-test .left) k)),
       tells-kept (refused-kept (λ z. omega arith) f),
     )
 
@@ -834,11 +833,10 @@ pub +block+choices+define+each+one-arm+repeat+stmt-spec : {M : Type 1} → state
     (block-loop-again t)
     (block-same-length-3 t)
     (block-returns-3 t))
-    (λ t. choices-lts.spec (node-at-reads.Asked, node-at-reads.Learnt, wide-reads.Asked, wide-reads.Learnt, one-arm-below t, one-arm.Post, small-reads.Asked, small-reads.Learnt, note-branch-reads.Asked, note-branch-reads.Learnt, after-arm-reads.Asked, after-arm-reads.Learnt, fewer-reads.Asked, fewer-reads.Learnt, commit-reads.Asked, commit-reads.Learnt, refused-reads.Asked, refused-reads.Learnt) (choices-at t) choices.Post choices-Inv-loop choices-μ-loop
-    (choices-node-at-requires t)
+    (λ t. choices-lts.spec (next-reads.Asked, next-reads.Learnt, wide-reads.Asked, wide-reads.Learnt, one-arm-below t, one-arm.Post, small-reads.Asked, small-reads.Learnt, note-branch-reads.Asked, note-branch-reads.Learnt, after-arm-reads.Asked, after-arm-reads.Learnt, fewer-reads.Asked, fewer-reads.Learnt, commit-reads.Asked, commit-reads.Learnt, refused-reads.Asked, refused-reads.Learnt) (choices-at t) choices.Post choices-Inv-loop choices-μ-loop
+    (choices-next-requires t)
     (choices-element-copy-out-wide t)
     (choices-wide-requires t)
-    (choices-add-j t)
     (choices-cast-left t)
     (choices-loop-holds t)
     (choices-one-arm-requires t)

@@ -1,4 +1,5 @@
 -- `stmt::after_arm` meets its contract.
+use Rattle.image.proofs.Moving.{stops}
 use Rattle.stmt.proofs.Branching.{block-last, block-when}
 use native.Mathlib.Omega.{arith}
 use borrow.Author.Needs.{needs}
@@ -6,37 +7,31 @@ use Rattle.stmt.proofs.after_arm.Statement.{statement}
 use Rattle.stmt.proofs.after_arm.Tie as tie
 use Rattle.stmt.proofs.after_arm.Reads as reads
 use Rattle.stmt.proofs.after_arm.Lts as lts
-use Rattle.nodes.proofs.stop_of.Reads as stop-of-reads
+use Rattle.image.proofs.Cursor.over.Reads as over-reads
 
--- src/lib.rt:480:13
-stop-of-requires : tie.Need-stop-of-requires
-stop-of-requires c κs =
-    (c .before .before .pre .0, (c .before .before .pre .1 .0, c .before .before .pre .1 .1))
+-- src/lib.rt:311:9
+over-requires : tie.Need-over-requires
+over-requires c κs =
+    (c .before .pre .0, c .before .pre .1 .0)
 
--- src/lib.rt:481:9
-stop-of-requires-2 : tie.Need-stop-of-requires-2
-stop-of-requires-2 c κs =
-    let a = c .before .before .before .args in
-    let h = rw (block-when (a .image .now) (a .left) (a .at) (c .before .if1 .taken)) at (c .before .before .before .pre .1 .2) in
-    (c .before .before .before .pre .0, (c .before .before .before .pre .1 .0, rw (c .stop-of .ensures) h))
+-- src/lib.rt:314:13
+over-requires-2 : tie.Need-over-requires-2
+over-requires-2 c κs =
+    let a = c .before .before .before .before .args in
+    let h = rw (block-when (a .image .now) (a .left) (a .here .at) (c .if1 .taken)) at (c .before .before .before .before .pre .1 .1) in
+    (c .before .before .before .before .pre .0, record { nodes = c .before .before .over .ensures .nodes; within = rw (stops (c .before .before .over .ensures)) h })
 
--- src/lib.rt:481:9
+-- src/lib.rt:315:9
 returns : tie.Need-returns
 returns c =
-    let a = c .before .before .before .before .args in
-    rw (block-when (a .image .now) (a .left) (a .at) (c .before .before .if1 .taken), ← c .before .stop-of .ensures) (c .stop-of2 .ensures)
+    let a = c .before .before .before .before .before .before .args in
+    (rw (block-when (a .image .now) (a .left) (a .here .at) (c .before .before .if1 .taken), ← (stops (c .before .before .before .before .over .ensures))) (stops (c .before .over2 .ensures)), c .before .over2 .ensures .nodes)
 
--- src/lib.rt:483:5
-stop-of-requires-3 : tie.Need-stop-of-requires-3
-stop-of-requires-3 c κs =
-    (c .before .before .pre .0, (c .before .before .pre .1 .0, c .before .before .pre .1 .1))
-
--- src/lib.rt:474:1
+-- src/lib.rt:305:1
 returns-2 : tie.Need-returns-2
 returns-2 c =
-    let a = c .before .before .before .args in
-    rw (block-last (a .image .now) (a .left) (a .at) (c .before .if1 .left)) (c .stop-of3 .ensures)
+    let a = c .before .before .before .before .args in
+    (rw (block-last (a .image .now) (a .left) (a .here .at) (c .if1 .left)) (stops (c .before .before .over .ensures)), c .before .before .over .ensures .nodes)
 
 pub after-arm-spec : {M : Type 1} → statement M
-after-arm-spec =
-    tie.close (tie.spec stop-of-requires stop-of-requires-2 returns stop-of-requires-3 returns-2)
+after-arm-spec = tie.close (tie.spec over-requires over-requires-2 returns returns-2)

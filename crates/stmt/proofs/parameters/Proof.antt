@@ -1,5 +1,5 @@
 -- `stmt::parameters` meets its contract: the parameters before the cursor are bound; the measure is how many are left.
-use Rattle.stmt.proofs.Laws.{stop-is}
+use Rattle.image.proofs.Moving.{stops}
 use Rattle.stmt.proofs.Leaves.{Entering, entering-end, entering-first, entering-here, entering-last, entering-next}
 use mathlib.Core.Path.{_≡_, _∙_, ap, sym}
 use native.Mathlib.Omega.{arith}
@@ -56,7 +56,7 @@ loop-less c = search needs
 loop-again : tie.Need-loop-again Inv-loop μ-loop
 loop-again c = (
   entering-next (c .before .before .before .before .before .before .before .before .before .before .before .pre .0) (c .before .before .before .before .before .before .before .loop .inv .0) (c .before .before .before .before .before .before .loop-test .taken) (ap (λ d. d .arg) (c .before .before .before .before .before .over .ensures .node))
-      (c .before .before .before .before .before .over .ensures .at ∙ stop-is (c .before .before .before .before .before .before .before .before .before .before .before .pre .0) _) (c .before .bind .ensures),
+      (stops (c .before .before .before .before .before .over .ensures)) (c .before .bind .ensures),
   c .before .before .before .before .before .over .ensures .nodes ∙ sym (c .before .before .before .before .before .before .before .before .before .before .before .pre .1 .0),
 )
 

@@ -5,11 +5,11 @@ use Rattle.rules.proofs.Outcomes.{known}
 use Rattle.nodes.specs.Notes.{tabIn}
 use Rattle.targets.specs.declared.Outcome.the-variants.{Ok}
 use Rattle.targets.specs.Answer.{Held}
-use Rattle.targets.proofs.Answers.{ok-well, err-ill, held-none, held-refused, held-noting, held-trans, held-on}
+use Rattle.targets.proofs.Answers.{ok-well, err-ill, held-none, held-noting, held-trans, held-on, settled-ok, settled-err, settled-ends}
 use Rattle.expr.proofs.Rows.{few-nodes}
-use Rattle.targets.proofs.Endings.{assigned-noted}
 use Rattle.targets.proofs.Targets.{levels-left, no-tuple, targets-within, tuple-refused, tuple-assigned}
-use Rattle.targets.proofs.Targets.{Loop, loop-first, child-inside, loop-at, loop-ready, loop-sharing, part-below, loop-wrong, loop-next, loop-end, parent-of, stops}
+use Rattle.targets.proofs.Targets.{Loop, loop-first, child-inside, loop-at, loop-ready, loop-sharing, part-below, loop-wrong, loop-next, loop-end}
+use Rattle.image.proofs.Moving.{parent-of, stops}
 use native.Mathlib.Omega.{arith}
 use borrow.Author.Needs.{needs}
 use Prim.Native.Nat.{ℕ, suc, _+_, _-_, _<_}
@@ -24,7 +24,6 @@ use Rattle.targets.proofs.+assign+assign_each.Lts-assign_each as assign
 use Rattle.image.proofs.Cursor.next.Reads as next-reads
 use Rattle.image.proofs.Cursor.over.Reads as over-reads
 use Rattle.targets.proofs.part_for.Reads as part-for-reads
-use Rattle.targets.proofs.refuse.Reads as refuse-reads
 use Rattle.targets.proofs.single.Reads as single-reads
 use Rattle.targets.proofs.unpack.Reads as unpack-reads
 use Rattle.targets.proofs.+assign+assign_each.{statement}
@@ -51,69 +50,73 @@ assign-each-below t =
     and 5 assign-each-kinds.ps (falls 5 assign-each-kinds.ps _<_ μ-assign-each t) assign-each.Pre
 
 -- src/lib.rt:200:9
-assign-next-requires : (t : ℕ) → assign-lts.Need-next-requires (next-reads.Asked, next-reads.Learnt, single-reads.Asked, single-reads.Learnt, unpack-reads.Asked, unpack-reads.Learnt, refuse-reads.Asked, refuse-reads.Learnt, assign-each-below t, assign-each.Post) (assign-at t) assign.Post
+assign-next-requires : (t : ℕ) → assign-lts.Need-next-requires (next-reads.Asked, next-reads.Learnt, single-reads.Asked, single-reads.Learnt, unpack-reads.Asked, unpack-reads.Learnt, assign-each-below t, assign-each.Post) (assign-at t) assign.Post
 assign-next-requires t c κs =
     (c .before .before .pre .1 .1 .0 .sound .headed, record { nodes = c .before .before .pre .1 .1 .0 .nodes-at; within = c .before .before .pre .1 .1 .1 .0 .there })
 
 -- src/lib.rt:203:9
-assign-single-requires : (t : ℕ) → assign-lts.Need-single-requires (next-reads.Asked, next-reads.Learnt, single-reads.Asked, single-reads.Learnt, unpack-reads.Asked, unpack-reads.Learnt, refuse-reads.Asked, refuse-reads.Learnt, assign-each-below t, assign-each.Post) (assign-at t) assign.Post
+assign-single-requires : (t : ℕ) → assign-lts.Need-single-requires (next-reads.Asked, next-reads.Learnt, single-reads.Asked, single-reads.Learnt, unpack-reads.Asked, unpack-reads.Learnt, assign-each-below t, assign-each.Post) (assign-at t) assign.Post
 assign-single-requires t c κs =
     (c .before .before .before .before .before .before .before .before .before .before .pre .1 .0, (c .before .before .before .before .before .before .before .before .before .before .pre .1 .1 .0, (c .before .before .before .before .before .before .before .before .before .before .pre .1 .1 .1 .0, (no-tuple (c .before .before .before .before .before .before .before .before .before .before .pre .1 .1 .0) (c .before .before .before .before .before .before .before .before .before .before .pre .1 .1 .1 .0) (c .before .before .before .before .before .before .before .before .before .before .pre .1 .1 .1 .1) _ (c .before .before .before .before .before .before .before .next .ensures .node) (c .before .before .before .before .if1 .taken), c .before .before .before .before .before .before .before .before .before .before .pre .1 .1 .1 .1))))
 
 -- src/lib.rt:203:9
-assign-same-length : (t : ℕ) → assign-lts.Need-same-length (next-reads.Asked, next-reads.Learnt, single-reads.Asked, single-reads.Learnt, unpack-reads.Asked, unpack-reads.Learnt, refuse-reads.Asked, refuse-reads.Learnt, assign-each-below t, assign-each.Post) (assign-at t) assign.Post
+assign-same-length : (t : ℕ) → assign-lts.Need-same-length (next-reads.Asked, next-reads.Learnt, single-reads.Asked, single-reads.Learnt, unpack-reads.Asked, unpack-reads.Learnt, assign-each-below t, assign-each.Post) (assign-at t) assign.Post
 assign-same-length t c = search needs
 
 -- src/lib.rt:203:9
-assign-returns : (t : ℕ) → assign-lts.Need-returns (next-reads.Asked, next-reads.Learnt, single-reads.Asked, single-reads.Learnt, unpack-reads.Asked, unpack-reads.Learnt, refuse-reads.Asked, refuse-reads.Learnt, assign-each-below t, assign-each.Post) (assign-at t) assign.Post
+assign-returns : (t : ℕ) → assign-lts.Need-returns (next-reads.Asked, next-reads.Learnt, single-reads.Asked, single-reads.Learnt, unpack-reads.Asked, unpack-reads.Learnt, assign-each-below t, assign-each.Post) (assign-at t) assign.Post
 assign-returns t c =
     c .before .before .single .ensures
 
 -- src/lib.rt:205:9
-assign-unpack-requires : (t : ℕ) → assign-lts.Need-unpack-requires (next-reads.Asked, next-reads.Learnt, single-reads.Asked, single-reads.Learnt, unpack-reads.Asked, unpack-reads.Learnt, refuse-reads.Asked, refuse-reads.Learnt, assign-each-below t, assign-each.Post) (assign-at t) assign.Post
+assign-unpack-requires : (t : ℕ) → assign-lts.Need-unpack-requires (next-reads.Asked, next-reads.Learnt, single-reads.Asked, single-reads.Learnt, unpack-reads.Asked, unpack-reads.Learnt, assign-each-below t, assign-each.Post) (assign-at t) assign.Post
 assign-unpack-requires t c κs =
-    known (c .before .before .before .before .before .before .before .pre .1 .1 .0 .wf) (c .before .before .before .before .before .before .before .pre .1 .1 .1 .1)
+    (c .before .before .before .before .before .before .before .before .pre .1 .0, known (c .before .before .before .before .before .before .before .before .pre .1 .1 .0 .wf) (c .before .before .before .before .before .before .before .before .pre .1 .1 .1 .1))
+
+assign-enum-told : (t : ℕ) → assign-lts.Need-enum-told (next-reads.Asked, next-reads.Learnt, single-reads.Asked, single-reads.Learnt, unpack-reads.Asked, unpack-reads.Learnt, assign-each-below t, assign-each.Post) (assign-at t) assign.Post
+assign-enum-told t c = search needs
+
+assign-enum-told-2 : (t : ℕ) → assign-lts.Need-enum-told-2 (next-reads.Asked, next-reads.Learnt, single-reads.Asked, single-reads.Learnt, unpack-reads.Asked, unpack-reads.Learnt, assign-each-below t, assign-each.Post) (assign-at t) assign.Post
+assign-enum-told-2 t c = search needs
 
 -- src/lib.rt:207:9
-assign-refuse-requires : (t : ℕ) → assign-lts.Need-refuse-requires (next-reads.Asked, next-reads.Learnt, single-reads.Asked, single-reads.Learnt, unpack-reads.Asked, unpack-reads.Learnt, refuse-reads.Asked, refuse-reads.Learnt, assign-each-below t, assign-each.Post) (assign-at t) assign.Post
-assign-refuse-requires t c κs =
-    c .before .before .before .before .before .before .before .before .before .before .before .pre .1 .0
-
--- src/lib.rt:207:9
-assign-same-length-2 : (t : ℕ) → assign-lts.Need-same-length-2 (next-reads.Asked, next-reads.Learnt, single-reads.Asked, single-reads.Learnt, unpack-reads.Asked, unpack-reads.Learnt, refuse-reads.Asked, refuse-reads.Learnt, assign-each-below t, assign-each.Post) (assign-at t) assign.Post
+assign-same-length-2 : (t : ℕ) → assign-lts.Need-same-length-2 (next-reads.Asked, next-reads.Learnt, single-reads.Asked, single-reads.Learnt, unpack-reads.Asked, unpack-reads.Learnt, assign-each-below t, assign-each.Post) (assign-at t) assign.Post
 assign-same-length-2 t c = search needs
 
 -- src/lib.rt:207:9
-assign-returns-2 : (t : ℕ) → assign-lts.Need-returns-2 (next-reads.Asked, next-reads.Learnt, single-reads.Asked, single-reads.Learnt, unpack-reads.Asked, unpack-reads.Learnt, refuse-reads.Asked, refuse-reads.Learnt, assign-each-below t, assign-each.Post) (assign-at t) assign.Post
-assign-returns-2 t c = (
-  rw (c .refuse .ensures .0) (assigned-noted (few-nodes (c .before .before .before .before .before .before .before .before .before .before .before .before .pre .1 .1 .0 .sound)) (c .before .before .if2 .taken) (tuple-refused (c .before .before .before .before .before .before .before .before .before .before .before .before .pre .1 .1 .0) (c .before .before .before .before .before .before .before .before .before .before .before .before .pre .1 .1 .1 .0) (c .before .before .before .before .before .before .before .before .before .before .before .before .pre .1 .1 .1 .1) _ (c .before .before .before .before .before .before .before .before .before .next .ensures .node) (c .before .before .before .before .before .before .if1 .left) (c .before .before .before .before .unpack .ensures) (c .before .before .if2 .taken)) (c .refuse .ensures .1)),
-  rw (c .refuse .ensures .0) (held-refused (c .before .before .if2 .taken) (c .refuse .ensures .1)),
-)
+assign-returns-2 : (t : ℕ) → assign-lts.Need-returns-2 (next-reads.Asked, next-reads.Learnt, single-reads.Asked, single-reads.Learnt, unpack-reads.Asked, unpack-reads.Learnt, assign-each-below t, assign-each.Post) (assign-at t) assign.Post
+assign-returns-2 t c =
+    settled-ends (c .before .before .unpack .ensures .settled) (c .before .before .before .before .before .before .before .before .before .before .before .pre .1 .0) (few-nodes (c .before .before .before .before .before .before .before .before .before .before .before .pre .1 .1 .0 .sound))
+    (tuple-refused (c .before .before .before .before .before .before .before .before .before .before .before .pre .1 .1 .0) (c .before .before .before .before .before .before .before .before .before .before .before .pre .1 .1 .1 .0) (c .before .before .before .before .before .before .before .before .before .before .before .pre .1 .1 .1 .1) _ (c .before .before .before .before .before .before .before .before .next .ensures .node) (c .before .before .before .before .before .if1 .left) (c .before .before .unpack .ensures .unpacks) (settled-err (c .before .before .unpack .ensures .settled) (c .enum-told2 .given .1)))
 
 -- src/lib.rt:209:13
-assign-cast-n : (t : ℕ) → assign-lts.Need-cast-n (next-reads.Asked, next-reads.Learnt, single-reads.Asked, single-reads.Learnt, unpack-reads.Asked, unpack-reads.Learnt, refuse-reads.Asked, refuse-reads.Learnt, assign-each-below t, assign-each.Post) (assign-at t) assign.Post
+assign-cast-n : (t : ℕ) → assign-lts.Need-cast-n (next-reads.Asked, next-reads.Learnt, single-reads.Asked, single-reads.Learnt, unpack-reads.Asked, unpack-reads.Learnt, assign-each-below t, assign-each.Post) (assign-at t) assign.Post
 assign-cast-n t c = search needs
 
 -- src/lib.rt:210:71
-assign-sub-assign-each : (t : ℕ) → assign-lts.Need-sub-assign-each (next-reads.Asked, next-reads.Learnt, single-reads.Asked, single-reads.Learnt, unpack-reads.Asked, unpack-reads.Learnt, refuse-reads.Asked, refuse-reads.Learnt, assign-each-below t, assign-each.Post) (assign-at t) assign.Post
+assign-sub-assign-each : (t : ℕ) → assign-lts.Need-sub-assign-each (next-reads.Asked, next-reads.Learnt, single-reads.Asked, single-reads.Learnt, unpack-reads.Asked, unpack-reads.Learnt, assign-each-below t, assign-each.Post) (assign-at t) assign.Post
 assign-sub-assign-each t c =
-    omega (arith, levels-left (c .before .before .before .before .before .before .before .before .before .before .before .before .before .before .before .pre .1 .1 .0) (c .before .before .before .before .before .before .before .before .before .before .before .before .before .before .before .pre .1 .1 .1 .0) (c .before .before .before .before .before .before .before .before .before .before .before .before .before .before .before .pre .1 .1 .1 .1) _ (c .before .before .before .before .before .before .before .before .before .before .before .before .next .ensures .node))
+    omega (arith, levels-left (c .before .before .before .before .before .before .before .before .before .before .before .before .before .before .before .before .pre .1 .1 .0) (c .before .before .before .before .before .before .before .before .before .before .before .before .before .before .before .before .pre .1 .1 .1 .0) (c .before .before .before .before .before .before .before .before .before .before .before .before .before .before .before .before .pre .1 .1 .1 .1) _ (c .before .before .before .before .before .before .before .before .before .before .before .before .before .next .ensures .node))
 
 -- src/lib.rt:210:5
-assign-assign-each-requires : (t : ℕ) → assign-lts.Need-assign-each-requires (next-reads.Asked, next-reads.Learnt, single-reads.Asked, single-reads.Learnt, unpack-reads.Asked, unpack-reads.Learnt, refuse-reads.Asked, refuse-reads.Learnt, assign-each-below t, assign-each.Post) (assign-at t) assign.Post
-assign-assign-each-requires t c κs = (
-  omega (arith, c .before .before .before .before .before .before .before .before .before .before .before .before .before .before .before .pre .0, levels-left (c .before .before .before .before .before .before .before .before .before .before .before .before .before .before .before .pre .1 .1 .0) (c .before .before .before .before .before .before .before .before .before .before .before .before .before .before .before .pre .1 .1 .1 .0) (c .before .before .before .before .before .before .before .before .before .before .before .before .before .before .before .pre .1 .1 .1 .1) _ (c .before .before .before .before .before .before .before .before .before .before .before .before .next .ensures .node)),
-  (c .before .before .before .before .before .before .before .before .before .before .before .before .before .before .before .pre .1 .0, (c .before .before .before .before .before .before .before .before .before .before .before .before .before .before .before .pre .1 .1 .0, (targets-within (c .before .before .before .before .before .before .before .before .before .before .before .before .before .before .before .pre .1 .1 .0) (c .before .before .before .before .before .before .before .before .before .before .before .before .before .before .before .pre .1 .1 .1 .0) (c .before .before .before .before .before .before .before .before .before .before .before .before .before .before .before .pre .1 .1 .1 .1) _ (c .before .before .before .before .before .before .before .before .before .before .before .before .next .ensures .node), (c .before .before .before .before .before .before .before .before .before .before .before .before .before .before .before .pre .1 .1 .1 .1, c .before .before .before .before .before .before .before .unpack .ensures .well (c .before .before .before .before .before .if2 .left) _ refl (c .before .before .before .before .before .before .before .before .before .before .before .before .before .before .before .pre .1 .1 .0 .wf) (c .before .before .before .before .before .before .before .before .before .before .before .before .before .before .before .pre .1 .1 .1 .1))))),
-)
+assign-assign-each-requires : (t : ℕ) → assign-lts.Need-assign-each-requires (next-reads.Asked, next-reads.Learnt, single-reads.Asked, single-reads.Learnt, unpack-reads.Asked, unpack-reads.Learnt, assign-each-below t, assign-each.Post) (assign-at t) assign.Post
+assign-assign-each-requires t c κs =
+    let q = settled-ok (c .before .before .before .before .before .before .before .unpack .ensures .settled) (c .before .before .before .before .before .enum-told .given .1) in (
+      omega (arith, c .before .before .before .before .before .before .before .before .before .before .before .before .before .before .before .before .pre .0, levels-left (c .before .before .before .before .before .before .before .before .before .before .before .before .before .before .before .before .pre .1 .1 .0) (c .before .before .before .before .before .before .before .before .before .before .before .before .before .before .before .before .pre .1 .1 .1 .0) (c .before .before .before .before .before .before .before .before .before .before .before .before .before .before .before .before .pre .1 .1 .1 .1) _ (c .before .before .before .before .before .before .before .before .before .before .before .before .before .next .ensures .node)),
+      rw (q .1) (c .before .before .before .before .before .before .before .before .before .before .before .before .before .before .before .before .pre .1 .0, (c .before .before .before .before .before .before .before .before .before .before .before .before .before .before .before .before .pre .1 .1 .0, (targets-within (c .before .before .before .before .before .before .before .before .before .before .before .before .before .before .before .before .pre .1 .1 .0) (c .before .before .before .before .before .before .before .before .before .before .before .before .before .before .before .before .pre .1 .1 .1 .0) (c .before .before .before .before .before .before .before .before .before .before .before .before .before .before .before .before .pre .1 .1 .1 .1) _ (c .before .before .before .before .before .before .before .before .before .before .before .before .before .next .ensures .node), (c .before .before .before .before .before .before .before .before .before .before .before .before .before .before .before .before .pre .1 .1 .1 .1, c .before .before .before .before .before .before .before .unpack .ensures .unpacks .well (q .0) _ refl (c .before .before .before .before .before .before .before .before .before .before .before .before .before .before .before .before .pre .1 .1 .0 .wf) (c .before .before .before .before .before .before .before .before .before .before .before .before .before .before .before .before .pre .1 .1 .1 .1))))),
+    )
 
 -- src/lib.rt:183:1
-assign-same-length-3 : (t : ℕ) → assign-lts.Need-same-length-3 (next-reads.Asked, next-reads.Learnt, single-reads.Asked, single-reads.Learnt, unpack-reads.Asked, unpack-reads.Learnt, refuse-reads.Asked, refuse-reads.Learnt, assign-each-below t, assign-each.Post) (assign-at t) assign.Post
+assign-same-length-3 : (t : ℕ) → assign-lts.Need-same-length-3 (next-reads.Asked, next-reads.Learnt, single-reads.Asked, single-reads.Learnt, unpack-reads.Asked, unpack-reads.Learnt, assign-each-below t, assign-each.Post) (assign-at t) assign.Post
 assign-same-length-3 t c = search needs
 
 -- src/lib.rt:183:1
-assign-returns-3 : (t : ℕ) → assign-lts.Need-returns-3 (next-reads.Asked, next-reads.Learnt, single-reads.Asked, single-reads.Learnt, unpack-reads.Asked, unpack-reads.Learnt, refuse-reads.Asked, refuse-reads.Learnt, assign-each-below t, assign-each.Post) (assign-at t) assign.Post
+assign-returns-3 : (t : ℕ) → assign-lts.Need-returns-3 (next-reads.Asked, next-reads.Learnt, single-reads.Asked, single-reads.Learnt, unpack-reads.Asked, unpack-reads.Learnt, assign-each-below t, assign-each.Post) (assign-at t) assign.Post
 assign-returns-3 t c =
-    (tuple-assigned (c .before .before .before .before .before .before .before .before .before .before .before .before .before .before .before .before .before .before .pre .1 .1 .0) (c .before .before .before .before .before .before .before .before .before .before .before .before .before .before .before .before .before .before .pre .1 .1 .1 .0) (c .before .before .before .before .before .before .before .before .before .before .before .before .before .before .before .before .before .before .pre .1 .1 .1 .1) _ (c .before .before .before .before .before .before .before .before .before .before .before .before .before .before .before .next .ensures .node) (c .before .before .before .before .before .before .before .before .before .before .before .before .if1 .left) (c .before .before .before .before .before .before .before .before .before .before .unpack .ensures .well (c .before .before .before .before .before .before .before .before .if2 .left) _ refl (c .before .before .before .before .before .before .before .before .before .before .before .before .before .before .before .before .before .before .pre .1 .1 .0 .wf) (c .before .before .before .before .before .before .before .before .before .before .before .before .before .before .before .before .before .before .pre .1 .1 .1 .1)) (c .before .before .assign-each .ensures .0), c .before .before .assign-each .ensures .1)
+    let q = settled-ok (c .before .before .before .before .before .before .before .before .before .before .unpack .ensures .settled) (c .before .before .before .before .before .before .before .before .enum-told .given .1) in (
+      tuple-assigned (c .before .before .before .before .before .before .before .before .before .before .before .before .before .before .before .before .before .before .before .pre .1 .1 .0) (c .before .before .before .before .before .before .before .before .before .before .before .before .before .before .before .before .before .before .before .pre .1 .1 .1 .0) (c .before .before .before .before .before .before .before .before .before .before .before .before .before .before .before .before .before .before .before .pre .1 .1 .1 .1) _ (c .before .before .before .before .before .before .before .before .before .before .before .before .before .before .before .before .next .ensures .node) (c .before .before .before .before .before .before .before .before .before .before .before .before .before .if1 .left) (c .before .before .before .before .before .before .before .before .before .before .unpack .ensures .unpacks .well (q .0) _ refl (c .before .before .before .before .before .before .before .before .before .before .before .before .before .before .before .before .before .before .before .pre .1 .1 .0 .wf) (c .before .before .before .before .before .before .before .before .before .before .before .before .before .before .before .before .before .before .before .pre .1 .1 .1 .1)) (rw (q .1) at (c .before .before .assign-each .ensures .0)),
+      rw (q .1) at (c .before .before .assign-each .ensures .1),
+    )
 
 abbrev assign-each-Inv-loop : assign-each-lts.InvT-loop
 assign-each-Inv-loop image frames₀ top table₀ notes₀ stack₀ n ty depth next₀ j₀ frames table notes stack next j =
@@ -193,7 +196,7 @@ assign-each-returns-2 t c =
     (rw (← (parent-of (c .before .before .before .next .ensures))) (loop-end (c .before .loop .inv .0) (c .loop-test .left) refl), c .before .loop .inv .1)
 
 pub +assign+assign-each-spec : {M : Type 1} → statement M
-+assign+assign-each-spec = close μ-assign μ-assign-each (λ t. assign-lts.spec (next-reads.Asked, next-reads.Learnt, single-reads.Asked, single-reads.Learnt, unpack-reads.Asked, unpack-reads.Learnt, refuse-reads.Asked, refuse-reads.Learnt, assign-each-below t, assign-each.Post)
++assign+assign-each-spec = close μ-assign μ-assign-each (λ t. assign-lts.spec (next-reads.Asked, next-reads.Learnt, single-reads.Asked, single-reads.Learnt, unpack-reads.Asked, unpack-reads.Learnt, assign-each-below t, assign-each.Post)
     (assign-at t)
     assign.Post
     (assign-next-requires t)
@@ -201,7 +204,8 @@ pub +assign+assign-each-spec : {M : Type 1} → statement M
     (assign-same-length t)
     (assign-returns t)
     (assign-unpack-requires t)
-    (assign-refuse-requires t)
+    (assign-enum-told t)
+    (assign-enum-told-2 t)
     (assign-same-length-2 t)
     (assign-returns-2 t)
     (assign-cast-n t)

@@ -1,8 +1,6 @@
-use mathlib.Core.Path.{refl}
 use mathlib.Core.Logic.{inl, inr}
-use Rattle.targets.proofs.Answers.{held-none, held-refused}
 use Rattle.expr.proofs.Rows.{few-nodes}
-use Rattle.targets.proofs.Endings.{assigned-well, assigned-noted}
+use Rattle.targets.proofs.Answers.{settled-ill, settled-ends}
 use Rattle.targets.proofs.Singles.{small-name, single-name, single-checked, single-other}
 use native.Mathlib.Omega.{arith}
 use borrow.Author.Needs.{needs}
@@ -15,80 +13,51 @@ use Rattle.targets.proofs.assign_name.Reads as assign-name-reads
 use Rattle.targets.proofs.check_only.Reads as check-only-reads
 use Rattle.targets.proofs.refuse.Reads as refuse-reads
 
--- src/lib.rt:165:9
+-- src/lib.rt:148:9
 next-requires : tie.Need-next-requires
 next-requires c κs =
     (c .before .before .pre .1 .0 .sound .headed, record { nodes = c .before .before .pre .1 .0 .nodes-at; within = c .before .before .pre .1 .1 .0 .there })
 
--- src/lib.rt:170:55
+-- src/lib.rt:152:69
 cast-assign-name : tie.Need-cast-assign-name
 cast-assign-name c = search needs
 
--- src/lib.rt:170:17
+-- src/lib.rt:152:28
 assign-name-requires : tie.Need-assign-name-requires
 assign-name-requires c κs =
-    let r = c .before .before .before .before .before .before .before .pre .1 .0 in
-    (r .fit .high, small-name (c .before .before .before .before .before .before .before .pre .1 .0) (c .before .before .before .before .before .before .before .pre .1 .1 .0) (c .before .before .before .before .before .before .before .pre .1 .1 .1 .1) _ (c .before .before .before .before .next .ensures .node) (c .before .before .match .keys1), omega (arith, c .before .before .before .before .before .before .before .pre .1 .1 .1 .1, r .wf .room, r .wf .most))
+    let r = c .before .before .before .before .before .before .before .before .pre .1 .0 in
+    (c .before .before .before .before .before .before .before .before .pre .0, (r .fit .high, small-name (c .before .before .before .before .before .before .before .before .pre .1 .0) (c .before .before .before .before .before .before .before .before .pre .1 .1 .0) (c .before .before .before .before .before .before .before .before .pre .1 .1 .1 .1) _ (c .before .before .before .before .before .next .ensures .node) (c .before .before .before .match .keys1), omega (arith, c .before .before .before .before .before .before .before .before .pre .1 .1 .1 .1, r .wf .room, r .wf .most)))
 
--- src/lib.rt:172:17
-refuse-requires : tie.Need-refuse-requires
-refuse-requires c κs =
-    c .before .before .before .before .before .before .before .before .before .before .before .pre .0
-
--- src/lib.rt:172:17
-returns : tie.Need-returns
-returns c = (
-  rw (c .refuse .ensures .0) (assigned-noted (few-nodes (c .before .before .before .before .before .before .before .before .before .before .before .before .pre .1 .0 .sound)) (c .before .before .if1 .taken) (single-name (c .before .before .before .before .before .before .before .before .before .before .before .before .pre .1 .0) (c .before .before .before .before .before .before .before .before .before .before .before .before .pre .1 .1 .0) (c .before .before .before .before .before .before .before .before .before .before .before .before .pre .1 .1 .1 .1) _ (c .before .before .before .before .before .before .before .before .before .next .ensures .node) (c .before .before .before .before .before .before .before .match .keys1) (c .before .before .before .before .assign-name .ensures)) (c .refuse .ensures .1)),
-  rw (c .refuse .ensures .0) (held-refused (c .before .before .if1 .taken) (c .refuse .ensures .1)),
-)
-
--- src/lib.rt:176:29
+-- src/lib.rt:154:13
 check-only-requires : tie.Need-check-only-requires
 check-only-requires c κs =
     (c .before .before .before .before .before .before .before .before .before .pre .0, (c .before .before .before .before .before .before .before .before .before .pre .1 .0, c .before .before .before .before .before .before .before .before .before .pre .1 .1 .0))
 
--- src/lib.rt:177:25
-check-only-requires-2 : tie.Need-check-only-requires-2
-check-only-requires-2 c κs =
-    (c .before .before .before .before .before .before .before .before .before .pre .0, (c .before .before .before .before .before .before .before .before .before .pre .1 .0, c .before .before .before .before .before .before .before .before .before .pre .1 .1 .0))
-
--- src/lib.rt:178:14
-refuse-requires-2 : tie.Need-refuse-requires-2
-refuse-requires-2 c κs =
+-- src/lib.rt:156:14
+refuse-requires : tie.Need-refuse-requires
+refuse-requires c κs =
     c .before .before .before .before .before .before .pre .0
 
--- src/lib.rt:148:1
-returns-2 : tie.Need-returns-2
-returns-2 c = (
-  assigned-well (c .if1 .left) refl (single-name (c .before .before .before .before .before .before .before .before .before .before .pre .1 .0) (c .before .before .before .before .before .before .before .before .before .before .pre .1 .1 .0) (c .before .before .before .before .before .before .before .before .before .before .pre .1 .1 .1 .1) _ (c .before .before .before .before .before .before .before .next .ensures .node) (c .before .before .before .before .before .match .keys1) (c .before .before .assign-name .ensures)),
-  held-none (c .before .before .before .before .before .before .before .before .before .before .pre .0),
-)
+-- src/lib.rt:132:1
+returns : tie.Need-returns
+returns c =
+    settled-ends (c .assign-name .ensures .settled) (c .before .before .before .before .before .before .before .before .before .pre .0) (few-nodes (c .before .before .before .before .before .before .before .before .before .pre .1 .0 .sound))
+    (single-name (c .before .before .before .before .before .before .before .before .before .pre .1 .0) (c .before .before .before .before .before .before .before .before .before .pre .1 .1 .0) (c .before .before .before .before .before .before .before .before .before .pre .1 .1 .1 .1) _ (c .before .before .before .before .before .before .next .ensures .node) (c .before .before .before .before .match .keys1) (c .assign-name .ensures .written))
 
--- src/lib.rt:148:1
+-- src/lib.rt:132:1
 same-length : tie.Need-same-length
 same-length c = search needs
 
--- src/lib.rt:148:1
+-- src/lib.rt:132:1
+returns-2 : tie.Need-returns-2
+returns-2 c =
+    (single-checked (c .before .before .before .before .before .before .before .before .before .before .before .before .pre .1 .0) (c .before .before .before .before .before .before .before .before .before .before .before .before .pre .1 .1 .0) (c .before .before .before .before .before .before .before .before .before .before .before .before .pre .1 .1 .1 .1) _ (c .before .before .before .before .before .before .before .before .before .next .ensures .node) (c .before .before .before .before .before .before .before .match .keys2) (c .before .before .check-only .ensures .0), c .before .before .check-only .ensures .1)
+
+-- src/lib.rt:132:1
 returns-3 : tie.Need-returns-3
 returns-3 c =
-    (single-checked (c .before .before .before .before .before .before .before .before .before .before .before .before .pre .1 .0) (c .before .before .before .before .before .before .before .before .before .before .before .before .pre .1 .1 .0) (c .before .before .before .before .before .before .before .before .before .before .before .before .pre .1 .1 .1 .1) _ (c .before .before .before .before .before .before .before .before .before .next .ensures .node) (inl (c .before .before .before .before .before .before .before .match .keys2)) (c .before .before .check-only .ensures .0), c .before .before .check-only .ensures .1)
-
--- src/lib.rt:148:1
-same-length-2 : tie.Need-same-length-2
-same-length-2 c = search needs
-
--- src/lib.rt:148:1
-returns-4 : tie.Need-returns-4
-returns-4 c =
-    (single-checked (c .before .before .before .before .before .before .before .before .before .before .before .before .pre .1 .0) (c .before .before .before .before .before .before .before .before .before .before .before .before .pre .1 .1 .0) (c .before .before .before .before .before .before .before .before .before .before .before .before .pre .1 .1 .1 .1) _ (c .before .before .before .before .before .before .before .before .before .next .ensures .node) (inr (c .before .before .before .before .before .before .before .match .keys3)) (c .before .before .check-only2 .ensures .0), c .before .before .check-only2 .ensures .1)
-
--- src/lib.rt:148:1
-returns-5 : tie.Need-returns-5
-returns-5 c = (
-  rw (c .refuse2 .ensures .0) (assigned-noted (few-nodes (c .before .before .before .before .before .before .before .pre .1 .0 .sound)) (λ e. absurd (omega arith))
-      (single-other (c .before .before .before .before .before .before .before .pre .1 .0) (c .before .before .before .before .before .before .before .pre .1 .1 .0) (c .before .before .before .before .before .before .before .pre .1 .1 .1 .1) _ (c .before .before .before .before .next .ensures .node) (c .before .before .before .before .before .before .before .pre .1 .1 .1 .0) (c .before .before .match .rest .0 .0 .1) (c .before .before .match .rest .0 .1) (c .before .before .match .rest .1)) (c .refuse2 .ensures .1)),
-  rw (c .refuse2 .ensures .0) (held-refused (λ e. absurd (omega arith)) (c .refuse2 .ensures .1)),
-)
+    settled-ends (settled-ill (λ e. absurd (omega arith)) (c .refuse .ensures)) (c .before .before .before .before .before .before .before .pre .0) (few-nodes (c .before .before .before .before .before .before .before .pre .1 .0 .sound))
+    (single-other (c .before .before .before .before .before .before .before .pre .1 .0) (c .before .before .before .before .before .before .before .pre .1 .1 .0) (c .before .before .before .before .before .before .before .pre .1 .1 .1 .1) _ (c .before .before .before .before .next .ensures .node) (c .before .before .before .before .before .before .before .pre .1 .1 .1 .0) (c .before .before .match .rest .0 .1) (λ e. c .before .before .match .rest .1 (inl e)) (λ e. c .before .before .match .rest .1 (inr e)))
 
 pub single-spec : {M : Type 1} → statement M
 single-spec =
@@ -97,14 +66,9 @@ single-spec =
     next-requires
     cast-assign-name
     assign-name-requires
+    check-only-requires
     refuse-requires
     returns
-    check-only-requires
-    check-only-requires-2
-    refuse-requires-2
-    returns-2
     same-length
-    returns-3
-    same-length-2
-    returns-4
-    returns-5)
+    returns-2
+    returns-3)

@@ -1,51 +1,79 @@
+use mathlib.Core.Logic.{inl, inr}
 use Rattle.rules.proofs.Outcomes.{known-room}
 use Rattle.targets.proofs.Unpacking.{known-count, unpacks-any, unpacks-tuple, unpacks-other, unpacks-not}
-use mathlib.Core.Logic.{inl, inr}
+use Rattle.targets.proofs.Answers.{settled-well, settled-ill}
 use native.Mathlib.Omega.{arith}
+use borrow.Author.Needs.{needs}
 use Rattle.targets.proofs.unpack.Statement.{statement}
 use Rattle.targets.proofs.unpack.Tie as tie
 use Rattle.targets.proofs.unpack.Reads as reads
 use Rattle.targets.proofs.unpack.Lts as lts
+use Rattle.targets.proofs.refuse.Reads as refuse-reads
 use Rattle.types.proofs.count_of.Reads as count-of-reads
 use Rattle.types.proofs.kind_of.Reads as kind-of-reads
 
--- src/lib.rt:56:11
+-- src/lib.rt:71:11
 kind-of-requires : tie.Need-kind-of-requires
 kind-of-requires c κs =
-    known-room (c .before .pre)
+    known-room (c .before .pre .1)
 
--- src/lib.rt:60:17
+-- src/lib.rt:74:17
 count-of-requires : tie.Need-count-of-requires
 count-of-requires c κs =
-    known-room (c .before .before .before .pre)
+    known-room (c .before .before .before .pre .1)
 
--- src/lib.rt:63:17
+-- src/lib.rt:77:17
 returns : tie.Need-returns
 returns c =
-    unpacks-tuple _ (c .before .before .before .kind-of .ensures) (c .before .before .match .keys3) (c .before .count-of .ensures) (c .if1 .taken)
+    record { code = 0; a = 0; b = 0; unpacks = unpacks-tuple _ (c .before .before .before .kind-of .ensures) (c .before .before .match .keys2) (c .before .count-of .ensures) (c .if1 .taken); settled = settled-well }
 
--- src/lib.rt:52:1
+-- src/lib.rt:79:13
+refuse-requires : tie.Need-refuse-requires
+refuse-requires c κs =
+    c .before .before .before .before .before .before .pre .0
+
+-- src/lib.rt:81:14
+refuse-requires-2 : tie.Need-refuse-requires-2
+refuse-requires-2 c κs =
+    c .before .before .before .before .pre .0
+
+-- src/lib.rt:66:1
 returns-2 : tie.Need-returns-2
 returns-2 c =
-    unpacks-any _ (c .before .kind-of .ensures) (inl (c .match .keys1))
+    record { code = 0; a = 0; b = 0; unpacks = unpacks-any _ (c .before .kind-of .ensures) (c .match .keys1); settled = settled-well }
 
--- src/lib.rt:52:1
+-- src/lib.rt:66:1
 returns-3 : tie.Need-returns-3
 returns-3 c =
-    unpacks-any _ (c .before .kind-of .ensures) (inr (c .match .keys2))
+    record {
+      code = 26;
+      a = _;
+      b = _;
+      unpacks = unpacks-other _ (c .before .before .before .before .before .kind-of .ensures) (c .before .before .before .before .match .keys2) (c .before .before .before .count-of .ensures) (omega arith)
+          (known-count (c .before .before .before .before .before .before .before .pre .1) (c .before .before .before .before .before .kind-of .ensures) (c .before .before .before .before .match .keys2) (c .before .before .before .count-of .ensures)) (c .before .before .if1 .left);
+      settled = settled-ill (λ e. absurd (omega arith)) (c .refuse .ensures);
+    }
 
--- src/lib.rt:52:1
+-- src/lib.rt:66:1
 returns-4 : tie.Need-returns-4
 returns-4 c =
-    unpacks-other _ (c .before .before .before .kind-of .ensures) (c .before .before .match .keys3) (c .before .count-of .ensures) (omega arith)
-    (known-count (c .before .before .before .before .before .pre) (c .before .before .before .kind-of .ensures) (c .before .before .match .keys3) (c .before .count-of .ensures)) (c .if1 .left)
-
--- src/lib.rt:52:1
-returns-5 : tie.Need-returns-5
-returns-5 c =
-    unpacks-not _ (c .before .kind-of .ensures) (c .match .rest .0 .0 .1) (c .match .rest .0 .1) (c .match .rest .1)
+    record {
+      code = 27;
+      a = _;
+      b = 0;
+      unpacks = unpacks-not _ (c .before .before .before .kind-of .ensures) (λ e. c .before .before .match .rest .0 .1 (inl e)) (λ e. c .before .before .match .rest .0 .1 (inr e)) (c .before .before .match .rest .1);
+      settled = settled-ill (λ e. absurd (omega arith)) (c .refuse2 .ensures);
+    }
 
 pub unpack-spec : {M : Type 1} → statement M
 unpack-spec =
     tie.close
-    (tie.spec kind-of-requires count-of-requires returns returns-2 returns-3 returns-4 returns-5)
+    (tie.spec
+    kind-of-requires
+    count-of-requires
+    returns
+    refuse-requires
+    refuse-requires-2
+    returns-2
+    returns-3
+    returns-4)
