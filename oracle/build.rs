@@ -4,6 +4,7 @@
 //! - `as_is.rs`    T, byte for byte;
 //! - `framed.rs`   T with the module frame handed out at the end, and an end at a ninth frame;
 //! - `sorted.rs`   the same, with the names of a merge taken in byte order, and a note where their order shows;
+//! - `strict_*.rs` these three, with the four dropped results handed on: document 02's strict;
 //! - `ast.rs`      the tree, byte for byte;
 //! - `arity.rs`    `Arity` cut from type_def.rs, whose rest needs crates and files that are not given;
 //! - `builtin.rs`  `BuiltinFunction` cut from builtins.rs, whose REGISTRY the image's name records replace.
@@ -28,8 +29,10 @@ const BUILTINS: (&str, &str) = ("src/builtins.rs", "c630f59fef184a77b32853ef523c
 
 /// One mechanical edit: whole lines that stand exactly once in T, and what stands there instead.
 struct Edit {
-    /// The first line that it touches, from 1: stated, so that an edit elsewhere is noticed.
+    /// Its first line, from 1: stated, so that an edit elsewhere is noticed.
     line: usize,
+    /// How many of its lines it changes.
+    changes: usize,
     old: &'static str,
     new: &'static str,
 }
@@ -38,16 +41,19 @@ struct Edit {
 const FRAMED: [Edit; 3] = [
     Edit {
         line: 57,
+        changes: 1,
         old: "pub fn typecheck_program(program: &[StmtS], ctx: &super::ProgramContext) -> SemanticResult<()> {\n",
         new: "pub fn typecheck_program(program: &[StmtS], ctx: &super::ProgramContext) -> SemanticResult<super::Frames> {\n",
     },
     Edit {
         line: 63,
+        changes: 1,
         old: "        tc_stmt(stmt, &mut tenv, ctx, &mut Some(Ty::Unknown), false)?;\n    }\n    Ok(())\n",
         new: "        tc_stmt(stmt, &mut tenv, ctx, &mut Some(Ty::Unknown), false)?;\n    }\n    Ok(handed_out(&tenv))\n",
     },
     Edit {
         line: 269,
+        changes: 1,
         old: "            tenv.push();\n",
         new: "            super::room_for_a_frame(tenv.frames.len(), &stmt.1); tenv.push();\n",
     },
@@ -57,13 +63,49 @@ const FRAMED: [Edit; 3] = [
 const SORTED: [Edit; 2] = [
     Edit {
         line: 184,
+        changes: 1,
         old: "            for var in all_assigned {\n",
         new: "            for var in super::in_byte_order(all_assigned) {\n",
     },
     Edit {
         line: 197,
+        changes: 1,
         old: "                                        span: condition.1.clone(),\n",
         new: "                                        span: super::merge_refused(condition.1.clone()),\n",
+    },
+];
+
+/// The results that T drops, of a then, an elif, an else and a While's body, are handed on: `let _ = ..` becomes `..?`.
+const STRICT: [Edit; 5] = [
+    Edit {
+        line: 141,
+        changes: 3,
+        old: "                for s in then_block {\n                    let _ = tc_stmt(s, e, ctx, current_fn_return, in_loop);\n                }\n            });\n",
+        new: "                for s in then_block {\n                    tc_stmt(s, e, ctx, current_fn_return, in_loop)?;\n                } Ok(())\n            })?;\n",
+    },
+    Edit {
+        line: 153,
+        changes: 3,
+        old: "                with_env(&mut env_i, |e| {\n                    for s in block {\n                        let _ = tc_stmt(s, e, ctx, current_fn_return, in_loop);\n                    }\n                });\n",
+        new: "                with_env(&mut env_i, |e| {\n                    for s in block {\n                        tc_stmt(s, e, ctx, current_fn_return, in_loop)?;\n                    } Ok(())\n                })?;\n",
+    },
+    Edit {
+        line: 167,
+        changes: 3,
+        old: "                with_env(&mut else_env, |e| {\n                    for s in block {\n                        let _ = tc_stmt(s, e, ctx, current_fn_return, in_loop);\n                    }\n                });\n",
+        new: "                with_env(&mut else_env, |e| {\n                    for s in block {\n                        tc_stmt(s, e, ctx, current_fn_return, in_loop)?;\n                    } Ok(())\n                })?;\n",
+    },
+    Edit {
+        line: 218,
+        changes: 3,
+        old: "                for s in body {\n                    let _ = tc_stmt(s, e, ctx, current_fn_return, true);\n                }\n            });\n",
+        new: "                for s in body {\n                    tc_stmt(s, e, ctx, current_fn_return, true)?;\n                } Ok(())\n            })?;\n",
+    },
+    Edit {
+        line: 937,
+        changes: 2,
+        old: "fn with_env<F: FnOnce(&mut TypeEnv)>(tenv: &mut TypeEnv, f: F) {\n    f(tenv);\n",
+        new: "fn with_env<F: FnOnce(&mut TypeEnv) -> SemanticResult<()>>(tenv: &mut TypeEnv, f: F) -> SemanticResult<()> {\n    f(tenv)\n",
     },
 ];
 
@@ -116,6 +158,9 @@ fn main() {
         "\nconst PRINT: BuiltinFunction = ",
     );
 
+    write("strict_as_is.rs", &edited(&typecheck, &STRICT));
+    write("strict_framed.rs", &(edited(&framed, &STRICT) + HANDED_OUT));
+    write("strict_sorted.rs", &(edited(&sorted, &STRICT) + HANDED_OUT));
     write("as_is.rs", &typecheck);
     write("framed.rs", &(framed + HANDED_OUT));
     write("sorted.rs", &(sorted + HANDED_OUT));
@@ -178,11 +223,12 @@ fn edited(text: &str, edits: &[Edit]) -> String {
         if line != edit.line || !(places[0] == 0 || result.as_bytes()[places[0] - 1] == b'\n') {
             fail(&format!("the edit meant for line {} fits at line {}", edit.line, line));
         }
-        for (k, (old, new)) in edit.old.lines().zip(edit.new.lines()).enumerate() {
-            if old != new {
-                meant.push(edit.line + k);
-            }
+        let pairs = edit.old.lines().zip(edit.new.lines()).enumerate();
+        let changed: Vec<usize> = pairs.filter(|(_, (old, new))| old != new).map(|(k, _)| edit.line + k).collect();
+        if changed.len() != edit.changes {
+            fail(&format!("the edit at line {} changes {} lines, not {}", edit.line, changed.len(), edit.changes));
         }
+        meant.extend(changed);
         result = result.replacen(edit.old, edit.new, 1);
     }
     meant.sort_unstable();
@@ -191,7 +237,7 @@ fn edited(text: &str, edits: &[Edit]) -> String {
     }
     let differ = text.lines().zip(result.lines()).enumerate().filter(|(_, (a, b))| a != b);
     let changed: Vec<usize> = differ.map(|(i, _)| i + 1).collect();
-    if changed != meant || meant.len() != edits.len() {
+    if changed != meant {
         fail(&format!("the edits changed lines {:?}, and were meant for {:?}", changed, meant));
     }
     result

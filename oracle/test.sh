@@ -50,7 +50,9 @@ s/line: 269/line: 270/|the edit meant for line 270 fits at line 269
 s/for var in all_assigned {/for war in all_assigned {/|fits 0 places, not 1
 s/old: "            tenv.push();.n"/old: "            Ok(())\\n"/|places, not 1
 s/new: "            for var in super::in_byte_order(all_assigned) {/new: "\\n            for var in super::in_byte_order(all_assigned) {/|the edit meant for line 197 fits at line 198
-s/new: "            for var in super::in_byte_order(all_assigned) {/new: "            for var in all_assigned {/|the edits changed lines
+s/new: "            for var in super::in_byte_order(all_assigned) {/new: "            for var in all_assigned {/|the edit at line 184 changes 0 lines, not 1
+s/line: 218/line: 219/|the edit meant for line 219 fits at line 218
+s/new: "                for s in then_block {.n                    tc_stmt(s, e, ctx, current_fn_return, in_loop)?;/new: "                for s in then_block {\\n                    let _ = tc_stmt(s, e, ctx, current_fn_return, in_loop);/|the edit at line 141 changes 2 lines, not 3
 ALTERATIONS
 
 say "the runs of document 01"
@@ -104,6 +106,14 @@ refused 29 2 0 7 TypeError: unsupported operand types for +: Int and String
 WANTED
 $oracle encode < "$scratch/runs.txt" > "$scratch/runs.batch"
 $oracle judge < "$scratch/runs.batch" | sed 's/ #[0-9a-f]*$//' | cmp - "$scratch/wanted.txt" || fail "the runs end otherwise"
+# Document 02's strict: runs 7, 9 and 11 are refused where the others end as before.
+cat > "$scratch/strict.txt" <<'STRICT'
+7 refused 20 4 9 14 SyntaxError: 'break' outside loop
+9 refused 29 5 12 19 TypeError: unsupported operand types for +: Int and String
+11 refused 29 14 43 50 TypeError: unsupported operand types for +: Int and String
+STRICT
+$oracle judge --strict < "$scratch/runs.batch" | sed 's/ #[0-9a-f]*$//' > "$scratch/said.txt"
+awk 'NR == FNR { wanted[FNR] = $0; next } $0 != wanted[FNR] { print FNR " " $0 }' "$scratch/wanted.txt" "$scratch/said.txt" | cmp - "$scratch/strict.txt" || fail "the runs end otherwise in strict"
 # Run 2 and run 12, word by word.
 words() { $oracle judge --full < "$scratch/runs.batch" | sed -n "$1p" | cut -f5; }
 [ "$(words 2)" = "0100000000000000280000000000000028000000010000002800000001000000340000003500000000000000010000000100000078" ] || fail "run 2's sheet"
@@ -124,24 +134,32 @@ $oracle check-reference --seed 2 --count 300 > "$scratch/check.txt" || { cat "$s
 tail -2 "$scratch/check.txt"
 $oracle exhaust --nodes 4 > "$scratch/exhaust.txt" || { cat "$scratch/exhaust.txt"; fail "the reference differs from T"; }
 tail -1 "$scratch/exhaust.txt"
+$oracle check-reference --strict --seed 2 --count 300 > "$scratch/check.txt" || { cat "$scratch/check.txt"; fail "the reference differs from T in strict"; }
+tail -2 "$scratch/check.txt"
+$oracle exhaust --strict --nodes 4 > "$scratch/exhaust.txt" || { cat "$scratch/exhaust.txt"; fail "the reference differs from T in strict"; }
+tail -1 "$scratch/exhaust.txt"
 
 say "the stored list is what its seed makes"
 $oracle store --seed $seed --out "$scratch"
-for file in images.batch answers.txt notes.txt tight-images.batch tight-answers.txt tight-notes.txt; do
+for file in images.batch answers.txt strict-answers.txt notes.txt tight-images.batch tight-answers.txt tight-notes.txt; do
     cmp "$scratch/$file" "$stored/$file" || fail "$stored/$file is not what seed $seed makes"
 done
-images_and_answers="$stored/images.batch $stored/answers.txt $stored/notes.txt $stored/tight-images.batch $stored/tight-answers.txt $stored/tight-notes.txt"
-[ "$(cat $images_and_answers | wc -c)" -lt 3000000 ] || fail "the stored lists are 3 MB or more"
+images_and_answers="$stored/images.batch $stored/answers.txt $stored/strict-answers.txt $stored/notes.txt $stored/tight-images.batch $stored/tight-answers.txt $stored/tight-notes.txt"
+[ "$(cat $images_and_answers | wc -c)" -lt 3200000 ] || fail "the stored lists are 3.2 MB or more"
 
 say "the stored answers are T's, and the reference's"
 $oracle judge --rules < $stored/images.batch | cmp - $stored/answers.txt || fail "T answers otherwise"
 $oracle reference < $stored/images.batch | cmp - $stored/answers.txt || fail "the reference answers otherwise"
+$oracle judge --strict --rules < $stored/images.batch | cmp - $stored/strict-answers.txt || fail "T answers otherwise in strict"
+$oracle reference --strict < $stored/images.batch | cmp - $stored/strict-answers.txt || fail "the reference answers otherwise in strict"
+[ "$(diff $stored/answers.txt $stored/strict-answers.txt | grep -c '^>')" -ge 300 ] || fail "fewer than 300 answers differ in strict"
 for who in "judge --rules" reference; do
     $oracle $who --sheet-room 98 --message-room 69 < $stored/tight-images.batch | cmp - $stored/tight-answers.txt || fail "$who, tight rooms"
 done
 for code in 0 1 2 3 4 5 6 7 8 9 $(seq 20 50); do
     if [ "$code" = 0 ]; then form="^accepted "; else form="^refused $code "; fi
     grep -q "$form" $stored/answers.txt || fail "no stored image has code $code"
+    grep -q "$form" $stored/strict-answers.txt || fail "no stored image has code $code in strict"
 done
 grep -q "^refused 10 " $stored/tight-answers.txt || fail "no stored image has code 10"
 
@@ -157,8 +175,8 @@ $oracle compare $oracle reference < $stored/images.batch > "$scratch/compare.txt
 
 say "compare finds and shrinks planted mistakes"
 # name, and how many bytes the smallest form may have
-while read -r name most; do
-    if $oracle compare --show 1 $oracle mistaken "$name" < $stored/images.batch > "$scratch/compare.txt"; then fail "$name is not found"; fi
+while read -r name most setting; do
+    if $oracle compare $setting --show 1 $oracle mistaken "$name" $setting < $stored/images.batch > "$scratch/compare.txt"; then fail "$name is not found"; fi
     size=$(sed -n 's/^  smallest form (\([0-9]*\) bytes).*/\1/p' "$scratch/compare.txt")
     [ -n "$size" ] && [ "$size" -le "$most" ] || { cat "$scratch/compare.txt"; fail "$name has a smallest form of $size bytes, not $most"; }
     printf '%s: %s bytes\n' "$name" "$size"
@@ -169,6 +187,8 @@ version-unread 56
 five-before-four 140
 ninth-allowed 461
 types-as-formed 300
+elif-dropped 319 --strict
+if-clears-flag 245 --strict
 PLANTED
 
 say "compare tells a program that ends without a line"

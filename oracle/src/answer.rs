@@ -4,6 +4,13 @@
 pub const SHEET_ROOM: usize = 42_532;
 pub const MESSAGE_ROOM: usize = 1_024;
 
+/// Document 02's settings: plain drops the typing errors of If and While bodies, as T does, and strict returns them.
+#[derive(Debug, Clone, Copy, PartialEq, Eq)]
+pub enum Setting {
+    Plain,
+    Strict,
+}
+
 /// How many bytes the caller's two buffers have.
 #[derive(Debug, Clone, Copy, PartialEq, Eq)]
 pub struct Rooms {

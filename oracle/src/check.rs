@@ -1,6 +1,6 @@
 //! Holding the reference walk against T.
 
-use crate::answer::{Answer, Rooms};
+use crate::answer::{Answer, Rooms, Setting};
 use crate::exhaust::{All, PAIRS};
 use crate::generate;
 use crate::judge::{self, Engine};
@@ -23,9 +23,9 @@ const SHOWN: u64 = 5;
 
 impl Tally {
     /// Judges an image by T and by the reference, and shows the first differences.
-    pub fn compare(&mut self, image: &[u8], rooms: Rooms) -> Answer {
-        let judged = judge::judge(image, rooms);
-        let other = reference::judge(image, rooms, Mind::SOUND).answer;
+    pub fn compare(&mut self, image: &[u8], setting: Setting, rooms: Rooms) -> Answer {
+        let judged = judge::judge(image, setting, rooms);
+        let other = reference::judge(image, setting, rooms, Mind::SOUND).answer;
         self.images += 1;
         *self.codes.entry(judged.answer.code).or_insert(0) += 1;
         *self.engines.entry(judged.engine.name()).or_insert(0) += 1;
@@ -65,19 +65,19 @@ impl Tally {
 
 /// `count` images of each family, or of one. Every tenth is judged again in rooms that its sheet or message
 /// just fits, and just doesn't.
-pub fn check_reference(seed: u64, count: u64, only: Option<&str>) -> bool {
+pub fn check_reference(seed: u64, count: u64, only: Option<&str>, setting: Setting) -> bool {
     println!("{:10} {:>9}    image    as-is   sorted    ninth too-large differences", "family", "judged");
     let mut total = Tally::default();
     for (family, _) in generate::FAMILIES.iter().filter(|(name, _)| only.map_or(true, |only| only == *name)) {
         let mut tally = Tally::default();
         for number in 0..count {
             let image = generate::image(seed, family, number);
-            let answer = tally.compare(&image, Rooms::default());
+            let answer = tally.compare(&image, setting, Rooms::default());
             if number % 10 == 0 {
                 for less in 0..2 {
                     let sheet = answer.sheet.len().saturating_sub(less);
                     let message = answer.message.len().saturating_sub(less);
-                    tally.compare(&image, Rooms { sheet, message });
+                    tally.compare(&image, setting, Rooms { sheet, message });
                 }
             }
         }
@@ -90,14 +90,14 @@ pub fn check_reference(seed: u64, count: u64, only: Option<&str>) -> bool {
 }
 
 /// Every program of up to `nodes` nodes besides the module's Block, over each pair of names.
-pub fn exhaust(nodes: usize) -> bool {
+pub fn exhaust(nodes: usize, setting: Setting) -> bool {
     let all = All::new(nodes);
     let mut total = Tally::default();
     for pair in PAIRS.iter() {
         let mut tally = Tally::default();
         for size in 0..=nodes {
             all.programs(size, pair, &mut |program| {
-                tally.compare(&program.image(), Rooms::default());
+                tally.compare(&program.image(), setting, Rooms::default());
             });
         }
         println!("{} {:?}: {} programs, {} differences", pair[0].0, pair[1].0, tally.images, tally.differences);

@@ -1,6 +1,6 @@
 //! Comparing any program that speaks the batch form with T.
 
-use crate::answer::Rooms;
+use crate::answer::{Rooms, Setting};
 use crate::batch;
 use crate::judge::{self, Engine};
 use crate::reader;
@@ -18,6 +18,8 @@ pub struct Other {
     pub single: bool,
     /// Its lines for accepted programs have no checksum of the sheet.
     pub no_checksum: bool,
+    /// The setting in which it answers.
+    pub setting: Setting,
 }
 
 /// What stands for the line of an image on which the program ended without one.
@@ -87,7 +89,7 @@ impl Other {
 
     /// T's line for an image, in the form in which this program gives its own.
     fn wanted(&self, image: &[u8], rooms: Rooms) -> (Vec<u8>, Engine) {
-        let judged = judge::judge(image, rooms);
+        let judged = judge::judge(image, self.setting, rooms);
         let bare = self.single || self.no_checksum;
         let line = if bare { judged.answer.bare_line() } else { judged.answer.line() };
         (line, judged.engine)

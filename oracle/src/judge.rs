@@ -1,6 +1,6 @@
 //! T as the judge of program images.
 
-use crate::answer::{Answer, Rooms};
+use crate::answer::{Answer, Rooms, Setting};
 use crate::builtins;
 use crate::image::{self, Image, Role};
 use crate::mistakes::Mind;
@@ -16,7 +16,7 @@ use std::panic::{catch_unwind, AssertUnwindSafe};
 pub enum Engine {
     /// Codes 1 to 8: the oracle's own reader of images. T has no say in these.
     Image,
-    /// T byte for byte; the sheet comes from T with its frames handed out, which gave the same result.
+    /// T byte for byte (in strict but for the results that it drops); the sheet comes from T with its frames handed out, which gave the same result.
     AsIs,
     /// T with merges in byte order: in this image the order of a merge shows.
     Sorted,
@@ -55,16 +55,17 @@ enum Outcome<T> {
     NinthFrame(usize),
 }
 
-pub fn judge(bytes: &[u8], rooms: Rooms) -> Judged {
+/// T's answer; in strict, that of T with its dropped results handed on.
+pub fn judge(bytes: &[u8], setting: Setting, rooms: Rooms) -> Judged {
     let image = match image::read(bytes) {
         Ok(image) => image,
         Err(fault) => return Judged { answer: Answer::bare(fault.code, fault.place), engine: Engine::Image },
     };
-    let expected = reference::judge(bytes, rooms, Mind::SOUND);
+    let expected = reference::judge(bytes, setting, rooms, Mind::SOUND);
     if expected.weight > HEAVIEST {
         return Judged { answer: expected.answer, engine: Engine::TooLarge };
     }
-    let (outcome, engine) = run(&image);
+    let (outcome, engine) = run(&image, setting);
     Judged { answer: answer(&image, outcome, rooms), engine }
 }
 
@@ -79,21 +80,30 @@ fn context(image: &Image) -> ProgramContext {
 }
 
 /// Runs T in its three forms, and holds them against each other wherever they must agree.
-fn run(image: &Image) -> (Outcome<Frames>, Engine) {
+fn run(image: &Image, setting: Setting) -> (Outcome<Frames>, Engine) {
     let program = tree::program(image);
     let context = context(image);
     semantic::take_order_shows();
-    let sorted = outcome(|| semantic::sorted::typecheck_program(&program, &context));
+    let sorted = outcome(|| match setting {
+        Setting::Plain => semantic::sorted::typecheck_program(&program, &context),
+        Setting::Strict => semantic::strict_sorted::typecheck_program(&program, &context),
+    });
     if semantic::take_order_shows() {
         return (sorted, Engine::Sorted);
     }
     // Every merge so far could have gone in any order: the unsorted form does the same.
-    let framed = outcome(|| semantic::framed::typecheck_program(&program, &context));
+    let framed = outcome(|| match setting {
+        Setting::Plain => semantic::framed::typecheck_program(&program, &context),
+        Setting::Strict => semantic::strict_framed::typecheck_program(&program, &context),
+    });
     assert_eq!(framed, sorted, "the order of a merge shows where it cannot");
     if let Outcome::NinthFrame(_) = framed {
         return (framed, Engine::Ninth);
     }
-    let as_is = outcome(|| semantic::as_is::typecheck_program(&program, &context));
+    let as_is = outcome(|| match setting {
+        Setting::Plain => semantic::as_is::typecheck_program(&program, &context),
+        Setting::Strict => semantic::strict_as_is::typecheck_program(&program, &context),
+    });
     let same = match (&as_is, &framed) {
         (Outcome::Accepted(()), Outcome::Accepted(_)) => true,
         (Outcome::Refused(a), Outcome::Refused(b)) => a == b,
@@ -108,7 +118,7 @@ fn run(image: &Image) -> (Outcome<Frames>, Engine) {
 pub fn as_is_again(bytes: &[u8], runs: u64) -> BTreeMap<String, u64> {
     let mut said = BTreeMap::new();
     let image = match image::read(bytes) {
-        Ok(image) if reference::judge(bytes, Rooms::default(), Mind::SOUND).weight <= HEAVIEST => image,
+        Ok(image) if reference::judge(bytes, Setting::Plain, Rooms::default(), Mind::SOUND).weight <= HEAVIEST => image,
         _ => return said,
     };
     let program = tree::program(&image);

@@ -26,7 +26,7 @@ mod tree;
 mod types;
 mod vm;
 
-use answer::Rooms;
+use answer::{Rooms, Setting};
 use judge::Engine;
 use mistakes::Mind;
 use std::io::{self, BufWriter, Read, Write};
@@ -55,6 +55,7 @@ usage:
   oracle store-sheets --seed S --out FOLDER                write the stored list of sheets
   oracle sheet-kinds, oracle sheet-rules                   the kinds of sheets; the reader's rules
 ROOMS: --sheet-room N --message-room N
+With --strict, judge, reference, mistaken, check-reference, exhaust and compare go by document 02's strict setting.
 ";
 
 /// Types may be some 2,000 levels deep, and T goes through them by recursion.
@@ -103,11 +104,12 @@ fn command() -> Result<i32, String> {
         "check-reference" => {
             let options = Options::new(rest)?;
             let (seed, count) = (options.wanted("--seed")?, options.wanted("--count")?);
-            Ok(i32::from(!check::check_reference(seed, count, options.family()?)))
+            Ok(i32::from(!check::check_reference(seed, count, options.family()?, options.setting())))
         }
         "exhaust" => {
-            let nodes = Options::new(rest)?.wanted("--nodes")? as usize;
-            Ok(i32::from(!check::exhaust(nodes)))
+            let options = Options::new(rest)?;
+            let nodes = options.wanted("--nodes")? as usize;
+            Ok(i32::from(!check::exhaust(nodes, options.setting())))
         }
         "compare" => compare_batch(rest),
         "store" => {
@@ -190,7 +192,7 @@ const VALUES: [&str; 12] = [
     "--runs",
     "--without",
 ];
-const FLAGS: [&str; 6] = ["--full", "--rules", "--single", "--no-checksum", "--source", "--sheets"];
+const FLAGS: [&str; 7] = ["--strict", "--full", "--rules", "--single", "--no-checksum", "--source", "--sheets"];
 
 impl Options {
     fn new(args: &[String]) -> Result<Options, String> {
@@ -246,6 +248,14 @@ impl Options {
         self.text("--without").map(found).transpose()
     }
 
+    fn setting(&self) -> Setting {
+        if self.flag("--strict") {
+            Setting::Strict
+        } else {
+            Setting::Plain
+        }
+    }
+
     fn rooms(&self) -> Result<Rooms, String> {
         let usual = Rooms::default();
         Ok(Rooms {
@@ -272,7 +282,7 @@ fn each_line(mut line: impl FnMut(&[u8]) -> Vec<u8>) -> Result<i32, String> {
 fn judge_batch(options: Options) -> Result<i32, String> {
     let rooms = options.rooms()?;
     each_line(|image| {
-        let judged = judge::judge(image, rooms);
+        let judged = judge::judge(image, options.setting(), rooms);
         if options.flag("--full") {
             judged.answer.full_line(judged.engine.name())
         } else if judged.engine == Engine::TooLarge && !options.flag("--rules") {
@@ -286,7 +296,7 @@ fn judge_batch(options: Options) -> Result<i32, String> {
 fn reference_batch(options: Options, mind: Mind) -> Result<i32, String> {
     let rooms = options.rooms()?;
     each_line(|image| {
-        let answer = reference::judge(image, rooms, mind).answer;
+        let answer = reference::judge(image, options.setting(), rooms, mind).answer;
         if options.flag("--full") {
             answer.full_line("reference")
         } else {
@@ -308,11 +318,15 @@ fn compare_batch(args: &[String]) -> Result<i32, String> {
         args: args[at + 1..].to_vec(),
         single: options.flag("--single"),
         no_checksum: options.flag("--no-checksum"),
+        setting: options.setting(),
     };
     let show = options.number("--show")?.unwrap_or(3) as usize;
     if options.flag("--sheets") {
-        if options.text("--sheet-room").is_some() || options.text("--message-room").is_some() {
-            return Err("a reader has no rooms".to_string());
+        if options.text("--sheet-room").is_some()
+            || options.text("--message-room").is_some()
+            || options.flag("--strict")
+        {
+            return Err("a reader has no rooms and no setting".to_string());
         }
         let differing = compare::compare_sheets(&other, &images()?, show)?;
         if let Some(file) = options.text("--save") {
@@ -338,10 +352,12 @@ fn compare_batch(args: &[String]) -> Result<i32, String> {
     Ok(i32::from(result.differences > 0))
 }
 
-/// The images given, in the usual rooms, and a small second list in tight rooms, without which no image could
-/// tell a sheet of exactly the room: the stored one's file, or the same as the generator makes it.
+/// The images given, in the usual rooms, plain and strict; and a small second list in tight rooms, without which no
+/// image could tell a sheet of exactly the room: the stored one's file, or the same as the generator makes it.
 fn mistake_suite(options: Options) -> Result<i32, String> {
-    let usual = mistakes::suite(&images()?, Rooms::default())?;
+    let images = images()?;
+    let usual = mistakes::suite(&images, Setting::Plain, Rooms::default())?;
+    let strict = mistakes::suite(&images, Setting::Strict, Rooms::default())?;
     let tight_images = match options.text("--tight") {
         Some(file) => {
             let mut input = std::fs::File::open(file).map_err(|e| format!("{}: {}", file, e))?;
@@ -349,13 +365,14 @@ fn mistake_suite(options: Options) -> Result<i32, String> {
         }
         None => store::tight_list().into_iter().map(|(_, image)| image).collect(),
     };
-    let tight = mistakes::suite(&tight_images, store::TIGHT)?;
+    let tight = mistakes::suite(&tight_images, Setting::Plain, store::TIGHT)?;
     let mut survivors = 0;
-    for ((_, name, what), (usual, tight)) in mistakes::ALL.iter().zip(usual.iter().zip(&tight)) {
-        let line = match (usual.first, tight.first) {
-            (Some(first), _) => format!("{:>5} images, the first {:>4}", usual.count, first),
-            (None, Some(first)) => format!("{:>5} tight images, the first {}", tight.count, first),
-            (None, None) => {
+    for (at, (_, name, what)) in mistakes::ALL.iter().enumerate() {
+        let line = match (usual[at].first, strict[at].first, tight[at].first) {
+            (Some(first), _, _) => format!("{:>5} images, the first {:>4}", usual[at].count, first),
+            (None, Some(first), _) => format!("{:>5} strict images, the first {}", strict[at].count, first),
+            (None, None, Some(first)) => format!("{:>5} tight images, the first {}", tight[at].count, first),
+            (None, None, None) => {
                 survivors += 1;
                 "  SURVIVES".to_string()
             }

@@ -1,7 +1,7 @@
 //! Plausible mistakes, each a switch in the reference walk, and the suite that shows that a list of images
 //! tells every one of them from the truth.
 
-use crate::answer::Rooms;
+use crate::answer::{Rooms, Setting};
 use crate::judge;
 use crate::reference;
 
@@ -39,10 +39,11 @@ pub struct Told {
 
 /// For each mistake, which of the images tell it from T's answers (document 01's, where T cannot hold the
 /// types). The reference without a mistake must get them all right.
-pub fn suite(images: &[Vec<u8>], rooms: Rooms) -> Result<Vec<Told>, String> {
-    let truth: Vec<Vec<u8>> = images.iter().map(|image| judge::judge(image, rooms).answer.line()).collect();
+pub fn suite(images: &[Vec<u8>], setting: Setting, rooms: Rooms) -> Result<Vec<Told>, String> {
+    let truth: Vec<Vec<u8>> = images.iter().map(|image| judge::judge(image, setting, rooms).answer.line()).collect();
     let wrong = |mind: Mind| {
-        let differs = |(image, line): (&Vec<u8>, &Vec<u8>)| reference::judge(image, rooms, mind).answer.line() != *line;
+        let differs =
+            |(image, line): (&Vec<u8>, &Vec<u8>)| reference::judge(image, setting, rooms, mind).answer.line() != *line;
         let all: Vec<usize> =
             images.iter().zip(&truth).enumerate().filter(|(_, pair)| differs(*pair)).map(|(i, _)| i).collect();
         Told { count: all.len(), first: all.first().copied() }
@@ -162,6 +163,22 @@ mistakes! {
     MergeLastWins "merge-last-wins" "the last branch's type is taken, without 23";
     MergeAtIf "merge-at-if" "23 is told at the If";
     MergeAtLast "merge-at-last" "23 is told at the last condition";
+
+    // ---- strict: what only it shows
+    ThenDropped "then-dropped" "strict drops the errors of an If's first body";
+    ElifDropped "elif-dropped" "strict drops the errors of an elif body";
+    ElseDropped "else-dropped" "strict drops the errors of an else body";
+    WhileDropped "while-dropped" "strict drops the errors of a While body";
+    LastErrorTold "last-error-told" "strict returns a body's last error";
+    BodyWalkedOn "body-walked-on" "strict walks a body to its end before it returns the first error";
+    ConditionsFirst "conditions-first" "strict checks the later conditions before it returns a body's error";
+    LastBranchTold "last-branch-told" "strict walks every branch and returns the last one's error";
+    MergeFirst "merge-first" "strict merges before it returns a body's error";
+    IfClearsFlag "if-clears-flag" "break in an If is refused, in a loop too";
+    IfSetsFlag "if-sets-flag" "break in an If is allowed outside loops";
+    ElifClearsFlag "elif-clears-flag" "break in an elif body is refused, in a loop too";
+    ElseClearsFlag "else-clears-flag" "break in an else body is refused, in a loop too";
+    WhileHandsItsFlag "while-hands-its-flag" "a While hands on the flag that it has";
 
     // ---- return
     ModuleReturnKept "module-return-kept" "the module has one return type";

@@ -1,5 +1,5 @@
-//! T's `crate::semantic`: stand-ins for what T takes from it, T itself in three forms, and the hooks that
-//! the two edited forms call.
+//! T's `crate::semantic`: stand-ins for what T takes from it, T itself in three forms, each also with its dropped
+//! results handed on (strict), and the hooks that the edited forms call.
 
 use crate::types::Span;
 use std::cell::Cell;
@@ -34,6 +34,22 @@ pub mod framed {
 #[allow(dead_code, clippy::all)]
 pub mod sorted {
     include!(concat!(env!("OUT_DIR"), "/sorted.rs"));
+}
+
+/// The three in strict: the results that T drops are handed on.
+#[allow(dead_code, clippy::all)]
+pub mod strict_as_is {
+    include!(concat!(env!("OUT_DIR"), "/strict_as_is.rs"));
+}
+
+#[allow(dead_code, clippy::all)]
+pub mod strict_framed {
+    include!(concat!(env!("OUT_DIR"), "/strict_framed.rs"));
+}
+
+#[allow(dead_code, clippy::all)]
+pub mod strict_sorted {
+    include!(concat!(env!("OUT_DIR"), "/strict_sorted.rs"));
 }
 
 /// T's `Ty`, readable from outside.

@@ -1,6 +1,6 @@
 //! The stored list: images that cover every code, place rule and quirk, and T's answers.
 
-use crate::answer::Rooms;
+use crate::answer::{Rooms, Setting};
 use crate::batch;
 use crate::generate::{self, calls, damage, limits};
 use crate::image::kind::*;
@@ -68,6 +68,9 @@ pub fn stored_list(seed: u64) -> List {
             }
             number += 1;
         }
+    }
+    for (title, text) in generate::strict() {
+        list.push((format!("strict: {}", title), generate::quirk(text).image()));
     }
     let mut seen: HashSet<Vec<u8>> = HashSet::new();
     list.retain(|(_, image)| seen.insert(image.clone()));
@@ -364,7 +367,8 @@ pub fn tight_list() -> List {
     texts.into_iter().map(|text| (text.clone(), source::parse(&text).expect("it is a program").image())).collect()
 }
 
-/// Writes the two lists, T's answers to them and notes of what each image is about and who judged it.
+/// Writes the two lists, T's answers to them, plain and for the first strict too, and notes of what each image is about and who
+/// judged it.
 pub fn write(seed: u64, folder: &Path) -> Result<String, String> {
     let mut report = String::new();
     for (name, list, rooms) in [("", stored_list(seed), Rooms::default()), ("tight-", tight_list(), TIGHT)].iter() {
@@ -374,7 +378,7 @@ pub fn write(seed: u64, folder: &Path) -> Result<String, String> {
         let mut too_large = 0;
         let mut codes: std::collections::BTreeMap<u32, usize> = std::collections::BTreeMap::new();
         for (number, (what, image)) in list.iter().enumerate() {
-            let judged = judge::judge(image, *rooms);
+            let judged = judge::judge(image, Setting::Plain, *rooms);
             batch::write(&mut images, image).map_err(|e| e.to_string())?;
             answers.extend(judged.answer.line());
             answers.push(b'\n');
@@ -404,5 +408,23 @@ pub fn write(seed: u64, folder: &Path) -> Result<String, String> {
             codes.iter().map(|(code, count)| format!("{}:{}", code, count)).collect::<Vec<String>>().join(" ")
         ));
     }
+    report.push_str(&write_strict(seed, folder)?);
     Ok(report)
+}
+
+/// The strict answers to the first list.
+fn write_strict(seed: u64, folder: &Path) -> Result<String, String> {
+    let mut answers: Vec<u8> = Vec::new();
+    let mut differ = 0;
+    for (_, image) in stored_list(seed) {
+        let line = judge::judge(&image, Setting::Strict, Rooms::default()).answer.line();
+        if line != judge::judge(&image, Setting::Plain, Rooms::default()).answer.line() {
+            differ += 1;
+        }
+        answers.extend(line);
+        answers.push(b'\n');
+    }
+    let path = folder.join("strict-answers.txt");
+    fs::write(&path, &answers).map_err(|e| format!("{}: {}", path.display(), e))?;
+    Ok(format!("strict-answers.txt: {} bytes; {} answers differ from plain's\n", answers.len(), differ))
 }

@@ -1,5 +1,5 @@
--- Demand 3, of two runs of `check`: "Two sheets are equal exactly when both modules end with the same names in the module frame with the
--- same types."
+-- Demand 3, of two runs of `check`, each under either setting: "Two sheets are equal exactly when both modules end with the same names in
+-- the module frame with the same types."
 use mathlib.Core.Path.{_≡_, refl, sym, ap, _∙_, subst}
 use mathlib.Core.Bool.{Bool, true, false}
 use mathlib.Core.Logic.{_↔_}
@@ -7,6 +7,7 @@ use mathlib.Core.Option.{Option, none, some}
 use mathlib.Core.List.{List, [], _∷_, _++_, List·Memᴰ}
 use Prim.Native.Nat.{ℕ, _≤_, _<_}
 use native.Mathlib.Omega.{arith}
+use native.Mathlib.Decide.{ℕ-discrete}
 use lib.Dec.{leb}
 use lib.ListN.{length, take, drop}
 use lib.Seq.{take-append-seam}
@@ -15,11 +16,13 @@ use Rattle.meaning.specs.Types.{Ty}
 use Rattle.meaning.specs.Image.{Fault, Name, Node, imageFault, namesOf, nodesOf}
 use Rattle.meaning.specs.Decode.{treeOf}
 use Rattle.meaning.specs.Frames.{Frame, Frames, newest}
-use Rattle.meaning.specs.Walk.{State, End, done, wrong, tooDeep, program, start}
+use Rattle.meaning.specs.Walk.{plain, State, End, done, wrong, tooDeep, program, start}
 use Rattle.meaning.specs.Sheet.{Entry, entries, sheetOf}
 use Rattle.meaning.specs.Read.{entriesIn}
-use Rattle.meaning.specs.Answer.{Answer as Meant, bare, written, ended, walked, answer, overlaid}
+use Rattle.meaning.specs.Answer.{Answer as Meant, bare, written, ended, walked, answerUnder, answer, overlaid}
 use Rattle.meaning.proofs.Faults.{Sound, sound, fault-told}
+use Rattle.meaning.proofs.Answers.{plain-is, no-setting}
+use Rattle.meaning.proofs.Strict.{plain-accepts}
 use Rattle.meaning.proofs.Kept.{accepted-one-frame, refused-typing}
 use Rattle.meaning.proofs.SheetForm.{short-trip, short-injective}
 use Rattle.meaning.proofs.SheetNames.{texts-stand}
@@ -37,6 +40,8 @@ moduleOf image = entries (namesOf image) (moduleFrame image)
 
 pub record Concluded (image : List ℕ) (a : Meant) : Type 0 where
   pub sound : Sound image
+  pub ends : State
+  pub well : walked plain image ≡ done ends
   pub sheet : a .sheet ≡ sheetOf (moduleOf image)
 
 only-frame : (fs : Frames) → length fs ≡ 1 → newest fs ≡ lowest [] fs
@@ -56,40 +61,56 @@ written-sheet room bs e = by (leb (length bs) room) e
 
 module _ (image : List ℕ) (room told : ℕ) where
   -- the module frame of a program that ended well is its only frame
-  one-frame : (s : State) → walked image ≡ done s → newest (s .frames) ≡ moduleFrame image
+  pub one-frame : (s : State) → walked plain image ≡ done s → newest (s .frames) ≡ moduleFrame image
   unfolding walked moduleFrame framesAt
-  one-frame s e = only-frame (s .frames) (accepted-one-frame (namesOf image) (treeOf (nodesOf image)) s e) ∙ ap (λ (x : End). lowest [] (framesAt x)) (sym e)
+  one-frame s e =
+      only-frame (s .frames) (accepted-one-frame (namesOf image) plain (treeOf (nodesOf image)) s e) ∙ ap (λ (x : End). lowest [] (framesAt x)) (sym e)
 
-  by-end : (e : End) → walked image ≡ e → ended (namesOf image) (nodesOf image) room told e .code ≡ 0
-      → ended (namesOf image) (nodesOf image) room told e .sheet ≡ sheetOf (moduleOf image)
+  by-end : (e : End) → walked plain image ≡ e → ended (namesOf image) (nodesOf image) room told e .code ≡ 0
+      → (s : State) × ((walked plain image ≡ done s) × (ended (namesOf image) (nodesOf image) room told e .sheet ≡ sheetOf (moduleOf image)))
   unfolding ended walked
-  by-end (done s) e c = written-sheet room _ c ∙ ap (λ (f : Frame). sheetOf (entries (namesOf image) f)) (one-frame s e)
-  by-end (wrong r s) e c = absurd (omega (arith, refused-typing (namesOf image) (treeOf (nodesOf image)) r s e .above))
+  by-end (done s) e c = (s, (e, written-sheet room _ c ∙ ap (λ (f : Frame). sheetOf (entries (namesOf image) f)) (one-frame s e)))
+  by-end (wrong r s) e c = absurd (omega (arith, refused-typing (namesOf image) plain (treeOf (nodesOf image)) r s e .above))
   by-end (tooDeep n) e c = absurd (omega arith)
 
-  by-fault : (o : Option Fault) → imageFault image ≡ o → answer image room told .code ≡ 0 → Concluded image (answer image room told)
-  by-fault (some f) e c = absurd (omega (arith, fault-told image f e .above, ap (λ (a : Meant). a .code) (answer-fault image f room told e)))
+  by-fault : (o : Option Fault) → imageFault image ≡ o → answerUnder plain image room told .code ≡ 0 → Concluded image (answerUnder plain image room told)
+  by-fault (some f) e c = absurd (omega (arith, fault-told image f e .above, ap (λ (a : Meant). a .code) (answer-fault plain image f room told e)))
   by-fault none e c =
       let s = sound image .0 e in
-      let a = answer-sound image room told s in
-      record { sound = s; sheet = ap (λ (x : Meant). x .sheet) a ∙ by-end (walked image) refl (ap (λ (x : Meant). x .code) (sym a) ∙ c) }
+      let a = answer-sound plain image room told s in
+      let w = by-end (walked plain image) refl (ap (λ (x : Meant). x .code) (sym a) ∙ c) in
+      record { sound = s; ends = w .0; well = w .1 .0; sheet = ap (λ (x : Meant). x .sheet) a ∙ w .1 .1 }
 
-  pub accepted : answer image room told .code ≡ 0 → Concluded image (answer image room told)
-  accepted c = by-fault (imageFault image) refl c
+  -- what is accepted under any setting, plain accepts alike
+  as-plain : (n : ℕ) → answer n image room told .code ≡ 0 → answerUnder plain image room told ≡ answer n image room told
+  as-plain n c = elim (ℕ-discrete n 0) [
+    | yes e ↦ sym (plain-is image room told) ∙ ap (λ k. answer k image room told) (sym e)
+    | no z ↦ elim (ℕ-discrete n 1) [
+      | yes e ↦
+          let one : answer n image room told ≡ answer 1 image room told = ap (λ k. answer k image room told) e in
+          sym (plain-is image room told) ∙ plain-accepts image room told (ap (λ (x : Meant). x .code) (sym one) ∙ c) ∙ sym one
+      | no o ↦ absurd (omega (arith, ap (λ (x : Meant). x .code) (no-setting image room told n (omega (arith, z, o))), c))
+    ]
+  ]
+
+  pub accepted : (n : ℕ) → answer n image room told .code ≡ 0 → Concluded image (answer n image room told)
+  accepted n c =
+      let e = as-plain n c in
+      subst (Concluded image) e (by-fault (imageFault image) refl (ap (λ (x : Meant). x .code) e ∙ c))
 
 -- ---- one run
 
-module _ (image : List ℕ) (room told : ℕ) {r : Answer} {old new oldMessage newMessage : List ℕ}
-    (x : Answers (answer image room told) r old new oldMessage newMessage) where
-  pub sheet-there : sheetIn r new ≡ answer image room told .sheet
+module _ (setting : ℕ) (image : List ℕ) (room told : ℕ) {r : Answer} {old new oldMessage newMessage : List ℕ}
+    (x : Answers (answer setting image room told) r old new oldMessage newMessage) where
+  pub sheet-there : sheetIn r new ≡ answer setting image room told .sheet
   unfolding overlaid
   sheet-there =
-      let n : numbersOf r .sheet ≡ length (answer image room told .sheet) = ap (λ n. n .sheet) (x .numbers) in
-      rw (n, x .sheet) (take-append-seam (answer image room told .sheet) (drop (length (answer image room told .sheet)) old))
+      let n : numbersOf r .sheet ≡ length (answer setting image room told .sheet) = ap (λ n. n .sheet) (x .numbers) in
+      rw (n, x .sheet) (take-append-seam (answer setting image room told .sheet) (drop (length (answer setting image room told .sheet)) old))
 
   module _ (c : numbersOf r .code ≡ 0) where
-    own : Concluded image (answer image room told)
-    own = accepted image room told (sym (ap (λ n. n .code) (x .numbers)) ∙ c)
+    pub own : Concluded image (answer setting image room told)
+    own = accepted image room told setting (sym (ap (λ n. n .code) (x .numbers)) ∙ c)
 
     -- the sheet is that of the module frame
     pub sheet-of-module : sheetIn r new ≡ sheetOf (moduleOf image)
@@ -122,19 +143,19 @@ list-same {a} {b} e =
 
 -- ---- two runs
 
-module _ (a b : List ℕ) (room told room₂ told₂ : ℕ) {r q : Answer} {s s₁ m m₁ t t₁ n n₁ : List ℕ}
-    (x : Answers (answer a room told) r s s₁ m m₁) (y : Answers (answer b room₂ told₂) q t t₁ n n₁)
+module _ (setting setting₂ : ℕ) (a b : List ℕ) (room told room₂ told₂ : ℕ) {r q : Answer} {s s₁ m m₁ t t₁ n n₁ : List ℕ}
+    (x : Answers (answer setting a room told) r s s₁ m m₁) (y : Answers (answer setting₂ b room₂ told₂) q t t₁ n n₁)
     (c : numbersOf r .code ≡ 0) (d : numbersOf q .code ≡ 0) where
   pub same-sheet-same-list : (sheetIn r s₁ ≡ sheetIn q t₁) ↔ (moduleOf a ≡ moduleOf b)
   same-sheet-same-list =
-      let i = short-injective (moduleOf a) (moduleOf b) (module-short a room told x c) (module-short b room₂ told₂ y d) in
-      let u = sheet-of-module a room told x c in
-      let v = sheet-of-module b room₂ told₂ y d in
+      let i = short-injective (moduleOf a) (moduleOf b) (module-short setting a room told x c) (module-short setting₂ b room₂ told₂ y d) in
+      let u = sheet-of-module setting a room told x c in
+      let v = sheet-of-module setting₂ b room₂ told₂ y d in
       (λ e. i .0 (sym u ∙ e ∙ v), λ e. u ∙ i .1 e ∙ sym v)
 
   -- "Two sheets are equal exactly when both modules end with the same names in the module frame with the same types."
   pub same-sheet-same-module : (sheetIn r s₁ ≡ sheetIn q t₁) ↔ SameModule a b
   same-sheet-same-module = (
     λ e. list-same (same-sheet-same-list .0 e),
-    λ e. same-sheet-same-list .1 (same-list (own a room told x c .sound) (own b room₂ told₂ y d .sound) e),
+    λ e. same-sheet-same-list .1 (same-list (own setting a room told x c .sound) (own setting₂ b room₂ told₂ y d .sound) e),
   )

@@ -16,8 +16,8 @@ use Rattle.meaning.specs.Message.{message, refusal}
 use Rattle.meaning.specs.Frames.{newest}
 use Rattle.meaning.specs.Sheet.{Entry, entries, sheetOf}
 use Rattle.meaning.specs.Decode.{treeOf}
-use Rattle.meaning.specs.Walk.{State, state, done, wrong, tooDeep}
-use Rattle.meaning.specs.Answer.{Answer, bare, written, fitting, walked, answer, overlaid}
+use Rattle.meaning.specs.Walk.{Setting, State, state, done, wrong, tooDeep}
+use Rattle.meaning.specs.Answer.{Answer, bare, written, fitting, walked, answerUnder, overlaid}
 use Rattle.meaning.specs.Answer.{ended as concluded}
 use Rattle.meaning.proofs.Faults.{Sound, sound}
 use Rattle.meaning.proofs.Answers.{overlaid-none}
@@ -38,13 +38,13 @@ use Rattle.checker.specs.declared.Answer.the-variants.{Accepted, NinthFr
 
 -- ---- the answer, by what the image is
 
-pub answer-fault : (bs : List ℕ) (f : Fault) (s m : ℕ) → imageFault bs ≡ some f → answer bs s m ≡ bare (f .code) (f .place)
-unfolding answer ifSome
-answer-fault bs f s m e = rw e
+pub answer-fault : (setting : Setting) (bs : List ℕ) (f : Fault) (s m : ℕ) → imageFault bs ≡ some f → answerUnder setting bs s m ≡ bare (f .code) (f .place)
+unfolding answerUnder ifSome
+answer-fault setting bs f s m e = rw e
 
-pub answer-sound : (bs : List ℕ) (s m : ℕ) → Sound bs → answer bs s m ≡ concluded (namesOf bs) (nodesOf bs) s m (walked bs)
-unfolding answer ifSome
-answer-sound bs s m h = rw (sound bs .1 h)
+pub answer-sound : (setting : Setting) (bs : List ℕ) (s m : ℕ) → Sound bs → answerUnder setting bs s m ≡ concluded (namesOf bs) (nodesOf bs) s m (walked setting bs)
+unfolding answerUnder ifSome
+answer-sound setting bs s m h = rw (sound bs .1 h)
 
 -- ---- an accepted program
 
@@ -105,25 +105,25 @@ module _ {bs : List ℕ} {nodes : ℕ} {t : Tab} {code place a b : ℕ} (r : Ref
 
 -- ---- the whole
 
-module _ {bs : List ℕ} {t u : Tab} {gs : Rows} {top : ℕ} {su : List ℕ} {code place a b : ℕ} (s : Sound bs) (r : Ran bs t u gs top su code place a b) where
-  pub ran-well : code ≡ 0 → (x y : ℕ) → answer bs x y ≡ written x (sheetOf (entries (namesOf bs) (newest (framesOf u gs top))))
+module _ {bs : List ℕ} {setting : Setting} {t u : Tab} {gs : Rows} {top : ℕ} {su : List ℕ} {code place a b : ℕ} (s : Sound bs) (r : Ran bs setting t u gs top su code place a b) where
+  pub ran-well : code ≡ 0 → (x y : ℕ) → answerUnder setting bs x y ≡ written x (sheetOf (entries (namesOf bs) (newest (framesOf u gs top))))
   unfolding concluded ended if_then_else_
-  ran-well z x y = answer-sound bs x y s ∙ rw (r .says, eq-eqb code 0 z)
+  ran-well z x y = answer-sound setting bs x y s ∙ rw (r .says, eq-eqb code 0 z)
 
-  pub ran-deep : (code ≡ 0 → ⊥) → code ≡ 9 → (x y : ℕ) → answer bs x y ≡ bare 9 place
+  pub ran-deep : (code ≡ 0 → ⊥) → code ≡ 9 → (x y : ℕ) → answerUnder setting bs x y ≡ bare 9 place
   unfolding concluded ended if_then_else_
-  ran-deep z n x y = answer-sound bs x y s ∙ rw (r .says, ne-eqb code 0 z, eq-eqb code 9 n)
+  ran-deep z n x y = answer-sound setting bs x y s ∙ rw (r .says, ne-eqb code 0 z, eq-eqb code 9 n)
 
   module _ (z : code ≡ 0 → ⊥) (n : code ≡ 9 → ⊥) where
-    wrong-is : walked bs ≡ wrong (refusal code place (pieces (namesOf bs) u code a b)) (state (framesOf u gs top) (r .returns))
+    wrong-is : walked setting bs ≡ wrong (refusal code place (pieces (namesOf bs) u code a b)) (state (framesOf u gs top) (r .returns))
     unfolding ended if_then_else_
     wrong-is = r .says ∙ rw (ne-eqb code 0 z, ne-eqb code 9 n)
 
     -- a refusal of the walk has a typing code
     pub ran-typing : 20 ≤ code
     unfolding walked
-    ran-typing = refused-typing (namesOf bs) (treeOf (nodesOf bs)) _ _ wrong-is .above
+    ran-typing = refused-typing (namesOf bs) setting (treeOf (nodesOf bs)) _ _ wrong-is .above
 
-    pub ran-ill : (x y : ℕ) → answer bs x y ≡ refusedAs bs u code place a b y
+    pub ran-ill : (x y : ℕ) → answerUnder setting bs x y ≡ refusedAs bs u code place a b y
     unfolding concluded refusedAs
-    ran-ill x y = answer-sound bs x y s ∙ rw wrong-is
+    ran-ill x y = answer-sound setting bs x y s ∙ rw wrong-is

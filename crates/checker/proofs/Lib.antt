@@ -5,4 +5,5 @@ pub mod Ends
 pub mod Outcomes
 pub mod Sheets
 pub mod Demand
+pub mod Settings
 pub mod Starred

@@ -12,17 +12,18 @@ use Rattle.meaning.specs.Base.{choose, if_then_else_}
 use Rattle.meaning.specs.Image.{Fault, imageFault, nodeCount, nodesFrom, namesOf}
 use Rattle.meaning.specs.Frames.{newest}
 use Rattle.meaning.specs.Sheet.{entries, sheetOf}
-use Rattle.meaning.specs.Answer.{Answer as Meant, bare, written, answer, overlaid}
+use Rattle.meaning.specs.Walk.{Setting}
+use Rattle.meaning.specs.Answer.{Answer as Meant, bare, written, answerUnder, answer, overlaid}
 use Rattle.meaning.proofs.Faults.{Sound, sizes}
-use Rattle.meaning.proofs.Answers.{overlaid-none}
+use Rattle.meaning.proofs.Answers.{overlaid-none, plain-is, strict-is, no-setting}
 use Rattle.types.specs.Table.{Tab, Wf}
 use Rattle.frames.specs.Env.{Rows, framesOf}
-use Rattle.stmt.specs.Contract.{Ran}
+use Rattle.stmt.specs.Contract.{settingIf, Ran}
 use Rattle.checker.specs.Answers.{Answers, Wrote, Told, Numbers, bareNumbers, numbersOf, numbersIn, Stands, Replies}
 use Rattle.checker.specs.Steps.{Accepting, Refusing, refusedAs}
 use Rattle.checker.specs.declared.Refusal.{Refusal}
 use Rattle.checker.specs.declared.Answer.{Answer}
-use Rattle.checker.specs.declared.Answer.the-variants.{Accepted, BadHead, BadCount, BadOffset, BadName, UnsafeName, BadNode, BadNesting, TooDeep, NinthFrame, ShortBuffer, Typing}
+use Rattle.checker.specs.declared.Answer.the-variants.{Accepted, BadHead, BadCount, BadOffset, BadName, UnsafeName, BadNode, BadNesting, TooDeep, NinthFrame, ShortBuffer, NoSetting, Typing}
 use Rattle.checker.proofs.Places.{fault-near}
 use Rattle.checker.proofs.Short.{sheet-short, written-short}
 use Rattle.checker.proofs.Ends.{newest-row, answer-fault, ran-well, ran-deep, ran-ill, ran-typing}
@@ -47,17 +48,17 @@ no-place room bs = by (leb (length bs) room)
     by true = refl
     by false = refl
 
-pub answers-fault : (bs : List ℕ) (x y : ℕ) {f : Fault} {q : Answer} {s m : List ℕ} → imageFault bs ≡ some f → numbersOf q ≡ bareNumbers (f .code) (f .place)
-    → Stands q → Answers (answer bs x y) q s s m m
-answers-fault bs x y {f} {q} {s} {m} e n t =
-    rw (answer-fault bs f x y e) record { numbers = n; stands = t; near = fault-near bs f e; short = omega arith; sheet = kept s; message = kept m }
+pub answers-fault : (setting : Setting) (bs : List ℕ) (x y : ℕ) {f : Fault} {q : Answer} {s m : List ℕ} → imageFault bs ≡ some f → numbersOf q ≡ bareNumbers (f .code) (f .place)
+    → Stands q → Answers (answerUnder setting bs x y) q s s m m
+answers-fault setting bs x y {f} {q} {s} {m} e n t =
+    rw (answer-fault setting bs f x y e) record { numbers = n; stands = t; near = fault-near bs f e; short = omega arith; sheet = kept s; message = kept m }
 
-module _ {bs : List ℕ} {t u : Tab} {gs : Rows} {top : ℕ} {su : List ℕ} {code place a b : ℕ} (h : Sound bs) (r : Ran bs t u gs top su code place a b) where
+module _ {bs : List ℕ} {setting : Setting} {t u : Tab} {gs : Rows} {top : ℕ} {su : List ℕ} {code place a b : ℕ} (h : Sound bs) (r : Ran bs setting t u gs top su code place a b) where
   pub ran-accepting : code ≡ 0 → Accepting bs u gs top
   ran-accepting z = let l = r .left (λ n. absurd (omega arith)) in record { sound = h; wf = l .grown .wf; fit = l .fit }
 
   pub answers-accepted : {q : Answer} {old new m : List ℕ} → code ≡ 0
-      → Wrote (written (length old) (sheetOf (entries (namesOf bs) (newest (framesOf u gs top))))) q old new → Answers (answer bs (length old) (length m)) q old new m m
+      → Wrote (written (length old) (sheetOf (entries (namesOf bs) (newest (framesOf u gs top))))) q old new → Answers (answerUnder setting bs (length old) (length m)) q old new m m
   answers-accepted {q} {old} {new} {m} z w =
       rw (ran-well h r z (length old) (length m)) record {
         numbers = w .numbers;
@@ -68,7 +69,7 @@ module _ {bs : List ℕ} {t u : Tab} {gs : Rows} {top : ℕ} {su : List ℕ} {co
         message = rw (no-message (length old) (sheetOf (entries (namesOf bs) (newest (framesOf u gs top))))) (kept m);
       }
 
-  pub answers-deep : (x y : ℕ) {s m : List ℕ} → (code ≡ 0 → ⊥) → code ≡ 9 → Answers (answer bs x y) (NinthFrame place) s s m m
+  pub answers-deep : (x y : ℕ) {s m : List ℕ} → (code ≡ 0 → ⊥) → code ≡ 9 → Answers (answerUnder setting bs x y) (NinthFrame place) s s m m
   answers-deep x y {s} {m} z n = rw (ran-deep h r z n x y) record { numbers = refl; stands = tt; near = omega (arith, r .placed n, sizes (h .headed) .nodes); short = omega arith; sheet = kept s; message = kept m }
 
   pub ran-refusing : {nodes : ℕ} → nodes ≡ nodesFrom bs → (code ≡ 0 → ⊥) → (code ≡ 9 → ⊥) → Refusing bs nodes u code place a b
@@ -81,7 +82,7 @@ module _ {bs : List ℕ} {t u : Tab} {gs : Rows} {top : ℕ} {su : List ℕ} {co
   }
 
   pub answers-refused : (x : ℕ) {q : Answer} {s old new : List ℕ} → (code ≡ 0 → ⊥) → (code ≡ 9 → ⊥) → Told (refusedAs bs u code place a b (length old)) q old new
-      → Answers (answer bs x (length old)) q s s old new
+      → Answers (answerUnder setting bs x (length old)) q s s old new
   unfolding refusedAs
   answers-refused x {q} {s} {old} {new} z n w =
       rw (ran-ill h r z n x (length old)) record {
@@ -93,6 +94,23 @@ module _ {bs : List ℕ} {t u : Tab} {gs : Rows} {top : ℕ} {su : List ℕ} {co
         message = w .message;
       }
 
+-- ---- the setting, by its number
+
+module _ {n : ℕ} (bs : List ℕ) (x y : ℕ) {q : Answer} {s s₁ m m₁ : List ℕ} where
+  pub answers-plain : n ≡ 0 → Answers (answerUnder (settingIf true) bs x y) q s s₁ m m₁ → Answers (answer n bs x y) q s s₁ m m₁
+  unfolding if_then_else_
+  answers-plain e a = rw (e, plain-is bs x y) a
+
+  pub answers-strict : n ≡ 1 → Answers (answerUnder (settingIf false) bs x y) q s s₁ m m₁ → Answers (answer n bs x y) q s s₁ m m₁
+  unfolding if_then_else_
+  answers-strict e a = rw (e, strict-is bs x y) a
+
+-- "before code 1": whatever the image
+pub answers-none : (n : ℕ) (bs : List ℕ) (x y : ℕ) {s m : List ℕ} → (n ≡ 0 → ⊥) → (n ≡ 1 → ⊥) → Answers (answer n bs x y) NoSetting s s m m
+answers-none n bs x y {s} {m} p q =
+    rw (no-setting bs x y n (omega (arith, p, q)))
+    record { numbers = refl; stands = tt; near = omega arith; short = omega arith; sheet = kept s; message = kept m }
+
 -- ---- no second outcome fits
 
 -- the answer that has these numbers
@@ -101,9 +119,9 @@ answerFrom n =
     choose (n .code)
     (Typing (record { code = n .code; place = n .place; begins = n .spanStart; ends = n .spanEnd; message = n .message }))
     ((0, Accepted (n .sheet)) ∷ (1, BadHead) ∷ (2, BadCount) ∷ (3, BadOffset) ∷ (4, BadName (n .place)) ∷ (5, UnsafeName (n .place)) ∷ (6, BadNode (n .place))
-    ∷ (7, BadNesting (n .place)) ∷ (8, TooDeep (n .place)) ∷ (9, NinthFrame (n .place)) ∷ (10, ShortBuffer) ∷ [])
+    ∷ (7, BadNesting (n .place)) ∷ (8, TooDeep (n .place)) ∷ (9, NinthFrame (n .place)) ∷ (10, ShortBuffer) ∷ (13, NoSetting) ∷ [])
 
-not-below : (c k : ℕ) → 20 ≤ c → k ≤ 10 → eqb c k ≡ false
+not-below : (c k : ℕ) → 20 ≤ c → k ≤ 13 → eqb c k ≡ false
 not-below c k h l = ne-eqb c k (λ e. absurd (omega arith))
 
 answer-back : (r : Answer) → Stands r → answerFrom (numbersOf r) ≡ r
@@ -119,8 +137,9 @@ answer-back (BadNesting i) s = refl
 answer-back (TooDeep i) s = refl
 answer-back (NinthFrame i) s = refl
 answer-back ShortBuffer s = refl
+answer-back NoSetting s = refl
 answer-back (Typing q) s =
-    let n : (k : ℕ) → k ≤ 10 → eqb (q .code) k ≡ false = λ k l. not-below (q .code) k s l in
+    let n : (k : ℕ) → k ≤ 13 → eqb (q .code) k ≡ false = λ k l. not-below (q .code) k s l in
     rw (
       n 0 (omega arith),
       n 1 (omega arith),
@@ -133,6 +152,7 @@ answer-back (Typing q) s =
       n 8 (omega arith),
       n 9 (omega arith),
       n 10 (omega arith),
+      n 13 (omega arith),
     )
 
 -- two outcomes that both meet the promise are equal, answer and bytes

@@ -19,14 +19,14 @@ each f g [] e x m = absurd (List·Memᴰ·not-nil m)
 each f g (y ∷ xs) e x m =
     ⊎-elim (λ p. rw p (head-eq-of-cons-eq e)) (λ r. each f g xs (tail-eq-of-cons-eq e) x r) (List·Memᴰ·cases-cons m)
 
--- whatever `check` leaves of a run's image, with the buffers of `typecheck`, is what the table tells: its numbers, and every byte
+-- whatever `check` leaves of a run's image in plain, with the buffers of `typecheck`, is what the table tells: its numbers, and every byte
 pub record Ends (run : Run) : Type 0 where
-  pub leaves : {r : Answer} {s s₁ m m₁ : List ℕ} → Answers (answer (run .0) sheetBuffer messageBuffer) r s s₁ m m₁ → Answers (run .1) r s s₁ m m₁
+  pub leaves : {r : Answer} {s s₁ m m₁ : List ℕ} → Answers (answer 0 (run .0) sheetBuffer messageBuffer) r s s₁ m m₁ → Answers (run .1) r s s₁ m m₁
 
-module _ (table : List Run) (e : map (λ r. answer (r .0) sheetBuffer messageBuffer) table ≡ map (λ r. r .1) table) where
+module _ (table : List Run) (e : map (λ r. answer 0 (r .0) sheetBuffer messageBuffer) table ≡ map (λ r. r .1) table) where
   all-end : (run : Run) → List·Memᴰ run table → Ends run
   all-end run i =
-      record { leaves = λ {r} {s} {s₁} {m} {m₁} x. subst (λ (a : Meant). Answers a r s s₁ m m₁) (each (λ r. answer (r .0) sheetBuffer messageBuffer) (λ r. r .1) table e run i) x }
+      record { leaves = λ {r} {s} {s₁} {m} {m₁} x. subst (λ (a : Meant). Answers a r s s₁ m m₁) (each (λ r. answer 0 (r .0) sheetBuffer messageBuffer) (λ r. r .1) table e run i) x }
 
 -- "Runs with known ends (starred: proved, as one table)"
 pub starred-end : (run : Run) → List·Memᴰ run runs → Ends run
@@ -37,7 +37,7 @@ pub others-end : (run : Run) → List·Memᴰ run also → Ends run
 others-end = all-end also also-end
 
 -- Run 2, `x = 1`, read off the table: accepted, 53 bytes.
-pub second-end : {r : Answer} {s s₁ m m₁ : List ℕ} → Answers (answer (getD runs 1 ([], noNames) .0) sheetBuffer messageBuffer) r s s₁ m m₁
+pub second-end : {r : Answer} {s s₁ m m₁ : List ℕ} → Answers (answer 0 (getD runs 1 ([], noNames) .0) sheetBuffer messageBuffer) r s s₁ m m₁
     → (numbersOf r .code ≡ 0) × (numbersOf r .sheet ≡ 53)
 unfolding bytes words
 second-end x =

@@ -14,7 +14,7 @@ use Rattle.checker.specs.declared.Reading.the-variants.{Sheet, NoSheet}
 use Rattle.checker.specs.declared.Rewriting.{Rewriting}
 use Rattle.checker.specs.declared.Rewriting.the-variants.{Written, NoRoom, NotRead}
 use Rattle.checker.specs.declared.Answer.{Answer}
-use Rattle.checker.specs.declared.Answer.the-variants.{Accepted, BadHead, BadCount, BadOffset, BadName, UnsafeName, BadNode, BadNesting, TooDeep, NinthFrame, ShortBuffer, Typing}
+use Rattle.checker.specs.declared.Answer.the-variants.{Accepted, BadHead, BadCount, BadOffset, BadName, UnsafeName, BadNode, BadNesting, TooDeep, NinthFrame, ShortBuffer, NoSetting, Typing}
 
 -- "Code, place, span, sheet length, message length."
 pub record Numbers : Type 0 where
@@ -41,6 +41,7 @@ numbersOf (BadNesting i) = bareNumbers 7 i
 numbersOf (TooDeep i) = bareNumbers 8 i
 numbersOf (NinthFrame i) = bareNumbers 9 i
 numbersOf ShortBuffer = bareNumbers 10 0
+numbersOf NoSetting = bareNumbers 13 0
 numbersOf (Typing r) =
     record { code = r .code; place = r .place; spanStart = r .begins; spanEnd = r .ends; sheet = 0; message = r .message }
 
@@ -57,6 +58,7 @@ Stands (BadNesting i) = Unit {0}
 Stands (TooDeep i) = Unit {0}
 Stands (NinthFrame i) = Unit {0}
 Stands ShortBuffer = Unit {0}
+Stands NoSetting = Unit {0}
 Stands (Typing r) = 20 ≤ r .code
 
 -- the numbers of an answer of `meaning`

@@ -6,7 +6,7 @@ use lib.ListN.{take}
 use Rattle.meaning.specs.Types.{Ty}
 use Rattle.meaning.specs.Image.{namesOf}
 use Rattle.meaning.specs.Frames.{Frame, Frames}
-use Rattle.meaning.specs.Walk.{End, done, wrong, tooDeep}
+use Rattle.meaning.specs.Walk.{plain, End, done, wrong, tooDeep}
 use Rattle.meaning.specs.Answer.{walked}
 use Rattle.meaning.proofs.SheetSame.{Held}
 use Rattle.checker.specs.declared.Answer.{Answer}
@@ -23,9 +23,9 @@ unfoldable pub lowest : Frame → Frames → Frame
 lowest f [] = f
 lowest f (g ∷ fs) = lowest g fs
 
--- the module's, of the program in an image
+-- the module's, of the program in an image. No setting is named: where strict accepts, plain ends in the same state (meaning/proofs/Strict)
 unfoldable pub moduleFrame : List ℕ → Frame
-moduleFrame image = lowest [] (framesAt (walked image))
+moduleFrame image = lowest [] (framesAt (walked plain image))
 
 -- that frame has a name, spelled so, with this type. Names are numbered image by image; only their spellings can be compared.
 abbrev pub ModuleHas : List ℕ → List ℕ → Ty → Type 0

@@ -5,10 +5,11 @@ ghost use lib.ListN.{length};
 ghost use Rattle.meaning.specs.Image.{namesOf};
 ghost use Rattle.meaning.specs.Frames.{newest};
 ghost use Rattle.meaning.specs.Sheet.{entries, sheetOf};
-ghost use Rattle.meaning.specs.Answer.{answer, written, readAnswer};
+ghost use Rattle.meaning.specs.Answer.{answerUnder, answer, written, readAnswer};
 ghost use Rattle.meaning.proofs.Faults.{Sound};
 ghost use Rattle.types.specs.Table.{tab};
 ghost use Rattle.frames.specs.Env.{framesOf};
+ghost use Rattle.stmt.specs.Contract.{settingIf};
 ghost use Rattle.checker.specs.Answers.{Answers, Wrote, Told, numbersOf, numbersIn, bareNumbers, readingNumbers, rewritingNumbers, rewritten, Rewrote, replyMeans, Replies, Relaid};
 ghost use Rattle.checker.specs.Steps.{Sized, Lent, Accepting, Refusing, refusedAs};
 use frames::ABSENT;
@@ -30,6 +31,11 @@ use types::FRESH;
 use types::STRUCTURED;
 use types::start;
 
+// The two settings (document 02). On a race weekend no typing error in a body of an If or a While may pass: strict returns what plain drops.
+pub const PLAIN: u32 = 0;
+
+pub const STRICT: u32 = 1;
+
 // A typing refusal: its code, 20 to 50, its node with its span, and the length of its message, 0 if that did not fit.
 pub struct Refusal {
     pub code: u32,
@@ -39,7 +45,7 @@ pub struct Refusal {
     pub message: usize,
 }
 
-// Code 0 with the sheet's length; 1 to 8, those of a name or a node with its number; 9 with the Def; 10; or a typing refusal.
+// Code 0 with the sheet's length; 1 to 8, those of a name or a node with its number; 9 with the Def; 10; 13; or a typing refusal.
 pub enum Answer {
     Accepted(usize),
     BadHead,
@@ -52,6 +58,7 @@ pub enum Answer {
     TooDeep(usize),
     NinthFrame(usize),
     ShortBuffer,
+    NoSetting,
     Typing(Refusal),
 }
 
@@ -117,15 +124,16 @@ fn walk_in(
     table: &mut [u16],
     sheet: &mut [u8],
     message: &mut [u8],
+    plain: bool,
 ) -> Answer
     requires { ⌜ Lent (now image) nodes (now table) ⌝ }
-    ensures { λ r. ⌜ Answers (answer (now (image .entry)) (length (now (sheet .entry))) (length (now (message .entry))))
+    ensures { λ r. ⌜ Answers (answerUnder (settingIf plain) (now (image .entry)) (length (now (sheet .entry))) (length (now (message .entry))))
         r (now (sheet .entry)) (now (sheet .exit)) (now (message .entry)) (now (message .exit)) ⌝ }
 {
     start(table);
     let mut frames = [[ABSENT; MOST_NAMES]; MOST_FRAMES];
     let mut stack = [FRESH; MOST_NODES];
-    let w = program(image, &mut frames, table, &mut stack);
+    let w = program(image, &mut frames, table, &mut stack, plain);
     let code = w.code;
     if code == 0 {
         return accept(image, table, w.counts, &frames, w.top, sheet);
@@ -158,57 +166,68 @@ const SOME_CELLS: usize = CELLS * (STRUCTURED + SOME);
 const MANY_CELLS: usize = CELLS * (STRUCTURED + MOST_NODES);
 
 // Each size has its own function, and so its own frame.
-fn walk_few(image: &[u8], nodes: usize, sheet: &mut [u8], message: &mut [u8]) -> Answer
+fn walk_few(image: &[u8], nodes: usize, sheet: &mut [u8], message: &mut [u8], plain: bool) -> Answer
     requires { ⌜ Sized (now image) nodes 64 ⌝ }
-    ensures { λ r. ⌜ Answers (answer (now (image .entry)) (length (now (sheet .entry))) (length (now (message .entry))))
+    ensures { λ r. ⌜ Answers (answerUnder (settingIf plain) (now (image .entry)) (length (now (sheet .entry))) (length (now (message .entry))))
         r (now (sheet .entry)) (now (sheet .exit)) (now (message .entry)) (now (message .exit)) ⌝ }
 {
     let mut table = [FRESH; FEW_CELLS];
-    walk_in(image, nodes, &mut table, sheet, message)
+    walk_in(image, nodes, &mut table, sheet, message, plain)
 }
 
-fn walk_some(image: &[u8], nodes: usize, sheet: &mut [u8], message: &mut [u8]) -> Answer
+fn walk_some(
+    image: &[u8],
+    nodes: usize,
+    sheet: &mut [u8],
+    message: &mut [u8],
+    plain: bool,
+) -> Answer
     requires { ⌜ Sized (now image) nodes 512 ⌝ }
-    ensures { λ r. ⌜ Answers (answer (now (image .entry)) (length (now (sheet .entry))) (length (now (message .entry))))
+    ensures { λ r. ⌜ Answers (answerUnder (settingIf plain) (now (image .entry)) (length (now (sheet .entry))) (length (now (message .entry))))
         r (now (sheet .entry)) (now (sheet .exit)) (now (message .entry)) (now (message .exit)) ⌝ }
 {
     let mut table = [FRESH; SOME_CELLS];
-    walk_in(image, nodes, &mut table, sheet, message)
+    walk_in(image, nodes, &mut table, sheet, message, plain)
 }
 
-fn walk_many(image: &[u8], nodes: usize, sheet: &mut [u8], message: &mut [u8]) -> Answer
+fn walk_many(
+    image: &[u8],
+    nodes: usize,
+    sheet: &mut [u8],
+    message: &mut [u8],
+    plain: bool,
+) -> Answer
     requires { ⌜ Sized (now image) nodes 2048 ⌝ }
-    ensures { λ r. ⌜ Answers (answer (now (image .entry)) (length (now (sheet .entry))) (length (now (message .entry))))
+    ensures { λ r. ⌜ Answers (answerUnder (settingIf plain) (now (image .entry)) (length (now (sheet .entry))) (length (now (message .entry))))
         r (now (sheet .entry)) (now (sheet .exit)) (now (message .entry)) (now (message .exit)) ⌝ }
 {
     let mut table = [FRESH; MANY_CELLS];
-    walk_in(image, nodes, &mut table, sheet, message)
+    walk_in(image, nodes, &mut table, sheet, message, plain)
 }
 
 // The answer for a well-formed image.
-fn walk_image(image: &[u8], sheet: &mut [u8], message: &mut [u8]) -> Answer
+fn walk_image(image: &[u8], sheet: &mut [u8], message: &mut [u8], plain: bool) -> Answer
     requires { ⌜ Sound (now image) ⌝ }
-    ensures { λ r. ⌜ Answers (answer (now (image .entry)) (length (now (sheet .entry))) (length (now (message .entry))))
+    ensures { λ r. ⌜ Answers (answerUnder (settingIf plain) (now (image .entry)) (length (now (sheet .entry))) (length (now (message .entry))))
         r (now (sheet .entry)) (now (sheet .exit)) (now (message .entry)) (now (message .exit)) ⌝ }
 {
     let l = areas(image);
     if l.count <= FEW {
-        return walk_few(image, l.nodes, sheet, message);
+        return walk_few(image, l.nodes, sheet, message, plain);
     }
     if l.count <= SOME {
-        return walk_some(image, l.nodes, sheet, message);
+        return walk_some(image, l.nodes, sheet, message, plain);
     }
-    walk_many(image, l.nodes, sheet, message)
+    walk_many(image, l.nodes, sheet, message, plain)
 }
 
-// Checks an image: the one answer, the sheet at the front of its buffer if the program is accepted and the sheet fits, the message at the
-// front of its buffer if there is a typing refusal and the message fits, and no other byte changed.
-pub fn check(image: &[u8], sheet: &mut [u8], message: &mut [u8]) -> Answer
-    ensures { λ r. ⌜ Answers (answer (now (image .entry)) (length (now (sheet .entry))) (length (now (message .entry))))
+// The answer for any bytes, under a setting that is one of the two.
+fn answer_under(image: &[u8], sheet: &mut [u8], message: &mut [u8], plain: bool) -> Answer
+    ensures { λ r. ⌜ Answers (answerUnder (settingIf plain) (now (image .entry)) (length (now (sheet .entry))) (length (now (message .entry))))
         r (now (sheet .entry)) (now (sheet .exit)) (now (message .entry)) (now (message .exit)) ⌝ }
 {
     match judge(image) {
-        Judged::WellFormed => walk_image(image, sheet, message),
+        Judged::WellFormed => walk_image(image, sheet, message, plain),
         Judged::BadHead => Answer::BadHead,
         Judged::BadCount => Answer::BadCount,
         Judged::BadOffset => Answer::BadOffset,
@@ -217,6 +236,19 @@ pub fn check(image: &[u8], sheet: &mut [u8], message: &mut [u8]) -> Answer
         Judged::BadNode(i) => Answer::BadNode(i),
         Judged::BadNesting(i) => Answer::BadNesting(i),
         Judged::TooDeep(i) => Answer::TooDeep(i),
+    }
+}
+
+// Checks an image under a setting: the one answer, the sheet at the front of its buffer if the program is accepted and the sheet fits, the
+// message at the front of its buffer if there is a typing refusal and the message fits, and no other byte changed.
+pub fn check(setting: u32, image: &[u8], sheet: &mut [u8], message: &mut [u8]) -> Answer
+    ensures { λ r. ⌜ Answers (answer setting (now (image .entry)) (length (now (sheet .entry))) (length (now (message .entry))))
+        r (now (sheet .entry)) (now (sheet .exit)) (now (message .entry)) (now (message .exit)) ⌝ }
+{
+    match setting {
+        PLAIN => answer_under(image, sheet, message, true),
+        STRICT => answer_under(image, sheet, message, false),
+        _ => Answer::NoSetting,
     }
 }
 
@@ -314,6 +346,7 @@ fn replied(a: Answer) -> Reply
         Answer::TooDeep(i) => bare(8, i),
         Answer::NinthFrame(i) => bare(9, i),
         Answer::ShortBuffer => bare(10, 0),
+        Answer::NoSetting => bare(13, 0),
         Answer::Typing(r) => Reply {
             code: r.code,
             span_start: r.begins,
@@ -327,11 +360,16 @@ fn replied(a: Answer) -> Reply
 
 // `check` for other languages.
 #[no_mangle]
-pub extern "C" fn cablebirch_check(image: &[u8], sheet: &mut [u8], message: &mut [u8]) -> Reply
-    ensures { λ r. ⌜ Replies (answer (now (image .entry)) (length (now (sheet .entry))) (length (now (message .entry))))
+pub extern "C" fn cablebirch_check(
+    setting: u32,
+    image: &[u8],
+    sheet: &mut [u8],
+    message: &mut [u8],
+) -> Reply
+    ensures { λ r. ⌜ Replies (answer setting (now (image .entry)) (length (now (sheet .entry))) (length (now (message .entry))))
         (replyMeans r) (now (sheet .entry)) (now (sheet .exit)) (now (message .entry)) (now (message .exit)) ⌝ }
 {
-    replied(check(image, sheet, message))
+    replied(check(setting, image, sheet, message))
 }
 
 // `read_sheet` for other languages: 0 or 12.

@@ -13,8 +13,8 @@ use Rattle.meaning.specs.Image.{Fault, Name, Node, imageFault, namesOf, nodesOf
 use Rattle.meaning.specs.Sheet.{entries, sheetOf}
 use Rattle.meaning.specs.Frames.{newest}
 use Rattle.meaning.specs.Message.{Refusal}
-use Rattle.meaning.specs.Walk.{State, End, done, wrong, tooDeep}
-use Rattle.meaning.specs.Answer.{Answer, bare, written, ended, walked, answer, overlaid}
+use Rattle.meaning.specs.Walk.{Setting, State, End, done, wrong, tooDeep}
+use Rattle.meaning.specs.Answer.{Answer, bare, written, ended, walked, answerUnder, settingOf, answer, overlaid}
 use Rattle.meaning.specs.Line.{lineOf}
 use Rattle.meaning.proofs.Faults.{fault-told}
 use Rattle.meaning.proofs.Kept.{refused-typing}
@@ -51,11 +51,16 @@ unfolding ifSome
 fault-header none a h g = g
 fault-header (some f) a h g = bare-header (f .code) (f .place) (h f refl)
 
-answer-header : (bs : List ℕ) (x y : ℕ) → Header (answer bs x y)
-unfolding answer walked
-answer-header bs x y =
+chosen-header : (o : Option Setting) (bs : List ℕ) (x y : ℕ) → Header (ifSome o (λ setting. answerUnder setting bs x y) (bare 13 0))
+unfolding ifSome answerUnder walked
+chosen-header none bs x y = bare-header 13 0 (omega arith)
+chosen-header (some setting) bs x y =
     fault-header (imageFault bs) _ (λ f e. fault-told bs f e .above)
-    (ended-header (namesOf bs) (nodesOf bs) x y _ (λ r s e. refused-typing (namesOf bs) _ r s e .above))
+    (ended-header (namesOf bs) (nodesOf bs) x y _ (λ r s e. refused-typing (namesOf bs) setting _ r s e .above))
+
+answer-header : (setting : ℕ) (bs : List ℕ) (x y : ℕ) → Header (answer setting bs x y)
+unfolding answer
+answer-header setting bs x y = chosen-header (settingOf setting) bs x y
 
 -- what was laid over a buffer without making it longer lies inside
 pub within : (old : List ℕ) {new : List ℕ} {size : ℕ} (w : List ℕ) → new ≡ overlaid w old → size ≡ length w → length new ≡ length old → size ≤ length old
@@ -66,43 +71,43 @@ within old {new} {size} w e f kept =
 
 -- ---- the buffers
 
-module _ (bs : List ℕ) {n : Numbers} (s s₁ m m₁ : List ℕ) (r : Replies (answer bs (length s) (length m)) n s s₁ m m₁) where
+module _ (setting : ℕ) (bs : List ℕ) {n : Numbers} (s s₁ m m₁ : List ℕ) (r : Replies (answer setting bs (length s) (length m)) n s s₁ m m₁) where
   long-s : length s₁ ≡ length s
-  long-s = ap length (r .sheet) ∙ overlaid-length _ s (bounds (length s) (length m) bs .sheet-fits)
+  long-s = ap length (r .sheet) ∙ overlaid-length _ s (bounds (length s) (length m) setting bs .sheet-fits)
 
   long-m : length m₁ ≡ length m
-  long-m = ap length (r .message) ∙ overlaid-length _ m (bounds (length s) (length m) bs .message-fits)
+  long-m = ap length (r .message) ∙ overlaid-length _ m (bounds (length s) (length m) setting bs .message-fits)
 
-  code-is : n .code ≡ answer bs (length s) (length m) .code
+  code-is : n .code ≡ answer setting bs (length s) (length m) .code
   code-is = ap (λ k. k .code) (r .numbers)
 
-  size-is : n .sheet ≡ length (answer bs (length s) (length m) .sheet)
+  size-is : n .sheet ≡ length (answer setting bs (length s) (length m) .sheet)
   size-is = ap (λ k. k .sheet) (r .numbers)
 
-  message-is : n .message ≡ length (answer bs (length s) (length m) .message)
+  message-is : n .message ≡ length (answer setting bs (length s) (length m) .message)
   message-is = ap (λ k. k .message) (r .numbers)
 
   pub place-near : n .place < 4294967296
   place-near = rw (ap (λ k. k .place) (r .numbers)) (r .near)
 
   pub sheet-in : n .sheet ≤ length s₁
-  sheet-in = omega (arith, size-is, long-s, bounds (length s) (length m) bs .sheet-fits)
+  sheet-in = omega (arith, size-is, long-s, bounds (length s) (length m) setting bs .sheet-fits)
 
   pub message-in : n .message ≤ length m₁
-  message-in = omega (arith, message-is, long-m, bounds (length s) (length m) bs .message-fits)
+  message-in = omega (arith, message-is, long-m, bounds (length s) (length m) setting bs .message-fits)
 
   front : (w old : List ℕ) → take (length w) (overlaid w old) ≡ w
   unfolding overlaid
   front w old = take-append-seam w _
 
-  sheet-part : take (n .sheet) s₁ ≡ answer bs (length s) (length m) .sheet
+  sheet-part : take (n .sheet) s₁ ≡ answer setting bs (length s) (length m) .sheet
   sheet-part = rw (size-is, r .sheet) (front _ s)
 
-  message-part : take (n .message) m₁ ≡ answer bs (length s) (length m) .message
+  message-part : take (n .message) m₁ ≡ answer setting bs (length s) (length m) .message
   message-part = rw (message-is, r .message) (front _ m)
 
-  has-header : n .code ≡ 0 → 40 ≤ length (answer bs (length s) (length m) .sheet)
-  has-header z = answer-header bs (length s) (length m) .forty (sym code-is ∙ z)
+  has-header : n .code ≡ 0 → 40 ≤ length (answer setting bs (length s) (length m) .sheet)
+  has-header z = answer-header setting bs (length s) (length m) .forty (sym code-is ∙ z)
 
   pub printable : {out : List ℕ} → length s < 4294967296 → 64 + length m ≤ length out
       → Printable (n .code) (take (n .sheet) s₁) (take (n .message) m₁) out
@@ -119,14 +124,14 @@ module _ (bs : List ℕ) {n : Numbers} (s s₁ m m₁ : List ℕ) (r : Replies (
       → (new ≡ overlaid (lineOf (answered (n .code) p (n .spanStart) (n .spanEnd) (take (n .sheet) s₁) (take (n .message) m₁))) old)
       × (size ≡ length (lineOf (answered (n .code) p (n .spanStart) (n .spanEnd) (take (n .sheet) s₁) (take (n .message) m₁))))
       → length new ≡ length old
-      → Lined (answer bs (length s) (length m)) old new s s₁ size (n .code) (n .sheet)
+      → Lined (answer setting bs (length s) (length m)) old new s s₁ size (n .code) (n .sheet)
   lined {old} {new} {size} {p} e w kept =
-      let l : lineOf (answered (n .code) p (n .spanStart) (n .spanEnd) (take (n .sheet) s₁) (take (n .message) m₁)) ≡ lineOf (answer bs (length s) (length m)) =
+      let l : lineOf (answered (n .code) p (n .spanStart) (n .spanEnd) (take (n .sheet) s₁) (take (n .message) m₁)) ≡ lineOf (answer setting bs (length s) (length m)) =
       rw (e, sheet-part, message-part, r .numbers) in
       record {
         line = w .0 ∙ rw l;
         ends = w .1 ∙ ap length l;
-        inside = within old (lineOf (answer bs (length s) (length m))) (w .0 ∙ rw l) (w .1 ∙ ap length l) kept;
+        inside = within old (lineOf (answer setting bs (length s) (length m))) (w .0 ∙ rw l) (w .1 ∙ ap length l) kept;
         told = code-is;
         sheet-long = long-s;
         sheet-inside = sheet-in;

@@ -116,14 +116,20 @@ fn word(n: usize) -> u32
     n as u32
 }
 
-// Checks an image with the two buffers for its sheet and its message, and puts the line for it at the front of `out`.
-pub fn of_image(image: &[u8], sheet: &mut [u8], message: &mut [u8], out: &mut [u8]) -> Printed
+// Checks an image under a setting with the two buffers for its sheet and its message, and puts the line for it at the front of `out`.
+pub fn of_image(
+    setting: u32,
+    image: &[u8],
+    sheet: &mut [u8],
+    message: &mut [u8],
+    out: &mut [u8],
+) -> Printed
     requires { ⌜ length (now sheet) < 4294967296 ⌝ }
     requires { ⌜ 64 + length (now message) ≤ length (now out) ⌝ }
-    ensures { λ r. ⌜ Lined (answer (now (image .entry)) (length (now (sheet .entry))) (length (now (message .entry))))
+    ensures { λ r. ⌜ Lined (answer setting (now (image .entry)) (length (now (sheet .entry))) (length (now (message .entry))))
         (now (out .entry)) (now (out .exit)) (now (sheet .entry)) (now (sheet .exit)) (r .length) (r .code) (r .sheet) ⌝ }
 {
-    let a = cablebirch_check(image, sheet, message);
+    let a = cablebirch_check(setting, image, sheet, message);
     let length = write(
         a.code,
         word(a.place),

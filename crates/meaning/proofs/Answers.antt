@@ -6,16 +6,16 @@ use mathlib.Core.Option.{Option, none, some}
 use mathlib.Core.List.{List, [], _∷_, _++_}
 use Prim.Native.Nat.{ℕ, _+_, _≤_, _<_}
 use native.Mathlib.Omega.{arith}
-use borrow.Author.Tests.{leb-true, le-leb}
+use borrow.Author.Tests.{leb-true, ne-eqb}
 use lib.Dec.{leb}
 use lib.ListN.{length, drop, length-append, length-drop}
-use Rattle.meaning.specs.Base.{if_then_else_, ifSome}
+use Rattle.meaning.specs.Base.{if_then_else_, choose, ifSome}
 use Rattle.meaning.specs.Image.{Fault, Name, Node, imageFault, namesOf, nodesOf}
 use Rattle.meaning.specs.Message.{Refusal}
-use Rattle.meaning.specs.Walk.{State, End, done, wrong, tooDeep}
+use Rattle.meaning.specs.Walk.{Setting, plain, strict, State, End, done, wrong, tooDeep}
 use Rattle.meaning.specs.Sheet.{Entry, sheetOf, withinLimits}
 use Rattle.meaning.specs.Read.{readSheet, SheetOf}
-use Rattle.meaning.specs.Answer.{Answer, bare, written, fitting, ended, walked, answer, readAnswer, writeAnswer, overlaid}
+use Rattle.meaning.specs.Answer.{Answer, settingOf, bare, written, fitting, ended, walked, answerUnder, answer, readAnswer, writeAnswer, overlaid}
 use Rattle.meaning.proofs.Faults.{Told, fault-told}
 use Rattle.meaning.proofs.Codes.{Typing}
 use Rattle.meaning.proofs.Kept.{accepted-one-frame, refused-typing}
@@ -23,12 +23,12 @@ use Rattle.meaning.proofs.SheetForm.{read-some, sheet-length}
 
 -- an answer to a caller who lends so much room
 pub record Answered (sheetRoom messageRoom : ℕ) (a : Answer) : Type 0 where
-  -- 0 to 10, or 20 to 50
-  pub code : (a .code ≤ 10) ⊎ ((20 ≤ a .code) × (a .code ≤ 50))
+  -- 0 to 10, 13, or 20 to 50
+  pub code : ((a .code ≤ 10) ⊎ (a .code ≡ 13)) ⊎ ((20 ≤ a .code) × (a .code ≤ 50))
   -- "Codes outside 20..50 have span 0,0"
   pub span : a .code < 20 → (a .spanStart ≡ 0) × (a .spanEnd ≡ 0)
   -- "and place 0 where none is told"
-  pub place : (a .code < 4) ⊎ (a .code ≡ 10) → a .place ≡ 0
+  pub place : (a .code < 4) ⊎ ((a .code ≡ 10) ⊎ (a .code ≡ 13)) → a .place ≡ 0
   -- "every other code has sheet length 0"
   pub sheet : 0 < a .code → a .sheet ≡ []
   -- "for other codes, length is 0"
@@ -37,7 +37,7 @@ pub record Answered (sheetRoom messageRoom : ℕ) (a : Answer) : Type 0 where
   pub message-fits : length (a .message) ≤ messageRoom
 
 module _ (sheetRoom messageRoom : ℕ) where
-  bare-answered : (c n : ℕ) → c ≤ 10 → ((c < 4) ⊎ (c ≡ 10) → n ≡ 0) → Answered sheetRoom messageRoom (bare c n)
+  bare-answered : (c n : ℕ) → (c ≤ 10) ⊎ (c ≡ 13) → ((c < 4) ⊎ ((c ≡ 10) ⊎ (c ≡ 13)) → n ≡ 0) → Answered sheetRoom messageRoom (bare c n)
   bare-answered c n h p =
       record {
         code = inl h;
@@ -53,7 +53,7 @@ module _ (sheetRoom messageRoom : ℕ) where
       → Answered sheetRoom messageRoom (record { code = 0; place = 0; spanStart = 0; spanEnd = 0; sheet = bs; message = [] })
   full-answered bs h =
       record {
-        code = inl (omega arith);
+        code = inl (inl (omega arith));
         span = λ l. (refl, refl);
         place = λ l. refl;
         sheet = λ l. absurd (omega arith);
@@ -71,7 +71,7 @@ module _ (sheetRoom messageRoom : ℕ) where
   pub written-answered : (bs : List ℕ) → Answered sheetRoom messageRoom (written sheetRoom bs)
   unfolding written
   written-answered bs =
-      if-answered _ _ _ (λ e. full-answered bs (leb-true (length bs) sheetRoom e)) (bare-answered 10 0 (omega arith) (λ l. refl))
+      if-answered _ _ _ (λ e. full-answered bs (leb-true (length bs) sheetRoom e)) (bare-answered 10 0 (inl (omega arith)) (λ l. refl))
 
   fitting-fits : (bs : List ℕ) → length (fitting messageRoom bs) ≤ messageRoom
   unfolding fitting if_then_else_
@@ -90,13 +90,13 @@ module _ (sheetRoom messageRoom : ℕ) where
       record {
         code = inr (t .above, t .below);
         span = λ l. absurd (omega (arith, t .above));
-        place = λ l. absurd (⊎-elim (λ a. omega (arith, t .above)) (λ a. omega (arith, t .above)) l);
+        place = λ l. absurd (⊎-elim (λ a. omega (arith, t .above)) (λ a. ⊎-elim (λ b. omega (arith, t .above)) (λ b. omega (arith, t .above)) a) l);
         sheet = λ l. refl;
         message = λ l. absurd (omega (arith, t .above));
         sheet-fits = omega arith;
         message-fits = fitting-fits _;
       }
-  ended-answered ws ds (tooDeep n) h = bare-answered 9 n (omega arith) (λ l. absurd (⊎-elim (λ a. omega arith) (λ a. omega arith) l))
+  ended-answered ws ds (tooDeep n) h = bare-answered 9 n (inl (omega arith)) (λ l. absurd (⊎-elim (λ a. omega arith) (λ a. ⊎-elim (λ b. omega arith) (λ b. omega arith) a) l))
 
   fault-answered : (o : Option Fault) (a : Answer) → ((f : Fault) → o ≡ some f → Told f) → Answered sheetRoom messageRoom a
       → Answered sheetRoom messageRoom (ifSome o (λ f. bare (f .code) (f .place)) a)
@@ -104,13 +104,39 @@ module _ (sheetRoom messageRoom : ℕ) where
   fault-answered none a t h = h
   fault-answered (some f) a t h =
       let u = t f refl in
-      bare-answered (f .code) (f .place) (omega (arith, u .below)) (λ l. ⊎-elim (λ e. u .nowhere e) (λ e. absurd (omega (arith, u .below))) l)
+      bare-answered (f .code) (f .place) (inl (omega (arith, u .below)))
+      (λ l. ⊎-elim (λ e. u .nowhere e) (λ a. absurd (⊎-elim (λ e. omega (arith, u .below)) (λ e. omega (arith, u .below)) a)) l)
 
-  pub answered : (bs : List ℕ) → Answered sheetRoom messageRoom (answer bs sheetRoom messageRoom)
-  unfolding answer walked
-  answered bs =
+  under-answered : (setting : Setting) (bs : List ℕ) → Answered sheetRoom messageRoom (answerUnder setting bs sheetRoom messageRoom)
+  unfolding answerUnder walked
+  under-answered setting bs =
       fault-answered (imageFault bs) _ (λ f e. fault-told bs f e)
-      (ended-answered (namesOf bs) (nodesOf bs) _ (λ r s e. refused-typing (namesOf bs) _ r s e))
+      (ended-answered (namesOf bs) (nodesOf bs) _ (λ r s e. refused-typing (namesOf bs) setting _ r s e))
+
+  chosen-answered : (o : Option Setting) (bs : List ℕ)
+      → Answered sheetRoom messageRoom (ifSome o (λ setting. answerUnder setting bs sheetRoom messageRoom) (bare 13 0))
+  unfolding ifSome
+  chosen-answered none bs = bare-answered 13 0 (inr refl) (λ l. refl)
+  chosen-answered (some setting) bs = under-answered setting bs
+
+  pub answered : (n : ℕ) (bs : List ℕ) → Answered sheetRoom messageRoom (answer n bs sheetRoom messageRoom)
+  unfolding answer
+  answered n bs = chosen-answered (settingOf n) bs
+
+-- ---- the setting: 0 is plain, 1 is strict, and "a setting other than the two gives 13, before code 1"
+
+module _ (bs : List ℕ) (sheetRoom messageRoom : ℕ) where
+  pub plain-is : answer 0 bs sheetRoom messageRoom ≡ answerUnder plain bs sheetRoom messageRoom
+  unfolding answer settingOf choose ifSome if_then_else_
+  plain-is = refl
+
+  pub strict-is : answer 1 bs sheetRoom messageRoom ≡ answerUnder strict bs sheetRoom messageRoom
+  unfolding answer settingOf choose ifSome if_then_else_
+  strict-is = refl
+
+  pub no-setting : (n : ℕ) → 2 ≤ n → answer n bs sheetRoom messageRoom ≡ bare 13 0
+  unfolding answer settingOf choose ifSome if_then_else_
+  no-setting n h = rw (ne-eqb n 0 (λ e. omega (arith, e)), ne-eqb n 1 (λ e. omega (arith, e)))
 
 -- ---- the sheet's reader and writer
 

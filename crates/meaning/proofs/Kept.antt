@@ -1,21 +1,21 @@
 -- A statement that ends well leaves as many frames as it found, and one that is refused has a typing code. So an accepted program ends
--- with exactly one frame.
+-- with exactly one frame. All of it holds in plain and in strict; a body whose errors are dropped may leave more frames than it found.
 use mathlib.Core.Path.{_≡_, refl, _∙_, ap}
 use mathlib.Core.Bool.{Bool, true, false}
-use mathlib.Core.List.{List, [], _∷_, _++_, tail}
+use mathlib.Core.List.{List, [], _∷_, tail}
 use mathlib.Core.Option.{Option, none, some}
 use Prim.Native.Nat.{ℕ, suc, _≤_}
 use native.Mathlib.Omega.{arith}
 use lib.ListN.{length}
 use Rattle.meaning.specs.Base.{if_then_else_, ifSome}
-use Rattle.meaning.specs.Types.{Ty, unknown}
-use Rattle.meaning.specs.Tree.{Expr, at, Form, literal, variable, unary, binary, call, attribute, listOf, dictOf, tupleOf, setOf, index, lambda, Exprs, no-exprs, _also_, Stmt, line, Act, break, continue, pass, class, assign, expr, return, ifThen, while, for, def, Stmts, no-stmts, _next_, Arms, no-arms, _or-else_, Arm, on, otherwise, firstCondition}
+use Rattle.meaning.specs.Types.{Ty}
+use Rattle.meaning.specs.Tree.{Expr, at, Form, literal, variable, unary, binary, call, attribute, listOf, dictOf, tupleOf, setOf, index, lambda, Exprs, no-exprs, _also_, Stmt, line, Act, break, continue, pass, class, assign, expr, return, ifThen, while, for, def, Stmts, no-stmts, _next_, Arms, no-arms, _or-else_, Arm, on, otherwise}
 use Rattle.meaning.specs.Image.{Name}
 use Rattle.meaning.specs.Message.{Piece, Refusal}
-use Rattle.meaning.specs.Frames.{Frame, Frames, empty, write}
+use Rattle.meaning.specs.Frames.{Frames, write}
 use Rattle.meaning.specs.Operators.{Checked, ok, refused}
-use Rattle.meaning.specs.Rules.{elementOf, check}
-use Rattle.meaning.specs.Walk.{State, End, done, wrong, tooDeep, refuse, _>>=_, onward, after, typed, withFrames, withReturns, bind, agreed, assignName, unpacked, unpackInto, returnRule, assigned, mergeName, mergeNames, merge, enter, popped, ifRoom, onlyIn, overElements, checked, condition, assignTo, assignForm, assignEach, walk, act, body, arm, branches, program, start}
+use Rattle.meaning.specs.Rules.{elementOf}
+use Rattle.meaning.specs.Walk.{Setting, dropping, State, End, done, wrong, tooDeep, refuse, _>>=_, onward, after, onCopy, typed, withFrames, withReturns, bind, agreed, assignName, unpacked, unpackInto, returnRule, assigned, mergeName, mergeNames, merge, enter, popped, ifRoom, onlyIn, overElements, checked, condition, assignTo, assignForm, assignEach, walk, act, body, arm, branches, program, start}
 use Rattle.meaning.proofs.Codes.{Typing, typing, Fair, fair-typing, check-fair}
 
 -- how a part of the walk that began with n frames may end
@@ -25,7 +25,7 @@ Kept n (wrong r s) = Typing r
 Kept n (tooDeep m) = Unit {0}
 
 -- the same, with any number of frames
-Coded : End → Type 0
+pub Coded : End → Type 0
 Coded (done s) = Unit {0}
 Coded (wrong r s) = Typing r
 Coded (tooDeep m) = Unit {0}
@@ -53,34 +53,17 @@ onwards n (done s) k h g = g s h
 onwards n (wrong r s) k h g = h
 onwards n (tooDeep m) k h g = tt
 
-returned : (n : ℕ) (e : End) (k : State → End) → Kept n e → ((s : State) → length (s .frames) ≡ n → Kept n (k s)) → Kept n (onward false e k)
-unfolding Kept onward
-returned n (done s) k h g = g s h
-returned n (wrong r s) k h g = h
-returned n (tooDeep m) k h g = tt
-
--- what drops errors is never wrong
-dropped : (e : End) (k : State → End) → ((s : State) → Coded (k s)) → Coded (onward true e k)
-unfolding Coded onward
-dropped (done s) k g = g s
-dropped (wrong r s) k g = g s
-dropped (tooDeep m) k g = tt
-
-then-coded : (e : End) (k : State → End) → Coded e → ((s : State) → Coded (k s)) → Coded (e >>= k)
-unfolding Coded _>>=_
-then-coded (done s) k h g = g s
-then-coded (wrong r s) k h g = h
-then-coded (tooDeep m) k h g = tt
-
-done-coded : (s : State) → Coded (done s)
-unfolding Coded
-done-coded s = tt
-
 kept-coded : (n : ℕ) (e : End) → Kept n e → Coded e
 unfolding Kept Coded
 kept-coded n (done s) h = tt
 kept-coded n (wrong r s) h = h
 kept-coded n (tooDeep m) h = tt
+
+copy-coded : (Γ : Frames) (e : End) → Coded e → Coded (onCopy Γ e)
+unfolding Coded onCopy
+copy-coded Γ (done s) h = tt
+copy-coded Γ (wrong r s) h = h
+copy-coded Γ (tooDeep m) h = tt
 
 typed-kept : (n : ℕ) (c : Checked) (s : State) (k : Ty → End) → Fair c → ((t : Ty) → Kept n (k t)) → Kept n (typed c s k)
 unfolding Kept typed
@@ -120,6 +103,47 @@ unfolding ifSome
 some-kept n none f e h k = k
 some-kept n (some a) f e h k = h a
 
+-- ---- bodies
+
+-- how a body may end: one that returns its errors leaves as many frames as it found, one that drops them perhaps a stray one
+pub Left : Bool → ℕ → End → Type 0
+Left true n e = Coded e
+Left false n e = Kept n e
+
+pub left-kept : (n : ℕ) (e : End) → Left false n e → Kept n e
+unfolding Left
+left-kept n e h = h
+
+left-coded : (drops : Bool) (n : ℕ) (e : End) → Left drops n e → Coded e
+unfolding Left
+left-coded true n e h = h
+left-coded false n e h = kept-coded n e h
+
+kept-left : (drops : Bool) (n : ℕ) (e : End) → Kept n e → Left drops n e
+unfolding Left
+kept-left true n e h = kept-coded n e h
+kept-left false n e h = h
+
+done-left : (drops : Bool) (n : ℕ) (s : State) → length (s .frames) ≡ n → Left drops n (done s)
+done-left drops n s h = kept-left drops n _ (done-kept n s h)
+
+then-left : (drops : Bool) (n : ℕ) (e : End) (k : State → End) → Kept n e → ((s : State) → length (s .frames) ≡ n → Left drops n (k s))
+    → Left drops n (e >>= k)
+unfolding Kept _>>=_
+then-left drops n (done s) k h g = g s h
+then-left drops n (wrong r s) k h g = kept-left drops n (wrong r s) h
+then-left drops n (tooDeep m) k h g = kept-left drops n (tooDeep m) tt
+
+onward-left : (drops : Bool) (n : ℕ) (e : End) (k : State → End) → Kept n e
+    → ((m : ℕ) (s : State) → length (s .frames) ≡ m → Left drops m (k s)) → Left drops n (onward drops e k)
+unfolding Kept Coded Left onward
+onward-left true n (done s) k h g = g n s h
+onward-left true n (wrong r s) k h g = g (length (s .frames)) s refl
+onward-left true n (tooDeep m) k h g = tt
+onward-left false n (done s) k h g = g n s h
+onward-left false n (wrong r s) k h g = h
+onward-left false n (tooDeep m) k h g = tt
+
 -- ---- what writes
 
 write-kept : (x : ℕ) (t : Ty) (Γ : Frames) → length (write x t Γ) ≡ length Γ
@@ -154,7 +178,7 @@ enter-kept n xs s h = ap suc h
 
 -- ---- what a kept end says
 
-kept-done : (n : ℕ) {e : End} {s : State} → Kept n e → e ≡ done s → length (s .frames) ≡ n
+pub kept-done : (n : ℕ) {e : End} {s : State} → Kept n e → e ≡ done s → length (s .frames) ≡ n
 unfolding Kept
 kept-done n k e = rw e at k
 
@@ -228,57 +252,53 @@ module _ (ws : List Name) where
     each-kept n no-exprs ts s h = done-kept n s h
     each-kept n (e also es) ts s h = onwards n (assignTo ws e _ s) _ (assign-kept n e _ s h) (λ s₁ h₁. each-kept n es (tail ts) s₁ h₁)
 
-  -- ---- statements
+-- ---- statements, under either setting
 
-  drops-coded : (loop : Bool) (b : Stmts) (s : State) → Coded (body ws loop true b s)
-  unfolding body
-  drops-coded loop no-stmts s = done-coded s
-  drops-coded loop (a next b) s = dropped (walk ws loop a s) _ (λ s₁. drops-coded loop b s₁)
-
-  arm-coded : (loop : Bool) (a : Arm) (s : State) → Coded (arm ws loop a s)
-  unfolding arm
-  arm-coded loop (on c b) s =
-      then-coded (condition ws c s) _ (kept-coded (length (s .frames)) _ (condition-kept _ c s refl)) (λ s₁. drops-coded loop b s₁)
-  arm-coded loop (otherwise b) s = drops-coded loop b s
-
-  branches-kept : (n : ℕ) (loop : Bool) (c : ℕ) (Δs : List Frames) (as′ : Arms) (s : State) → length (s .frames) ≡ n
-      → Kept n (branches ws loop c Δs as′ s)
-  unfolding branches
-  branches-kept n loop c Δs no-arms s h = merge-kept n c Δs s h
-  branches-kept n loop c Δs (a or-else rest) s h =
-      whatever n (arm ws loop a s) _ (arm-coded loop a s) (λ s₁. branches-kept n loop c _ rest _ h)
-
+module _ (ws : List Name) (setting : Setting) where
   mutual
     unfolding walk
 
-    walk-kept : (n : ℕ) (loop : Bool) (a : Stmt) (s : State) → length (s .frames) ≡ n → Kept n (walk ws loop a s)
+    pub walk-kept : (n : ℕ) (loop : Bool) (a : Stmt) (s : State) → length (s .frames) ≡ n → Kept n (walk ws setting loop a s)
     walk-kept n loop (line m a) s h = act-kept n loop m a s h
 
-    act-kept : (n : ℕ) (loop : Bool) (m : ℕ) (a : Act) (s : State) → length (s .frames) ≡ n → Kept n (act ws loop m a s)
+    act-kept : (n : ℕ) (loop : Bool) (m : ℕ) (a : Act) (s : State) → length (s .frames) ≡ n → Kept n (act ws setting loop m a s)
     act-kept n loop m break s h = only-kept n loop 20 m s (omega arith) (omega arith) h
     act-kept n loop m continue s h = only-kept n loop 21 m s (omega arith) (omega arith) h
     act-kept n loop m pass s h = done-kept n s h
     act-kept n loop m class s h = done-kept n s h
-    act-kept n loop m (assign e v) s h = checked-kept n v s _ (λ t. assign-kept n e t s h)
-    act-kept n loop m (expr e) s h = checked-kept n e s _ (λ t. done-kept n s h)
-    act-kept n loop m (return e) s h = checked-kept n e s _ (λ t. return-kept n _ t s h)
+    act-kept n loop m (assign e v) s h = checked-kept ws n v s _ (λ t. assign-kept ws n e t s h)
+    act-kept n loop m (expr e) s h = checked-kept ws n e s _ (λ t. done-kept n s h)
+    act-kept n loop m (return e) s h = checked-kept ws n e s _ (λ t. return-kept ws n _ t s h)
     act-kept n loop m (ifThen as′) s h = branches-kept n loop _ [] as′ s h
     act-kept n loop m (while c b) s h =
-        onwards n (condition ws c s) _ (condition-kept n c s h) (λ s₁ h₁. back-kept n s _ h (drops-coded true b s₁))
+        onwards n (condition ws c s) _ (condition-kept ws n c s h)
+        (λ s₁ h₁. back-kept n s _ h (left-coded (dropping setting) n _ (body-left n true (dropping setting) b s₁ h₁)))
     act-kept n loop m (for x e b) s h =
-        checked-kept n e s _ (λ t. over-kept n _ t s _ (λ u. back-kept n s _ h (kept-coded n _ (body-kept n true b _ (write-kept x u (s .frames) ∙ h)))))
+        checked-kept ws n e s _ (λ t. over-kept n _ t s _
+        (λ u. back-kept n s _ h (left-coded false n _ (body-left n true false b _ (write-kept x u (s .frames) ∙ h)))))
     act-kept n loop m (def xs b) s h =
-        room-kept n m s _ (returns-kept n (s .returns) _ (popped-kept n _ (body-kept (suc n) false b _ (enter-kept n xs s h))))
+        room-kept n m s _ (returns-kept n (s .returns) _ (popped-kept n _ (left-kept (suc n) _ (body-left (suc n) false false b _ (enter-kept n xs s h)))))
 
-    -- a body whose errors are returned
-    body-kept : (n : ℕ) (loop : Bool) (b : Stmts) (s : State) → length (s .frames) ≡ n → Kept n (body ws loop false b s)
-    body-kept n loop no-stmts s h = done-kept n s h
-    body-kept n loop (a next b) s h = returned n (walk ws loop a s) _ (walk-kept n loop a s h) (λ s₁ h₁. body-kept n loop b s₁ h₁)
+    pub body-left : (n : ℕ) (loop drops : Bool) (b : Stmts) (s : State) → length (s .frames) ≡ n → Left drops n (body ws setting loop drops b s)
+    body-left n loop drops no-stmts s h = done-left drops n s h
+    body-left n loop drops (a next b) s h =
+        onward-left drops n (walk ws setting loop a s) _ (walk-kept n loop a s h) (λ m s₁ h₁. body-left m loop drops b s₁ h₁)
 
-  pub program-kept : (n : ℕ) (b : Stmts) (s : State) → length (s .frames) ≡ n → Kept n (program ws b s)
+    pub arm-left : (n : ℕ) (loop : Bool) (a : Arm) (s : State) → length (s .frames) ≡ n → Left (dropping setting) n (arm ws setting loop a s)
+    arm-left n loop (on c b) s h =
+        then-left (dropping setting) n (condition ws c s) _ (condition-kept ws n c s h) (λ s₁ h₁. body-left n loop (dropping setting) b s₁ h₁)
+    arm-left n loop (otherwise b) s h = body-left n loop (dropping setting) b s h
+
+    branches-kept : (n : ℕ) (loop : Bool) (c : ℕ) (Δs : List Frames) (as′ : Arms) (s : State) → length (s .frames) ≡ n
+        → Kept n (branches ws setting loop c Δs as′ s)
+    branches-kept n loop c Δs no-arms s h = merge-kept ws n c Δs s h
+    branches-kept n loop c Δs (a or-else rest) s h =
+        whatever n _ _ (copy-coded (s .frames) _ (left-coded (dropping setting) n _ (arm-left n loop a s h))) (λ s₁. branches-kept n loop c _ rest _ h)
+
+  pub program-kept : (n : ℕ) (b : Stmts) (s : State) → length (s .frames) ≡ n → Kept n (program ws setting b s)
   unfolding program
   program-kept n no-stmts s h = done-kept n s h
-  program-kept n (a next b) s h = onwards n (walk ws false a _) _ (walk-kept n false a _ h) (λ s₁ h₁. program-kept n b s₁ h₁)
+  program-kept n (a next b) s h = onwards n (walk ws setting false a _) _ (walk-kept n false a _ h) (λ s₁ h₁. program-kept n b s₁ h₁)
 
   -- ---- the program
 
@@ -287,8 +307,8 @@ module _ (ws : List Name) where
   start-one = refl
 
   -- "An accepted program ends with exactly one frame", and a refused one with a typing code
-  pub accepted-one-frame : (b : Stmts) (s : State) → program ws b start ≡ done s → length (s .frames) ≡ 1
+  pub accepted-one-frame : (b : Stmts) (s : State) → program ws setting b start ≡ done s → length (s .frames) ≡ 1
   accepted-one-frame b s e = kept-done 1 (program-kept 1 b start start-one) e
 
-  pub refused-typing : (b : Stmts) (r : Refusal) (s : State) → program ws b start ≡ wrong r s → Typing r
+  pub refused-typing : (b : Stmts) (r : Refusal) (s : State) → program ws setting b start ≡ wrong r s → Typing r
   refused-typing b r s e = kept-wrong 1 (program-kept 1 b start start-one) e

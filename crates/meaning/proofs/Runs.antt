@@ -1,4 +1,5 @@
--- Document 01's runs with known ends: the starred ones as one statement, the others likewise, and the two lines that it prints.
+-- Document 01's runs with known ends: the starred ones as one statement, the others likewise, and the two lines that it prints; and runs
+-- under both of document 02's settings.
 use mathlib.Core.Path.{_≡_, refl}
 use mathlib.Core.List.{List, [], _∷_, _++_, map}
 use Prim.Native.Nat.{ℕ}
@@ -76,7 +77,7 @@ runs =
     )  -- 12: p = (1, [2.0]), q = [2.0]
     ∷ [])
 
-pub runs-end : map (λ r. answer (r .0) sheetBuffer messageBuffer) runs ≡ map (λ r. r .1) runs
+pub runs-end : map (λ r. answer 0 (r .0) sheetBuffer messageBuffer) runs ≡ map (λ r. r .1) runs
 unfolding meaning-open
 runs-end = refl
 
@@ -121,27 +122,96 @@ also =
     )  -- len with role 3
     ∷ [])
 
-pub also-end : map (λ r. answer (r .0) sheetBuffer messageBuffer) also ≡ map (λ r. r .1) also
+pub also-end : map (λ r. answer 0 (r .0) sheetBuffer messageBuffer) also ≡ map (λ r. r .1) also
 unfolding meaning-open
 also-end = refl
 
+-- ---- document 02's setting: an image, plain's answer and strict's
+
+abbrev pub bothWays : List (List ℕ × Answer × Answer)
+bothWays =
+    ((
+      image []
+          ((12 ∷ 0 ∷ 1 ∷ 5 ∷ 0 ∷ 0 ∷ []) ∷ (8 ∷ 0 ∷ 2 ∷ 5 ∷ 0 ∷ 14 ∷ []) ∷ (20 ∷ 0 ∷ 0 ∷ 3 ∷ 3 ∷ 7 ∷ []) ∷ (12 ∷ 0 ∷ 1 ∷ 5 ∷ 0 ∷ 0 ∷ []) ∷ (1 ∷ 0 ∷ 0 ∷ 5 ∷ 9 ∷ 14 ∷ []) ∷ []),
+      noNames,
+      refuses 20 4 9 14 (bytes "SyntaxError: 'break' outside loop"),
+    )  -- 7: if True: break
+    ∷ (
+      image (("i", 0, 0, 0) ∷ [])
+          ((12 ∷ 0 ∷ 1 ∷ 9 ∷ 0 ∷ 0 ∷ []) ∷ (10 ∷ 0 ∷ 2 ∷ 9 ∷ 0 ∷ 32 ∷ []) ∷ (26 ∷ 0 ∷ 1 ∷ 4 ∷ 9 ∷ 12 ∷ []) ∷ (20 ∷ 1 ∷ 0 ∷ 4 ∷ 10 ∷ 11 ∷ []) ∷ (12 ∷ 0 ∷ 1 ∷ 9 ∷ 0 ∷ 0 ∷ []) ∷ (8 ∷ 0 ∷ 2 ∷ 9 ∷ 18 ∷ 32 ∷ []) ∷ (20 ∷ 0 ∷ 0 ∷ 7 ∷ 21 ∷ 25 ∷ []) ∷ (12 ∷ 0 ∷ 1 ∷ 9 ∷ 0 ∷ 0 ∷ []) ∷ (1 ∷ 0 ∷ 0 ∷ 9 ∷ 27 ∷ 32 ∷ []) ∷ []),
+      noNames,
+      noNames,
+    )  -- for i in [1]: if True: break
+    ∷ (
+      image []
+          ((12 ∷ 0 ∷ 1 ∷ 8 ∷ 0 ∷ 0 ∷ []) ∷ (9 ∷ 0 ∷ 2 ∷ 8 ∷ 0 ∷ 19 ∷ []) ∷ (20 ∷ 0 ∷ 0 ∷ 3 ∷ 6 ∷ 10 ∷ []) ∷ (12 ∷ 0 ∷ 1 ∷ 8 ∷ 0 ∷ 0 ∷ []) ∷ (6 ∷ 0 ∷ 1 ∷ 8 ∷ 12 ∷ 19 ∷ []) ∷ (23 ∷ 0 ∷ 2 ∷ 8 ∷ 12 ∷ 19 ∷ []) ∷ (20 ∷ 1 ∷ 0 ∷ 7 ∷ 12 ∷ 13 ∷ []) ∷ (20 ∷ 2 ∷ 0 ∷ 8 ∷ 16 ∷ 19 ∷ []) ∷ []),
+      noNames,
+      refuses 29 5 12 19 (bytes "TypeError: unsupported operand types for +: Int and String"),
+    )  -- 9: while True: 1 + "a"
+    ∷ (
+      image (("f", 4, 1, 0) ∷ ("x", 0, 0, 0) ∷ [])
+          ((12 ∷ 0 ∷ 2 ∷ 17 ∷ 0 ∷ 0 ∷ []) ∷ (5 ∷ 0 ∷ 2 ∷ 4 ∷ 0 ∷ 5 ∷ []) ∷ (21 ∷ 1 ∷ 0 ∷ 3 ∷ 0 ∷ 1 ∷ []) ∷ (20 ∷ 1 ∷ 0 ∷ 4 ∷ 4 ∷ 5 ∷ []) ∷ (8 ∷ 0 ∷ 2 ∷ 17 ∷ 6 ∷ 47 ∷ []) ∷ (20 ∷ 0 ∷ 0 ∷ 6 ∷ 9 ∷ 13 ∷ []) ∷ (12 ∷ 0 ∷ 1 ∷ 17 ∷ 0 ∷ 0 ∷ []) ∷ (11 ∷ 0 ∷ 2 ∷ 17 ∷ 16 ∷ 47 ∷ []) ∷ (13 ∷ 1 ∷ 0 ∷ 9 ∷ 0 ∷ 0 ∷ []) ∷ (12 ∷ 0 ∷ 2 ∷ 17 ∷ 0 ∷ 0 ∷ []) ∷ (5 ∷ 0 ∷ 2 ∷ 13 ∷ 30 ∷ 37 ∷ []) ∷ (21 ∷ 1 ∷ 0 ∷ 12 ∷ 30 ∷ 31 ∷ []) ∷ (20 ∷ 2 ∷ 0 ∷ 13 ∷ 34 ∷ 37 ∷ []) ∷ (6 ∷ 0 ∷ 1 ∷ 17 ∷ 40 ∷ 47 ∷ []) ∷ (23 ∷ 0 ∷ 2 ∷ 17 ∷ 40 ∷ 47 ∷ []) ∷ (20 ∷ 1 ∷ 0 ∷ 16 ∷ 40 ∷ 41 ∷ []) ∷ (20 ∷ 2 ∷ 0 ∷ 17 ∷ 44 ∷ 47 ∷ []) ∷ []),
+      accepts (words (1 ∷ 0 ∷ 40 ∷ 0 ∷ 40 ∷ 1 ∷ 40 ∷ 1 ∷ 52 ∷ 53 ∷ 0 ∷ 1 ∷ 3 ∷ []) ++ bytes "x"),
+      refuses 29 14 40 47 (bytes "TypeError: unsupported operand types for +: Int and String"),
+    )  -- 11: x = 1, then if True: holding def f(x): with x = "s" and 1 + "a"
+    ∷ (
+      image []
+          ((12 ∷ 0 ∷ 1 ∷ 11 ∷ 0 ∷ 0 ∷ []) ∷ (8 ∷ 0 ∷ 4 ∷ 11 ∷ 0 ∷ 29 ∷ []) ∷ (20 ∷ 0 ∷ 0 ∷ 3 ∷ 3 ∷ 7 ∷ []) ∷ (12 ∷ 0 ∷ 1 ∷ 8 ∷ 0 ∷ 0 ∷ []) ∷ (6 ∷ 0 ∷ 1 ∷ 8 ∷ 9 ∷ 16 ∷ []) ∷ (23 ∷ 0 ∷ 2 ∷ 8 ∷ 9 ∷ 16 ∷ []) ∷ (20 ∷ 1 ∷ 0 ∷ 7 ∷ 9 ∷ 10 ∷ []) ∷ (20 ∷ 2 ∷ 0 ∷ 8 ∷ 13 ∷ 16 ∷ []) ∷ (20 ∷ 1 ∷ 0 ∷ 9 ∷ 22 ∷ 23 ∷ []) ∷ (12 ∷ 0 ∷ 1 ∷ 11 ∷ 0 ∷ 0 ∷ []) ∷ (3 ∷ 0 ∷ 0 ∷ 11 ∷ 25 ∷ 29 ∷ []) ∷ []),
+      refuses 36 8 22 23 (bytes "TypeError: condition must be Bool"),
+      refuses 29 5 9 16 (bytes "TypeError: unsupported operand types for +: Int and String"),
+    )  -- if True: 1 + "a", elif 1: pass: at once, before the next condition
+    ∷ (
+      image []
+          ((12 ∷ 0 ∷ 1 ∷ 9 ∷ 0 ∷ 0 ∷ []) ∷ (8 ∷ 0 ∷ 3 ∷ 9 ∷ 0 ∷ 34 ∷ []) ∷ (20 ∷ 0 ∷ 0 ∷ 3 ∷ 3 ∷ 7 ∷ []) ∷ (12 ∷ 0 ∷ 1 ∷ 6 ∷ 0 ∷ 0 ∷ []) ∷ (7 ∷ 0 ∷ 1 ∷ 6 ∷ 9 ∷ 17 ∷ []) ∷ (20 ∷ 1 ∷ 0 ∷ 6 ∷ 16 ∷ 17 ∷ []) ∷ (12 ∷ 0 ∷ 1 ∷ 9 ∷ 0 ∷ 0 ∷ []) ∷ (7 ∷ 0 ∷ 1 ∷ 9 ∷ 24 ∷ 34 ∷ []) ∷ (20 ∷ 2 ∷ 0 ∷ 9 ∷ 31 ∷ 34 ∷ []) ∷ []),
+      noNames,
+      refuses 22 8 31 34 (bytes "TypeError: inconsistent return types in function: Int vs String"),
+    )  -- if True: return 1, else: return "a"
+    ∷ (
+      image (("f", 4, 0, 0) ∷ [])
+          ((12 ∷ 0 ∷ 1 ∷ 7 ∷ 0 ∷ 0 ∷ []) ∷ (8 ∷ 0 ∷ 2 ∷ 7 ∷ 0 ∷ 26 ∷ []) ∷ (20 ∷ 0 ∷ 0 ∷ 3 ∷ 3 ∷ 7 ∷ []) ∷ (12 ∷ 0 ∷ 1 ∷ 7 ∷ 0 ∷ 0 ∷ []) ∷ (11 ∷ 0 ∷ 1 ∷ 7 ∷ 10 ∷ 26 ∷ []) ∷ (12 ∷ 0 ∷ 1 ∷ 7 ∷ 0 ∷ 0 ∷ []) ∷ (1 ∷ 0 ∷ 0 ∷ 7 ∷ 21 ∷ 26 ∷ []) ∷ []),
+      noNames,
+      refuses 20 6 21 26 (bytes "SyntaxError: 'break' outside loop"),
+    )  -- if True: holding def f(): with break, which strays (Strict.antt)
+    ∷ [])
+
+pub plain-end : map (λ r. answer 0 (r .0) sheetBuffer messageBuffer) bothWays ≡ map (λ r. r .1) bothWays
+unfolding meaning-open
+plain-end = refl
+
+pub strict-end : map (λ r. answer 1 (r .0) sheetBuffer messageBuffer) bothWays ≡ map (λ r. r .2) bothWays
+unfolding meaning-open
+strict-end = refl
+
+-- "a setting other than the two gives 13, before code 1": no low byte is taken of it, and an image that is not even a header is not looked at
+abbrev noSettings : List ℕ
+noSettings = 2 ∷ 255 ∷ 256 ∷ 257 ∷ 65536 ∷ 4294967295 ∷ []
+
+pub no-settings-end : map (λ n. answer n [] sheetBuffer messageBuffer) noSettings ≡ map (λ n. refuses 13 0 0 0 []) noSettings
+unfolding meaning-open
+no-settings-end = refl
+
 -- ---- what `typecheck` prints: "For `1 + "a"`, its Binary span 0..7", and "case 2"
 
-abbrev lines : List (List ℕ × String)
+abbrev lines : List (List String × List ℕ × String)
 lines =
     ((
+      [],
       image []
           ((12 ∷ 0 ∷ 1 ∷ 5 ∷ 0 ∷ 0 ∷ []) ∷ (6 ∷ 0 ∷ 1 ∷ 5 ∷ 0 ∷ 7 ∷ []) ∷ (23 ∷ 0 ∷ 2 ∷ 5 ∷ 0 ∷ 7 ∷ []) ∷ (20 ∷ 1 ∷ 0 ∷ 4 ∷ 0 ∷ 1 ∷ []) ∷ (20 ∷ 2 ∷ 0 ∷ 5 ∷ 4 ∷ 7 ∷ []) ∷ []),
       "refused 29 2 0 7 TypeError: unsupported operand types for +: Int and String\n",
     )
     ∷ (
+      "plain" ∷ [],
       image (("x", 0, 0, 0) ∷ [])
           ((12 ∷ 0 ∷ 1 ∷ 4 ∷ 0 ∷ 0 ∷ []) ∷ (5 ∷ 0 ∷ 2 ∷ 4 ∷ 0 ∷ 5 ∷ []) ∷ (21 ∷ 0 ∷ 0 ∷ 3 ∷ 0 ∷ 1 ∷ []) ∷ (20 ∷ 1 ∷ 0 ∷ 4 ∷ 4 ∷ 5 ∷ []) ∷ []),
       "accepted 1 0 53\n",
     )
-    ∷ ([], "refused 1 0 0 0 -\n")
+    ∷ ([], [], "refused 1 0 0 0 -\n")
+    ∷ ("strict" ∷ [], [], "refused 1 0 0 0 -\n")
+    ∷ ("Strict" ∷ [], [], "refused 13 0 0 0 -\n")
+    ∷ ("strict" ∷ "strict" ∷ [], [], "refused 13 0 0 0 -\n")
     ∷ [])
 
-pub lines-end : map (λ r. printed (r .0)) lines ≡ map (λ r. bytes (r .1)) lines
+pub lines-end : map (λ r. printed (map (λ w. bytes w) (r .0)) (r .1)) lines ≡ map (λ r. bytes (r .2)) lines
 unfolding meaning-open line-open
 lines-end = refl

@@ -1,11 +1,11 @@
 -- What comes back: "Code, place, span, sheet length, message length."
 use mathlib.Core.Bool.{true, false}
-use mathlib.Core.List.{List, [], _++_}
+use mathlib.Core.List.{List, [], _∷_, _++_}
 use mathlib.Core.Option.{Option, none, some}
 use Prim.Native.Nat.{ℕ}
 use lib.Dec.{leb}
 use lib.ListN.{length, drop}
-use Rattle.meaning.specs.Base.{if_then_else_, ifSome, base-open}
+use Rattle.meaning.specs.Base.{if_then_else_, choose, ifSome, base-open}
 use Rattle.meaning.specs.Types.{types-open}
 use Rattle.meaning.specs.Tree.{tree-open}
 use Rattle.meaning.specs.Image.{imageFault, namesOf, nodesOf, Name, Node, nodeOf, image-open}
@@ -14,7 +14,7 @@ use Rattle.meaning.specs.Message.{message, message-open}
 use Rattle.meaning.specs.Frames.{newest, frames-open}
 use Rattle.meaning.specs.Operators.{operators-open}
 use Rattle.meaning.specs.Rules.{rules-open}
-use Rattle.meaning.specs.Walk.{End, done, wrong, tooDeep, program, start, walk-open}
+use Rattle.meaning.specs.Walk.{Setting, plain, strict, End, done, wrong, tooDeep, program, start, walk-open}
 use Rattle.meaning.specs.Sheet.{Entry, sheetOf, entries, sheet-open}
 use Rattle.meaning.specs.Read.{readSheet, read-open}
 
@@ -56,14 +56,23 @@ ended ws ds sheetRoom messageRoom (wrong r s) =
     }
 ended ws ds sheetRoom messageRoom (tooDeep n) = bare 9 n
 
-unfoldable pub walked : List ℕ → End
-walked bs = program (namesOf bs) (treeOf (nodesOf bs)) start
+-- the walk over an image's program
+unfoldable pub walked : Setting → List ℕ → End
+walked setting bs = program (namesOf bs) setting (treeOf (nodesOf bs)) start
 
 -- the answer for an image and the lengths of the sheet and message buffers
-unfoldable pub answer : List ℕ → ℕ → ℕ → Answer
-answer bs sheetRoom messageRoom =
-    let sound : Answer = ended (namesOf bs) (nodesOf bs) sheetRoom messageRoom (walked bs) in
+unfoldable pub answerUnder : Setting → List ℕ → ℕ → ℕ → Answer
+answerUnder setting bs sheetRoom messageRoom =
+    let sound : Answer = ended (namesOf bs) (nodesOf bs) sheetRoom messageRoom (walked setting bs) in
     ifSome (imageFault bs) (λ f. bare (f .code) (f .place)) sound
+
+-- "The caller chooses plain or strict", by a number
+unfoldable pub settingOf : ℕ → Option Setting
+settingOf n = choose n none ((0, some plain) ∷ (1, some strict) ∷ [])
+
+-- "a setting other than the two gives 13, before code 1"
+unfoldable pub answer : ℕ → List ℕ → ℕ → ℕ → Answer
+answer n bs sheetRoom messageRoom = ifSome (settingOf n) (λ setting. answerUnder setting bs sheetRoom messageRoom) (bare 13 0)
 
 -- the reader's: "one refusal, 12, place 0, for anything else, with no buffer touched"
 unfoldable pub readAnswer : List ℕ → Answer
@@ -79,5 +88,5 @@ overlaid bs old = bs ++ drop (length bs) old
 
 -- to unfold this is to unfold every definition
 unfoldable pub meaning-open : Unit {0}
-unfolding base-open types-open tree-open image-open decode-open message-open frames-open operators-open rules-open walk-open sheet-open read-open written fitting ended walked answer readAnswer writeAnswer overlaid
+unfolding base-open types-open tree-open image-open decode-open message-open frames-open operators-open rules-open walk-open sheet-open read-open written fitting ended walked answerUnder settingOf answer readAnswer writeAnswer overlaid
 meaning-open = tt

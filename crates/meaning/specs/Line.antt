@@ -4,7 +4,7 @@ use Prim.Native.Nat.{ℕ}
 use lib.Dec.{eqb}
 use lib.ListN.{length, take}
 use Rattle.meaning.specs.Limits.{sheetBuffer, messageBuffer, readAtMost}
-use Rattle.meaning.specs.Base.{if_then_else_, bytes, decimal, word}
+use Rattle.meaning.specs.Base.{if_then_else_, bytes, sameText, decimal, word}
 use Rattle.meaning.specs.Answer.{Answer, answer}
 
 -- numbers, each after a space
@@ -26,10 +26,17 @@ refusedLine a =
 unfoldable pub lineOf : Answer → List ℕ
 lineOf a = if eqb (a .code) 0 then acceptedLine (a .sheet) else refusedLine a
 
--- what is printed for what stands on standard input: "it reads at most 59,937 bytes and judges those"
-unfoldable pub printed : List ℕ → List ℕ
-printed input = lineOf (answer (take readAtMost input) sheetBuffer messageBuffer)
+-- the setting's number by the words behind the program's name: no word is plain, `plain` and `strict` name their own, anything else is none
+-- of the two
+unfoldable pub settingTold : List (List ℕ) → ℕ
+settingTold [] = 0
+settingTold (w ∷ []) = if sameText w (bytes "plain") then 0 else if sameText w (bytes "strict") then 1 else 2
+settingTold (w ∷ v ∷ ws) = 2
+
+-- what is printed for the words and for what stands on standard input: "it reads at most 59,937 bytes and judges those"
+unfoldable pub printed : List (List ℕ) → List ℕ → List ℕ
+printed ws input = lineOf (answer (settingTold ws) (take readAtMost input) sheetBuffer messageBuffer)
 
 unfoldable pub line-open : Unit {0}
-unfolding spaced acceptedLine refusedLine lineOf printed
+unfolding spaced acceptedLine refusedLine lineOf settingTold printed
 line-open = tt

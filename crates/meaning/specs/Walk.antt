@@ -58,6 +58,12 @@ after f (done s) = done (f s)
 after f (wrong r s) = wrong r (f s)
 after f (tooDeep n) = tooDeep n
 
+-- an If's branch runs on a copy of the frames Γ: where it is refused, the walk stands at Γ
+unfoldable pub onCopy : Frames → End → End
+onCopy Γ (done s) = done s
+onCopy Γ (wrong r s) = wrong r (withFrames Γ s)
+onCopy Γ (tooDeep n) = tooDeep n
+
 unfoldable pub typed : Checked → State → (Ty → End) → End
 typed (ok t) s k = k t
 typed (refused r) s k = wrong r s
@@ -160,7 +166,7 @@ onlyIn loop c n s = if loop then done s else refuse c n [] s
 unfoldable pub overElements : ℕ → Ty → State → (Ty → End) → End
 overElements n t s k = ifSome (elementOf t) k (refuse 24 n (aType t ∷ []) s)
 
--- ---- targets and statements, over the image's names
+-- ---- targets, over the image's names
 
 module _ (ws : List Name) where
   unfoldable pub checked : Expr → State → (Ty → End) → End
@@ -194,6 +200,20 @@ module _ (ws : List Name) where
     assignEach no-exprs ts s = done s
     assignEach (e also es) ts s = assignTo e (getD ts 0 unknown) s >>= λ s′. assignEach es (tail ts) s′
 
+-- ---- the setting (document 02): "The caller chooses plain or strict; plain is unchanged."
+
+pub data Setting : Type 0 where
+  plain : Setting
+  strict : Setting
+
+-- whether bodies of If and While drop their typing errors: "01's rules", and the same "with the dropping removed"
+unfoldable pub dropping : Setting → Bool
+dropping plain = true
+dropping strict = false
+
+-- ---- statements, over the image's names and under a setting
+
+module _ (ws : List Name) (setting : Setting) where
   unfoldable mutual
     pub walk : Bool → Stmt → State → End
     walk loop (line n a) s = act loop n a s
@@ -203,30 +223,31 @@ module _ (ws : List Name) where
     act loop n continue s = onlyIn loop 21 n s
     act loop n pass s = done s
     act loop n class s = done s
-    act loop n (assign e v) s = checked v s λ t. assignTo e t s
-    act loop n (expr e) s = checked e s λ t. done s
-    act loop n (return e) s = checked e s λ t. returnRule (place e) t s
+    act loop n (assign e v) s = checked ws v s λ t. assignTo ws e t s
+    act loop n (expr e) s = checked ws e s λ t. done s
+    act loop n (return e) s = checked ws e s λ t. returnRule (place e) t s
     act loop n (ifThen arms) s = branches loop (firstCondition arms) [] arms s
     -- "While and For commit nothing."
-    act loop n (while c b) s = condition c s >>= λ s′. after (withFrames (s .frames)) (body true true b s′)
-    act loop n (for x e b) s = checked e s λ t. overElements (place e) t s λ u. after (withFrames (s .frames)) (body true false b (bind x u s))
+    act loop n (while c b) s = condition ws c s >>= λ s′. after (withFrames (s .frames)) (body true (dropping setting) b s′)
+    act loop n (for x e b) s = checked ws e s λ t. overElements (place e) t s λ u. after (withFrames (s .frames)) (body true false b (bind x u s))
     act loop n (def xs b) s = ifRoom n s (after (withReturns (s .returns)) (popped (body false false b (enter xs s))))
 
     -- "Bodies of If and While run on copies and drop their typing errors, statement by statement. A For body's errors and a Def body's
-    -- are returned."
+    -- are returned." In strict, those of If and While "shall be returned, with its own code and span, at once".
     pub body : Bool → Bool → Stmts → State → End
     body loop drops no-stmts s = done s
     body loop drops (a next as′) s = onward drops (walk loop a s) λ s′. body loop drops as′ s′
 
     pub arm : Bool → Arm → State → End
-    arm loop (on c b) s = condition c s >>= λ s′. body loop true b s′
-    arm loop (otherwise b) s = body loop true b s
+    arm loop (on c b) s = condition ws c s >>= λ s′. body loop (dropping setting) b s′
+    arm loop (otherwise b) s = body loop (dropping setting) b s
 
     -- "Every branch starts from the entry frames; elif conditions are checked there too, after the earlier bodies." s stands there, c is
     -- the first condition's node, and Δs are the frames of the branches so far. "Return types gathered in dropped bodies stay."
     pub branches : Bool → ℕ → List Frames → Arms → State → End
     branches loop c Δs no-arms s = merge ws c Δs s
-    branches loop c Δs (a or-else rest) s = arm loop a s >>= λ s₁. branches loop c (Δs ++ (s₁ .frames ∷ [])) rest (withReturns (s₁ .returns) s)
+    branches loop c Δs (a or-else rest) s =
+        onCopy (s .frames) (arm loop a s) >>= λ s₁. branches loop c (Δs ++ (s₁ .frames ∷ [])) rest (withReturns (s₁ .returns) s)
 
   -- the module's statements
   unfoldable pub program : Stmts → State → End
@@ -237,5 +258,5 @@ unfoldable pub start : State
 start = state (empty ∷ []) unknown
 
 unfoldable pub walk-open : Unit {0}
-unfolding _>>=_ onward after typed agreed assignName unpacked unpackInto returnRule sameSlot tells assigned mergeName mergeNames merge withParams enter popped ifRoom onlyIn overElements checked condition assignTo walk program start
+unfolding _>>=_ onward after onCopy typed agreed assignName unpacked unpackInto returnRule sameSlot tells assigned mergeName mergeNames merge withParams enter popped ifRoom onlyIn overElements checked condition assignTo dropping walk program start
 walk-open = tt

@@ -13,7 +13,7 @@ use Rattle.meaning.specs.Answer.{Answer, answer, overlaid}
 use Rattle.meaning.specs.Line.{spaced, lineOf}
 use Rattle.checker.specs.Answers.{rewritten}
 use Rattle.replay.specs.declared.Task.{Task}
-use Rattle.replay.specs.declared.Task.the-variants.{Images, Tight, Sheets}
+use Rattle.replay.specs.declared.Task.the-variants.{Images, Strict, Tight, Sheets}
 
 -- ---- FNV-1a 64: "start with 0xcbf29ce484222325; for each byte xor it in, then multiply by 0x100000001b3 modulo 2^64"
 
@@ -43,8 +43,8 @@ checksum sheet = bytes " #" ++ hexOf (fnvOf sheet) ++ bytes "\n"
 unfoldable pub summedLine : Answer → List ℕ
 summedLine a = if eqb (a .code) 0 then take (length (lineOf a) - 1) (lineOf a) ++ checksum (a .sheet) else lineOf a
 
-unfoldable pub checkedLine : List ℕ → ℕ → ℕ → List ℕ
-checkedLine image sheetRoom messageRoom = summedLine (answer image sheetRoom messageRoom)
+unfoldable pub checkedLine : ℕ → List ℕ → ℕ → ℕ → List ℕ
+checkedLine setting image sheetRoom messageRoom = summedLine (answer setting image sheetRoom messageRoom)
 
 -- ---- the line of a sheet: "`read`, how many names and structured types it has, and `#` and FNV-1a 64 of what writing it again must
 -- give"; or the one refusal
@@ -58,11 +58,12 @@ rewrittenLine a = if eqb (a .code) 0 then readLine (a .sheet) else lineOf a
 unfoldable pub sheetLine : List ℕ → List ℕ
 sheetLine sheet = rewrittenLine (rewritten sheet largestSheet)
 
--- ---- what a batch holds, and the rooms
+-- ---- what a batch holds, the setting and the rooms
 
 unfoldable pub lineFor : Task → List ℕ → List ℕ
-lineFor Images image = checkedLine image sheetBuffer messageBuffer
-lineFor Tight image = checkedLine image 98 69
+lineFor Images image = checkedLine 0 image sheetBuffer messageBuffer
+lineFor Strict image = checkedLine 1 image sheetBuffer messageBuffer
+lineFor Tight image = checkedLine 0 image 98 69
 lineFor Sheets sheet = sheetLine sheet
 
 -- a line stands at the front of a buffer that is as long as it was

@@ -1,12 +1,15 @@
 // Runs the stored list of T's answers against the checker, and speaks the oracle's batch form, so that any other list goes through the
 // same proved code. `replay stored` reads the list beside it and prints what differs and how many agree. `replay` prints the line of each
-// image of a batch on standard input, `replay tight` the same in the rooms of the tight list, and `replay sheets` the line of each sheet.
+// image of a batch on standard input, `replay strict` the same in strict, `replay tight` in the rooms of the tight list, and `replay
+// sheets` the line of each sheet.
 ghost use mathlib.Core.Path.{_≡_};
 ghost use mathlib.Core.Bool.{true};
 ghost use Prim.Native.Nat.{_+_, _*_, _%_, _^_, _<_, _≤_, min};
 ghost use lib.ListN.{length};
 ghost use Rattle.line.specs.Printing.{Wrote};
 ghost use Rattle.replay.specs.Lines.{fnvOf, hexOf, checksum, checkedLine, readLine, sheetLine, lineFor, Fronted};
+use checker::PLAIN;
+use checker::STRICT;
 use checker::cablebirch_write_sheet;
 use libc::STDIN_FILENO;
 use libc::STDOUT_FILENO;
@@ -70,14 +73,20 @@ fn put_checksum(out: &mut [u8], at: usize, sheet: &[u8]) -> usize
 
 // ---- the lines
 
-// The line of an image in the rooms of the two buffers that are lent, and the checksum of its sheet.
-fn summed_line(image: &[u8], sheet: &mut [u8], message: &mut [u8], out: &mut [u8]) -> usize
+// The line of an image under a setting, in the rooms of the two buffers that are lent, and the checksum of its sheet.
+fn summed_line(
+    setting: u32,
+    image: &[u8],
+    sheet: &mut [u8],
+    message: &mut [u8],
+    out: &mut [u8],
+) -> usize
     requires { ⌜ (length (now sheet) ≤ 42532) × (length (now message) ≤ 1024) ⌝ }
     requires { ⌜ 1152 ≤ length (now out) ⌝ }
-    ensures { λ r. ⌜ Fronted (checkedLine (now (image .entry)) (length (now (sheet .entry))) (length (now (message .entry))))
+    ensures { λ r. ⌜ Fronted (checkedLine setting (now (image .entry)) (length (now (sheet .entry))) (length (now (message .entry))))
         (now (out .entry)) (now (out .exit)) r ⌝ }
 {
-    let p = line::of_image(image, sheet, message, out);
+    let p = line::of_image(setting, image, sheet, message, out);
     let length = p.length;
     if p.code == 0 {
         return put_checksum(out, length - 1, text(sheet, 0, p.sheet));
@@ -85,14 +94,21 @@ fn summed_line(image: &[u8], sheet: &mut [u8], message: &mut [u8], out: &mut [u8
     length
 }
 
-fn image_line(image: &[u8], sheet_room: usize, message_room: usize, out: &mut [u8]) -> usize
+fn image_line(
+    setting: u32,
+    image: &[u8],
+    sheet_room: usize,
+    message_room: usize,
+    out: &mut [u8],
+) -> usize
     requires { ⌜ («sheet_room» ≤ 42532) × («message_room» ≤ 1024) ⌝ }
     requires { ⌜ 1152 ≤ length (now out) ⌝ }
-    ensures { λ r. ⌜ Fronted (checkedLine (now (image .entry)) «sheet_room» «message_room») (now (out .entry)) (now (out .exit)) r ⌝ }
+    ensures { λ r. ⌜ Fronted (checkedLine setting (now (image .entry)) «sheet_room» «message_room») (now (out .entry)) (now (out .exit)) r ⌝ }
 {
     let mut sheet = [0u8; 42532];
     let mut message = [0u8; 1024];
     summed_line(
+        setting,
         image,
         &mut sheet[..sheet_room],
         &mut message[..message_room],
@@ -127,9 +143,10 @@ fn sheet_line(sheet: &[u8], out: &mut [u8]) -> usize
     line::write(code, 0, 0, 0, text(&again, 0, 0), text(&again, 0, 0), out)
 }
 
-// What a batch holds, and the rooms.
+// What a batch holds, the setting and the rooms.
 pub enum Task {
     Images,
+    Strict,
     Tight,
     Sheets,
 }
@@ -140,8 +157,9 @@ fn line_of(task: Task, bytes: &[u8], out: &mut [u8]) -> usize
     ensures { λ r. ⌜ r ≤ length (now (out .exit)) ⌝ }
 {
     match task {
-        Task::Images => image_line(bytes, 42532, 1024, out),
-        Task::Tight => image_line(bytes, 98, 69, out),
+        Task::Images => image_line(PLAIN, bytes, 42532, 1024, out),
+        Task::Strict => image_line(STRICT, bytes, 42532, 1024, out),
+        Task::Tight => image_line(PLAIN, bytes, 98, 69, out),
         Task::Sheets => sheet_line(bytes, out),
     }
 }
@@ -308,12 +326,13 @@ fn are_there(got: Got, line: Line) -> bool {
 fn say_record(task: Task) {
     match task {
         Task::Images => say(b"image "),
+        Task::Strict => say(b"strict image "),
         Task::Tight => say(b"tight image "),
         Task::Sheets => say(b"sheet "),
     }
 }
 
-// Of sheets T knows nothing: there the oracle's reader is the judge.
+// Of sheets T knows nothing: there the oracle's reader is the judge. In strict it is T with its dropped errors handed on.
 fn say_judge(task: Task) {
     match task {
         Task::Sheets => say(b" / reader "),
@@ -418,16 +437,17 @@ fn replay_files(task: Task, records: &[u8], answers: &[u8]) -> Tally
 
 fn replay_stored() {
     let images = replay_files(Task::Images, b"images.batch", b"answers.txt");
+    let strict = replay_files(Task::Strict, b"images.batch", b"strict-answers.txt");
     let tight = replay_files(Task::Tight, b"tight-images.batch", b"tight-answers.txt");
     let sheets = replay_files(Task::Sheets, b"sheets.batch", b"sheets-answers.txt");
     io::print_decimal(
         STDOUT_FILENO,
-        (images.agreed + tight.agreed + sheets.agreed) as u64,
+        (images.agreed + strict.agreed + tight.agreed + sheets.agreed) as u64,
     );
     say(b" agreed, ");
     io::print_decimal(
         STDOUT_FILENO,
-        (images.differ + tight.differ + sheets.differ) as u64,
+        (images.differ + strict.differ + tight.differ + sheets.differ) as u64,
     );
     say(b" differ\n");
 }
@@ -437,6 +457,8 @@ fn main() {
     let n = os::arg(1, &mut word);
     if os::arg_count() < 2 {
         print_lines(Task::Images);
+    } else if same(&word[..n], b"strict") {
+        print_lines(Task::Strict);
     } else if same(&word[..n], b"tight") {
         print_lines(Task::Tight);
     } else if same(&word[..n], b"sheets") {
@@ -444,6 +466,6 @@ fn main() {
     } else if same(&word[..n], b"stored") {
         replay_stored();
     } else {
-        say(b"usage: replay [tight | sheets | stored]\n");
+        say(b"usage: replay [strict | tight | sheets | stored]\n");
     }
 }

@@ -9,7 +9,7 @@ use native.Mathlib.Decide.{ℕ-discrete}
 use native.Mathlib.Numerals.{sub-one, add-one}
 use Rattle.meaning.specs.Image.{Name, nodeCount, nodesOf, nodeOf, namesOf, depth}
 use Rattle.meaning.specs.Decode.{stopOf, exprAt, actAt, stmtAt, blockAt, stmtsFrom}
-use Rattle.meaning.specs.Walk.{State, state, End, done, wrong, tooDeep, onward, walk, act, body}
+use Rattle.meaning.specs.Walk.{Setting, State, state, End, done, wrong, tooDeep, onward, walk, act, body}
 use Rattle.meaning.proofs.Decoding.{stmts-down, stmts-none}
 use Rattle.meaning.proofs.Faults.{Sound}
 use Rattle.types.specs.Table.{Tab, denote}
@@ -24,20 +24,20 @@ less-one n = sub-one (suc n)
 
 -- ---- the statement of a node
 
-walked-acted : (bs : List ℕ) (loop : Bool) (d i : ℕ) (s : State) → 0 < d → walkedAt bs loop d i s ≡ acted bs loop (d - 1) i s
+walked-acted : (bs : List ℕ) (setting : Setting) (loop : Bool) (d i : ℕ) (s : State) → 0 < d → walkedAt bs setting loop d i s ≡ acted bs setting loop (d - 1) i s
 unfolding walkedAt acted walk stmtAt
-walked-acted bs loop zero i s h = absurd (omega arith)
-walked-acted bs loop (suc d) i s h = rw (less-one d)
+walked-acted bs setting loop zero i s h = absurd (omega arith)
+walked-acted bs setting loop (suc d) i s h = rw (less-one d)
 
 module _ {bs : List ℕ} {i d : ℕ} (s : Sound bs) (h : At bs i d) where
   -- node i, and what was read of it
   pub stmt-here : {k : ℕ} → k ≡ nodeOf (nodesOf bs) i .kind → Stmt bs i (d - 1) k
   stmt-here e = record { there = h .there; deep = omega (arith, h .deep, some-depth s h); kind = sym e }
 
-  pub stmt-done : (loop : Bool) (q : State) {t u : Tab} {gs : Rows} {top high got : ℕ} {su : List ℕ} {e M code place a b : ℕ}
-      → Done (namesOf bs) (acted bs loop (d - 1) i q) t u gs top high got su i e M code place a b
-      → Done (namesOf bs) (walkedAt bs loop d i q) t u gs top high got su i e M code place a b
-  stmt-done loop q a = done-as (walked-acted bs loop d i q (some-depth s h)) a
+  pub stmt-done : (setting : Setting) (loop : Bool) (q : State) {t u : Tab} {gs : Rows} {top high got : ℕ} {su : List ℕ} {e M code place a b : ℕ}
+      → Done (namesOf bs) (acted bs setting loop (d - 1) i q) t u gs top high got su i e M code place a b
+      → Done (namesOf bs) (walkedAt bs setting loop d i q) t u gs top high got su i e M code place a b
+  stmt-done setting loop q a = done-as (walked-acted bs setting loop d i q (some-depth s h)) a
 
 pub bodiless : {k : ℕ} → (k ≡ 8 → ⊥) → (k ≡ 9 → ⊥) → (k ≡ 10 → ⊥) → (k ≡ 11 → ⊥) → Bodiless k
 bodiless a b c d = record { no-if = a; no-while = b; no-for = c; no-def = d }
@@ -50,19 +50,19 @@ unfolding blockAt
 block-down bs zero i h = absurd (omega arith)
 block-down bs (suc d) i h = rw (less-one d, add-one i)
 
-pub record Loop (bs : List ℕ) (nodes : ℕ) (t : Tab) (fs : Rows) (top ret i d : ℕ) (loop drops : Bool) (u : Tab) (gs : Rows) (high got : ℕ) (su : List ℕ) (j left : ℕ) : Type 0 where
+pub record Loop (bs : List ℕ) (setting : Setting) (nodes : ℕ) (t : Tab) (fs : Rows) (top ret i d : ℕ) (loop drops : Bool) (u : Tab) (gs : Rows) (high got : ℕ) (su : List ℕ) (j left : ℕ) : Type 0 where
   pub standing : Standing bs nodes gs high u su got j (stopOf (nodesOf bs) i)
   pub within : Within bs i j left
   pub deep : 64 ≤ depth i 0 (nodesOf bs) + (d - 1)
   pub fine : Fine t u gs top high got su i j
-  pub answer : bodyAt bs loop drops d i (stateOf t fs top ret)
-      ≡ body (namesOf bs) loop drops (stmtsFrom (nodesOf bs) (λ k. stmtAt (nodesOf bs) (d - 1) k) left j) (stateOf u gs high got)
+  pub answer : bodyAt bs setting loop drops d i (stateOf t fs top ret)
+      ≡ body (namesOf bs) setting loop drops (stmtsFrom (nodesOf bs) (λ k. stmtAt (nodesOf bs) (d - 1) k) left j) (stateOf u gs high got)
 
-pub loop-first : {bs : List ℕ} {nodes : ℕ} {t : Tab} {fs : Rows} {top ret i d n : ℕ} {st : List ℕ} (loop drops : Bool)
+pub loop-first : {bs : List ℕ} {setting : Setting} {nodes : ℕ} {t : Tab} {fs : Rows} {top ret i d n : ℕ} {st : List ℕ} (loop drops : Bool)
     → Standing bs nodes fs top t st ret i (stopOf (nodesOf bs) i) → At bs i d → n ≡ nodeOf (nodesOf bs) i .children
-    → Loop bs nodes t fs top ret i d loop drops t fs top ret st (i + 1) n
+    → Loop bs setting nodes t fs top ret i d loop drops t fs top ret st (i + 1) n
 unfolding bodyAt
-loop-first {bs} {nodes} {t} {fs} {top} {ret} {i} {d} {n} loop drops r h e =
+loop-first {bs} {setting} {nodes} {t} {fs} {top} {ret} {i} {d} {n} loop drops r h e =
     let s = r .ready .sound in
     let w = wide-at s i (h .there) in
     let o = some-depth s h in
@@ -74,8 +74,8 @@ loop-first {bs} {nodes} {t} {fs} {top} {ret} {i} {d} {n} loop drops r h e =
       answer = rw (block-down bs d i o, ← e);
     }
 
-module _ {bs : List ℕ} {nodes : ℕ} {t u : Tab} {fs gs : Rows} {top ret i d : ℕ} {loop drops : Bool} {high got : ℕ} {su : List ℕ} {j left : ℕ}
-    (l : Loop bs nodes t fs top ret i d loop drops u gs high got su j left) (p : 0 < left) where
+module _ {bs : List ℕ} {setting : Setting} {nodes : ℕ} {t u : Tab} {fs gs : Rows} {top ret i d : ℕ} {loop drops : Bool} {high got : ℕ} {su : List ℕ} {j left : ℕ}
+    (l : Loop bs setting nodes t fs top ret i d loop drops u gs high got su j left) (p : 0 < left) where
   loop-child : (j < stopOf (nodesOf bs) j) × (stopOf (nodesOf bs) j ≤ stopOf (nodesOf bs) i) × (j < nodeCount bs) × Within bs i (stopOf (nodesOf bs) j) (left - 1)
   loop-child = within-child (l .standing .ready .sound) (l .within) p
 
@@ -85,23 +85,23 @@ module _ {bs : List ℕ} {nodes : ℕ} {t u : Tab} {fs gs : Rows} {top ret i d :
   pub loop-at : At bs j (d - 1)
   loop-at = within-at (l .standing .ready .sound) (l .within) (l .deep) p
 
-  loop-answer : bodyAt bs loop drops d i (stateOf t fs top ret)
-      ≡ onward drops (walkedAt bs loop (d - 1) j (stateOf u gs high got))
-      (λ s′. body (namesOf bs) loop drops (stmtsFrom (nodesOf bs) (λ k. stmtAt (nodesOf bs) (d - 1) k) (left - 1) (stopOf (nodesOf bs) j)) s′)
+  loop-answer : bodyAt bs setting loop drops d i (stateOf t fs top ret)
+      ≡ onward drops (walkedAt bs setting loop (d - 1) j (stateOf u gs high got))
+      (λ s′. body (namesOf bs) setting loop drops (stmtsFrom (nodesOf bs) (λ k. stmtAt (nodesOf bs) (d - 1) k) (left - 1) (stopOf (nodesOf bs) j)) s′)
   unfolding body walkedAt
   loop-answer = l .answer ∙ rw (stmts-down (nodesOf bs) (λ k. stmtAt (nodesOf bs) (d - 1) k) left j p)
 
   module _ {v : Tab} {hs : Rows} {peak had : ℕ} {sv : List ℕ} {code place a b : ℕ}
-      (c : Done (namesOf bs) (walkedAt bs loop (d - 1) j (stateOf u gs high got)) u v hs high peak had sv j (stopOf (nodesOf bs) j) (nodeCount bs) code place a b) where
+      (c : Done (namesOf bs) (walkedAt bs setting loop (d - 1) j (stateOf u gs high got)) u v hs high peak had sv j (stopOf (nodesOf bs) j) (nodeCount bs) code place a b) where
     -- a Def was too deep: that is the end, whatever is dropped
     pub loop-deep : code ≡ 9
-        → Done (namesOf bs) (bodyAt bs loop drops d i (stateOf t fs top ret)) t v hs top peak had sv i (stopOf (nodesOf bs) i) (nodeCount bs) code place a b
+        → Done (namesOf bs) (bodyAt bs setting loop drops d i (stateOf t fs top ret)) t v hs top peak had sv i (stopOf (nodesOf bs) i) (nodeCount bs) code place a b
     unfolding onward
     loop-deep z = too-deep z (loop-answer ∙ rw (was-deep c z)) (c .placed z)
 
     -- an error is returned
     pub loop-wrong : (code ≡ 0 → ⊥) → (code ≡ 9 → ⊥) → drops ≡ false
-        → Done (namesOf bs) (bodyAt bs loop drops d i (stateOf t fs top ret)) t v hs top peak had sv i (stopOf (nodesOf bs) i) (nodeCount bs) code place a b
+        → Done (namesOf bs) (bodyAt bs setting loop drops d i (stateOf t fs top ret)) t v hs top peak had sv i (stopOf (nodesOf bs) i) (nodeCount bs) code place a b
     unfolding onward
     loop-wrong z n y = record {
       says = loop-answer ∙ rw (was-wrong c z n, y) (sym (ended-wrong (namesOf bs) v hs peak (denote v had) code place a b z n));
@@ -111,7 +111,7 @@ module _ {bs : List ℕ} {nodes : ℕ} {t u : Tab} {fs gs : Rows} {top ret i d :
     }
 
     pub loop-next : {e : ℕ} → e ≡ stopOf (nodesOf bs) j → (code ≡ 9 → ⊥) → (code ≡ 0) ⊎ (drops ≡ true)
-        → Loop bs nodes t fs top ret i d loop drops v hs peak had sv e (left - 1)
+        → Loop bs setting nodes t fs top ret i d loop drops v hs peak had sv e (left - 1)
     loop-next z n y =
         let f = c .fine n in
         let k = loop-child in
@@ -123,11 +123,11 @@ module _ {bs : List ℕ} {nodes : ℕ} {t u : Tab} {fs gs : Rows} {top ret i d :
           answer = loop-answer ∙ goes-on c drops _ n y;
         })
 
-pub loop-end : {bs : List ℕ} {nodes : ℕ} {t u : Tab} {fs gs : Rows} {top ret i d : ℕ} {loop drops : Bool} {high got : ℕ} {su : List ℕ} {j left : ℕ}
-    → Loop bs nodes t fs top ret i d loop drops u gs high got su j left → left ≤ 0
-    → Done (namesOf bs) (bodyAt bs loop drops d i (stateOf t fs top ret)) t u gs top high got su i (stopOf (nodesOf bs) i) (nodeCount bs) 0 0 0 0
+pub loop-end : {bs : List ℕ} {setting : Setting} {nodes : ℕ} {t u : Tab} {fs gs : Rows} {top ret i d : ℕ} {loop drops : Bool} {high got : ℕ} {su : List ℕ} {j left : ℕ}
+    → Loop bs setting nodes t fs top ret i d loop drops u gs high got su j left → left ≤ 0
+    → Done (namesOf bs) (bodyAt bs setting loop drops d i (stateOf t fs top ret)) t u gs top high got su i (stopOf (nodesOf bs) i) (nodeCount bs) 0 0 0 0
 unfolding body stmtsFrom
-loop-end {bs} {nodes} {t} {u} {fs} {gs} {top} {ret} {i} {d} {loop} {drops} {high} {got} {su} {j} {left} l z =
+loop-end {bs} {setting} {nodes} {t} {u} {fs} {gs} {top} {ret} {i} {d} {loop} {drops} {high} {got} {su} {j} {left} l z =
     let o : left ≡ 0 = omega arith in
     record {
       says = (rw o at (l .answer)) ∙ sym (ended-done (namesOf bs) u gs high (denote u got) 0 0 0 0 refl);

@@ -17,7 +17,7 @@ use Rattle.meaning.specs.Image.{Name, plain, nameOf, nodeCount, nodesOf, nodeOf
 use Rattle.meaning.specs.Decode.{stopOf, armsFrom, exprAt, blockAt}
 use Rattle.meaning.specs.Message.{Piece, aType, aText, aNumber, refusal}
 use Rattle.meaning.specs.Frames.{Frames}
-use Rattle.meaning.specs.Walk.{State, state, End, done, wrong, tooDeep, refuse, _>>=_, condition, act, arm, branches}
+use Rattle.meaning.specs.Walk.{Setting, dropping, State, state, End, done, wrong, tooDeep, refuse, _>>=_, onCopy, condition, act, arm, branches}
 use Rattle.meaning.proofs.Decoding.{if-at, arms-down}
 use Rattle.meaning.proofs.Faults.{Sound}
 use Rattle.types.specs.Table.{Tab, tab, Grown, denote}
@@ -29,7 +29,7 @@ use Rattle.frames.proofs.Merging.{Tally, tally-none, tally-grown, tally-next, m
 use Rattle.rules.specs.Outcome.{typesNamed, pieces}
 use Rattle.expr.specs.Contract.{Ready, At}
 use Rattle.targets.specs.Ending.{ended, Named, Left, Assigned}
-use Rattle.stmt.specs.Contract.{stateOf, acted, bodyAt, conditionAt, armBlock, armedAt, Standing, Stmt, Branch, Within, Fine, Done, Armed}
+use Rattle.stmt.specs.Contract.{stateOf, acted, bodyAt, conditionAt, armBlock, armedAt, Standing, Stmt, Branch, Within, Fine, Done}
 use Rattle.stmt.proofs.Laws.{ended-done, ended-wrong, was-done, was-deep, was-wrong, too-deep, named-well, left-refl, left-trans, left-wider, left-rows, done-as, done-wider, ready-within, ready-next, place-at, wide-at, within-all, within-le, within-end, within-child, within-at, count-if}
 
 -- ---- one branch
@@ -92,15 +92,11 @@ module _ {bs : List ℕ} {nodes : ℕ} {t : Tab} {fs : Rows} {top : ℕ} {st : L
     pub last-standing : Standing bs nodes fs top t st ret i (stopOf (nodesOf bs) i)
     last-standing = rw (block-last bs n i p) at r
 
-    pub arm-last : {u : Tab} {gs : Rows} {high got : ℕ} {su : List ℕ} {code place′ a b : ℕ}
-        → Done (namesOf bs) (bodyAt bs loop true d i (stateOf t fs top ret)) t u gs top high got su i (stopOf (nodesOf bs) i) (nodeCount bs) code place′ a b
-        → (true ≡ true → (code ≡ 9 → ⊥) → code ≡ 0)
-        → Armed (namesOf bs) (armedAt bs loop d n i (stateOf t fs top ret)) t u fs gs top high ret got su i (stopOf (nodesOf bs) (armBlock bs n i)) (nodeCount bs) code place′ a b
+    pub arm-last : (setting : Setting) {drops : Bool} {u : Tab} {gs : Rows} {high got : ℕ} {su : List ℕ} {code place′ a b : ℕ} → dropping setting ≡ drops
+        → Done (namesOf bs) (bodyAt bs setting loop drops d i (stateOf t fs top ret)) t u gs top high got su i (stopOf (nodesOf bs) i) (nodeCount bs) code place′ a b
+        → Done (namesOf bs) (armedAt bs setting loop d n i (stateOf t fs top ret)) t u gs top high got su i (stopOf (nodesOf bs) (armBlock bs n i)) (nodeCount bs) code place′ a b
     unfolding armedAt bodyAt arm if_then_else_
-    arm-last c q = record {
-      done = rw (block-last bs n i p) (done-as (rw (le-ltb 1 n p)) c);
-      entry = λ z y. absurd (z (q refl y));
-    }
+    arm-last setting y c = rw (block-last bs n i p) (done-as (rw (le-ltb 1 n p, ← y)) c)
 
   -- a branch with a condition
   module _ (p : 1 < n) where
@@ -112,25 +108,23 @@ module _ {bs : List ℕ} {nodes : ℕ} {t : Tab} {fs : Rows} {top : ℕ} {st : L
     pub when-ready : Ready bs nodes fs top t st 0 i (stopOf (nodesOf bs) i)
     when-ready = ready-within (r .ready) (omega arith) (omega (arith, when-wide))
 
-    when-is : armedAt bs loop d n i (stateOf t fs top ret) ≡ (conditionAt bs d i (stateOf t fs top ret) >>= λ s. bodyAt bs loop true d (stopOf (nodesOf bs) i) s)
+    when-is : (setting : Setting) → armedAt bs setting loop d n i (stateOf t fs top ret)
+        ≡ (conditionAt bs d i (stateOf t fs top ret) >>= λ s. bodyAt bs setting loop (dropping setting) d (stopOf (nodesOf bs) i) s)
     unfolding armedAt conditionAt bodyAt arm if_then_else_
-    when-is = rw (lt-ltb 1 n p)
+    when-is setting = rw (lt-ltb 1 n p)
 
     module _ {u : Tab} {su : List ℕ} {code place′ a b : ℕ}
         (c : Assigned (namesOf bs) (λ y. conditionAt bs d i (state (framesOf t fs top) y)) t u fs top su i (stopOf (nodesOf bs) i) (nodeCount bs) code place′ a b) where
-      pub arm-bad : (code ≡ 0 → ⊥)
-          → Armed (namesOf bs) (armedAt bs loop d n i (stateOf t fs top ret)) t u fs fs top top ret ret su i (stopOf (nodesOf bs) (armBlock bs n i)) (nodeCount bs) code place′ a b
+      pub arm-bad : (setting : Setting) → (code ≡ 0 → ⊥)
+          → Done (namesOf bs) (armedAt bs setting loop d n i (stateOf t fs top ret)) t u fs top top ret su i (stopOf (nodesOf bs) (armBlock bs n i)) (nodeCount bs) code place′ a b
       unfolding _>>=_
-      arm-bad z =
+      arm-bad setting z =
           let w = ended-wrong (namesOf bs) u fs top (denote t ret) code place′ a b z (c .typing) in
           record {
-            done = record {
-              says = when-is ∙ rw (c .says (denote t ret), w) (sym w ∙ rw (c .left .grown .same ret (r .kept)));
-              fine = λ _. record { left = left-wider (c .left) (omega arith) (omega (arith, when-wide)); kept = omega (arith, r .kept, c .left .grown .more); raised = omega arith };
-              named = λ _. c .named;
-              placed = λ x. absurd (c .typing x);
-            };
-            entry = λ _ _. (refl, refl, refl);
+            says = when-is setting ∙ rw (c .says (denote t ret), w) (sym w ∙ rw (c .left .grown .same ret (r .kept)));
+            fine = λ _. record { left = left-wider (c .left) (omega arith) (omega (arith, when-wide)); kept = omega (arith, r .kept, c .left .grown .more); raised = omega arith };
+            named = λ _. c .named;
+            placed = λ x. absurd (c .typing x);
           }
 
       module _ {k : ℕ} (o : k ≡ stopOf (nodesOf bs) i) where
@@ -144,30 +138,26 @@ module _ {bs : List ℕ} {nodes : ℕ} {t : Tab} {fs : Rows} {top : ℕ} {st : L
             let m : Ready bs nodes fs top t st 0 i (stopOf (nodesOf bs) k) = rw e at (r .ready) in
             record { ready = ready-next m l (omega (arith, when-wide, o)); kept = omega (arith, r .kept, c .left .grown .more) }
 
-        pub arm-done : {v : Tab} {gs : Rows} {high got : ℕ} {sv : List ℕ} {code′ place″ a′ b′ : ℕ} → code ≡ 0
-            → Done (namesOf bs) (bodyAt bs loop true d k (stateOf u fs top ret)) u v gs top high got sv k (stopOf (nodesOf bs) k) (nodeCount bs) code′ place″ a′ b′
-            → (true ≡ true → (code′ ≡ 9 → ⊥) → code′ ≡ 0)
-            → Armed (namesOf bs) (armedAt bs loop d n i (stateOf t fs top ret)) t v fs gs top high ret got sv i (stopOf (nodesOf bs) (armBlock bs n i)) (nodeCount bs) code′ place″ a′ b′
+        pub arm-done : (setting : Setting) {drops : Bool} {v : Tab} {gs : Rows} {high got : ℕ} {sv : List ℕ} {code′ place″ a′ b′ : ℕ} → dropping setting ≡ drops → code ≡ 0
+            → Done (namesOf bs) (bodyAt bs setting loop drops d k (stateOf u fs top ret)) u v gs top high got sv k (stopOf (nodesOf bs) k) (nodeCount bs) code′ place″ a′ b′
+            → Done (namesOf bs) (armedAt bs setting loop d n i (stateOf t fs top ret)) t v gs top high got sv i (stopOf (nodesOf bs) (armBlock bs n i)) (nodeCount bs) code′ place″ a′ b′
         unfolding _>>=_
-        arm-done z e q =
+        arm-done setting y z e =
             let m : armBlock bs n i ≡ k = block-when bs n i p ∙ sym o in
             let l : Left t u fs top su i k = rw o (c .left) in
             record {
-              done = record {
-                says = when-is
-                    ∙ rw (c .says (denote t ret), ended-done (namesOf bs) u fs top (denote t ret) code place′ a b z, ← o, ← (c .left .grown .same ret (r .kept))) (e .says);
-                fine = λ y.
-                    let f = e .fine y in
-                    rw m (record { left = left-trans l (f .left); kept = f .kept; raised = f .raised });
-                named = e .named;
-                placed = e .placed;
-              };
-              entry = λ y x. absurd (y (q refl x));
+              says = when-is setting
+                  ∙ rw (y, c .says (denote t ret), ended-done (namesOf bs) u fs top (denote t ret) code place′ a b z, ← o, ← (c .left .grown .same ret (r .kept))) (e .says);
+              fine = λ x.
+                  let f = e .fine x in
+                  rw m (record { left = left-trans l (f .left); kept = f .kept; raised = f .raised });
+              named = e .named;
+              placed = e .placed;
             }
 
 -- ---- the loop of `choices`: Δs are the frames of the branches so far, as ms and cs tell
 
-pub record Choosing (bs : List ℕ) (nodes : ℕ) (t : Tab) (fs : Rows) (top ret i d : ℕ) (loop : Bool) (u : Tab) (got : ℕ) (su ms : List ℕ) (cs : List Bool) (j left : ℕ) : Type 0 where
+pub record Choosing (bs : List ℕ) (setting : Setting) (nodes : ℕ) (t : Tab) (fs : Rows) (top ret i d : ℕ) (loop : Bool) (u : Tab) (got : ℕ) (su ms : List ℕ) (cs : List Bool) (j left : ℕ) : Type 0 where
   pub standing : Standing bs nodes fs top u su got j (stopOf (nodesOf bs) i)
   pub within : Within bs i j left
   pub deep : 64 ≤ depth i 0 (nodesOf bs) + d
@@ -175,23 +165,23 @@ pub record Choosing (bs : List ℕ) (nodes : ℕ) (t : Tab) (fs : Rows) (top ret
   pub same : framesOf u fs top ≡ framesOf t fs top
   pub so-far : List Frames
   pub tally : Tally u (framesOf t fs top) so-far ms cs
-  pub answer : acted bs loop d i (stateOf t fs top ret)
-      ≡ branches (namesOf bs) loop (i + 1) so-far (armsFrom (nodesOf bs) (λ k. exprAt (nodesOf bs) d k) (λ k. blockAt (nodesOf bs) d k) left j) (state (framesOf t fs top) (denote u got))
+  pub answer : acted bs setting loop d i (stateOf t fs top ret)
+      ≡ branches (namesOf bs) setting loop (i + 1) so-far (armsFrom (nodesOf bs) (λ k. exprAt (nodesOf bs) d k) (λ k. blockAt (nodesOf bs) d k) left j) (state (framesOf t fs top) (denote u got))
 
 -- the same with an equal table and return type
-pub choosing-as : {bs : List ℕ} {nodes : ℕ} {t : Tab} {fs : Rows} {top ret i d : ℕ} {loop : Bool} {u v : Tab} {got had : ℕ} {su ms : List ℕ} {cs : List Bool} {j left : ℕ}
-    → v ≡ u → had ≡ got → Choosing bs nodes t fs top ret i d loop u got su ms cs j left → Choosing bs nodes t fs top ret i d loop v had su ms cs j left
+pub choosing-as : {bs : List ℕ} {setting : Setting} {nodes : ℕ} {t : Tab} {fs : Rows} {top ret i d : ℕ} {loop : Bool} {u v : Tab} {got had : ℕ} {su ms : List ℕ} {cs : List Bool} {j left : ℕ}
+    → v ≡ u → had ≡ got → Choosing bs setting nodes t fs top ret i d loop u got su ms cs j left → Choosing bs setting nodes t fs top ret i d loop v had su ms cs j left
 choosing-as o p l = rw (o, p) l
 
 first-condition : (bs : List ℕ) (e : ℕ → Expr) (b : ℕ → Stmts) (n i : ℕ) → 1 < n → firstCondition (armsFrom (nodesOf bs) e b n i) ≡ place (e i)
 unfolding firstCondition
 first-condition bs e b n i p = rw (arms-down (nodesOf bs) e b n i p)
 
-pub choosing-first : {bs : List ℕ} {nodes : ℕ} {t : Tab} {fs : Rows} {top : ℕ} {st : List ℕ} {ret i d n : ℕ} (loop : Bool)
+pub choosing-first : {bs : List ℕ} {setting : Setting} {nodes : ℕ} {t : Tab} {fs : Rows} {top : ℕ} {st : List ℕ} {ret i d n : ℕ} (loop : Bool)
     → Standing bs nodes fs top t st ret i (stopOf (nodesOf bs) i) → Stmt bs i d 8 → n ≡ nodeOf (nodesOf bs) i .children
-    → Choosing bs nodes t fs top ret i d loop t ret st (replicate 128 0) (replicate 128 false) (i + 1) n
+    → Choosing bs setting nodes t fs top ret i d loop t ret st (replicate 128 0) (replicate 128 false) (i + 1) n
 unfolding acted act armsFrom
-choosing-first {bs} {nodes} {t} {fs} {top} {st} {ret} {i} {d} {n} loop r q e =
+choosing-first {bs} {setting} {nodes} {t} {fs} {top} {st} {ret} {i} {d} {n} loop r q e =
     let s = r .ready .sound in
     let w = wide-at s i (q .there) in
     let many : 1 < n = rw e (count-if s q) in
@@ -212,8 +202,8 @@ choosing-first {bs} {nodes} {t} {fs} {top} {st} {ret} {i} {d} {n} loop r q e =
       );
     }
 
-module _ {bs : List ℕ} {nodes : ℕ} {t : Tab} {fs : Rows} {top ret i d : ℕ} {loop : Bool} {u : Tab} {got : ℕ} {su ms : List ℕ} {cs : List Bool} {j left : ℕ}
-    (l : Choosing bs nodes t fs top ret i d loop u got su ms cs j left) (p : 0 < left) where
+module _ {bs : List ℕ} {setting : Setting} {nodes : ℕ} {t : Tab} {fs : Rows} {top ret i d : ℕ} {loop : Bool} {u : Tab} {got : ℕ} {su ms : List ℕ} {cs : List Bool} {j left : ℕ}
+    (l : Choosing bs setting nodes t fs top ret i d loop u got su ms cs j left) (p : 0 < left) where
   choosing-step : Step bs i j left d
   choosing-step = step (l .standing .ready .sound) (l .within) (l .deep) p
 
@@ -223,52 +213,50 @@ module _ {bs : List ℕ} {nodes : ℕ} {t : Tab} {fs : Rows} {top ret i d : ℕ}
   pub choosing-standing : Standing bs nodes fs top u su got j (stopOf (nodesOf bs) (armBlock bs left j))
   choosing-standing = record { ready = ready-within (l .standing .ready) (omega arith) (choosing-step .inside); kept = l .standing .kept }
 
-  choosing-answer : acted bs loop d i (stateOf t fs top ret)
-      ≡ (armedAt bs loop d left j (stateOf u fs top got)
-      >>= λ s₁. branches (namesOf bs) loop (i + 1) (l .so-far ++ (s₁ .frames ∷ []))
+  choosing-answer : acted bs setting loop d i (stateOf t fs top ret)
+      ≡ (onCopy (framesOf t fs top) (armedAt bs setting loop d left j (stateOf u fs top got))
+      >>= λ s₁. branches (namesOf bs) setting loop (i + 1) (l .so-far ++ (s₁ .frames ∷ []))
       (armsFrom (nodesOf bs) (λ k. exprAt (nodesOf bs) d k) (λ k. blockAt (nodesOf bs) d k) (left - 2) (stopOf (nodesOf bs) (armBlock bs left j)))
       (state (framesOf t fs top) (s₁ .returns)))
   unfolding branches armedAt
   choosing-answer = l .answer ∙ rw (arms-step bs (λ k. exprAt (nodesOf bs) d k) (λ k. blockAt (nodesOf bs) d k) left j p, l .same)
 
   module _ {v : Tab} {hs : Rows} {peak had : ℕ} {sv : List ℕ} {code place′ a b : ℕ}
-      (c : Armed (namesOf bs) (armedAt bs loop d left j (stateOf u fs top got)) u v fs hs top peak got had sv j (stopOf (nodesOf bs) (armBlock bs left j)) (nodeCount bs) code place′ a b) where
+      (c : Done (namesOf bs) (armedAt bs setting loop d left j (stateOf u fs top got)) u v hs top peak had sv j (stopOf (nodesOf bs) (armBlock bs left j)) (nodeCount bs) code place′ a b) where
     -- the base frames over the table that the branch left
     choosing-left : (code ≡ 9 → ⊥) → Left t v fs top sv i (stopOf (nodesOf bs) (armBlock bs left j))
-    choosing-left y = left-trans (l .spent) (left-rows (l .spent .fit) (c .done .fine y .left))
+    choosing-left y = left-trans (l .spent) (left-rows (l .spent .fit) (c .fine y .left))
 
     choosing-same : (code ≡ 9 → ⊥) → framesOf v fs top ≡ framesOf t fs top
-    choosing-same y = frames-grown (c .done .fine y .left .grown) (l .spent .fit) ∙ l .same
+    choosing-same y = frames-grown (c .fine y .left .grown) (l .spent .fit) ∙ l .same
 
-    -- a dropped body ends well or too deep, so this is the condition's refusal
+    -- a refusal of the condition or, where it is not dropped, in the body: the branch's copy of the frames is thrown away
     pub choosing-out : (code ≡ 0 → ⊥)
-        → Done (namesOf bs) (acted bs loop d i (stateOf t fs top ret)) t v fs top top had sv i (stopOf (nodesOf bs) i) (nodeCount bs) code place′ a b
-    unfolding _>>=_
+        → Done (namesOf bs) (acted bs setting loop d i (stateOf t fs top ret)) t v fs top top had sv i (stopOf (nodesOf bs) i) (nodeCount bs) code place′ a b
+    unfolding onCopy _>>=_
     choosing-out z = elim (ℕ-discrete code 9) [
-      | yes y ↦ too-deep y (choosing-answer ∙ rw (was-deep (c .done) y)) (c .done .placed y)
-      | no y ↦
-          let o = c .entry z y in
-          record {
-            says = choosing-answer
-                ∙ rw (was-wrong (c .done) z y, o .0, o .1) (sym (ended-wrong (namesOf bs) v fs top (denote v had) code place′ a b z y));
-            fine = λ _. record {
-              left = left-wider (choosing-left y) (omega arith) (choosing-step .inside);
-              kept = c .done .fine y .kept;
-              raised = omega arith;
-            };
-            named = c .done .named;
-            placed = c .done .placed;
-          }
+      | yes y ↦ too-deep y (choosing-answer ∙ rw (was-deep c y)) (c .placed y)
+      | no y ↦ record {
+        says = choosing-answer
+            ∙ rw (was-wrong c z y, ← (choosing-same y)) (sym (ended-wrong (namesOf bs) v fs top (denote v had) code place′ a b z y));
+        fine = λ _. record {
+          left = left-wider (choosing-left y) (omega arith) (choosing-step .inside);
+          kept = c .fine y .kept;
+          raised = omega arith;
+        };
+        named = c .named;
+        placed = c .placed;
+      }
     ]
 
     pub choosing-next : {ns : List ℕ} {ds : List Bool} {e k high : ℕ} → e ≡ stopOf (nodesOf bs) (armBlock bs left j) → k ≡ left - 2 → code ≡ 0 → high ≡ peak
         → Noted (getD fs top []) (getD hs high []) ms cs ns ds 128
-        → Choosing bs nodes t fs top ret i d loop v had sv ns ds e k
-    unfolding _>>=_
+        → Choosing bs setting nodes t fs top ret i d loop v had sv ns ds e k
+    unfolding onCopy _>>=_
     choosing-next {ns} {ds} {e} {k} z y o h n′ =
         let n = rw h at n′ in
         let x : code ≡ 9 → ⊥ = λ x. omega arith in
-        let f = c .done .fine x in
+        let f = c .fine x in
         let m = left-rows (l .spent .fit) (f .left) in
         let q = choosing-step in
         rw (z, y) (record {
@@ -279,7 +267,7 @@ module _ {bs : List ℕ} {nodes : ℕ} {t : Tab} {fs : Rows} {top ret i d : ℕ}
           same = choosing-same x;
           so-far = l .so-far ++ (framesOf v hs peak ∷ []);
           tally = tally-next (f .left .grown .wf) (m .fit) (f .left .fit) (sym (choosing-same x)) (tally-grown (f .left .grown) (l .tally)) n;
-          answer = choosing-answer ∙ rw (was-done (c .done) o);
+          answer = choosing-answer ∙ rw (was-done c o);
         })
 
 -- ---- the name of a clash is one of 128: with names spelt like none, the merge's own refusal would tell it
@@ -365,11 +353,11 @@ merge-shallow : (m : Merge) → mergeCode m ≡ 9 → ⊥
 merge-shallow Whole e = absurd (omega arith)
 merge-shallow (Clash x) e = absurd (omega arith)
 
-pub choosing-end : {bs : List ℕ} {nodes : ℕ} {t : Tab} {fs gs : Rows} {top ret i d : ℕ} {loop : Bool} {u : Tab} {got : ℕ} {su ms : List ℕ} {cs : List Bool} {j left : ℕ} {m : Merge}
-    → Stmt bs i d 8 → Choosing bs nodes t fs top ret i d loop u got su ms cs j left → left ≤ 0 → Committed fs gs top ms cs m
-    → Done (namesOf bs) (acted bs loop d i (stateOf t fs top ret)) t u gs top top got su i (stopOf (nodesOf bs) i) (nodeCount bs) (mergeCode m) (i + 1) (clashName m) 0
+pub choosing-end : {bs : List ℕ} {setting : Setting} {nodes : ℕ} {t : Tab} {fs gs : Rows} {top ret i d : ℕ} {loop : Bool} {u : Tab} {got : ℕ} {su ms : List ℕ} {cs : List Bool} {j left : ℕ} {m : Merge}
+    → Stmt bs i d 8 → Choosing bs setting nodes t fs top ret i d loop u got su ms cs j left → left ≤ 0 → Committed fs gs top ms cs m
+    → Done (namesOf bs) (acted bs setting loop d i (stateOf t fs top ret)) t u gs top top got su i (stopOf (nodesOf bs) i) (nodeCount bs) (mergeCode m) (i + 1) (clashName m) 0
 unfolding branches armsFrom
-choosing-end {bs} {nodes} {t} {fs} {gs} {top} {ret} {i} {d} {loop} {u} {got} {su} {ms} {cs} {j} {left} {m} q l z c =
+choosing-end {bs} {setting} {nodes} {t} {fs} {gs} {top} {ret} {i} {d} {loop} {u} {got} {su} {ms} {cs} {j} {left} {m} q l z c =
     let o : left ≡ 0 = omega arith in
     let s = l .standing .ready .sound in
     let e = l .spent in

@@ -11,7 +11,7 @@ use Rattle.meaning.specs.Base.{if_then_else_}
 use Rattle.meaning.specs.Types.{Ty}
 use Rattle.meaning.specs.Image.{Name, nodeCount}
 use Rattle.meaning.specs.Operators.{Checked}
-use Rattle.meaning.specs.Walk.{End}
+use Rattle.meaning.specs.Walk.{Setting, End}
 use Rattle.meaning.proofs.Faults.{Sound}
 use Rattle.types.specs.Table.{Tab, tab}
 use Rattle.types.specs.Reading.{Agreement, ElementOf}
@@ -21,7 +21,7 @@ use Rattle.nodes.proofs.Noting.{number-well, went-well, refused-verdict, refuse
 use Rattle.expr.specs.Contract.{Ready, At}
 use Rattle.expr.specs.Contract.{Done as Typed}
 use Rattle.targets.specs.Ending.{Assigned}
-use Rattle.stmt.specs.Contract.{stateOf, acted, walkedAt, bodyAt, armedAt, Tells, Outside, Standing, Done, Armed, Iterated, Ran}
+use Rattle.stmt.specs.Contract.{stateOf, acted, walkedAt, bodyAt, armedAt, Tells, Outside, Standing, Done, Iterated, Ran}
 use Rattle.stmt.proofs.Laws.{never, few-nodes, done-any}
 
 -- ---- stores to the cells of the return type and the newest frame
@@ -185,36 +185,33 @@ pub done-ends : {ws : List Name} {r : End} {t u v : Tab} {gs : Rows} {top high p
 done-ends o p q d = rw (o, p, q) d
 
 -- a body that was walked from an equal state
-pub body-from : (bs : List ℕ) (loop drops : Bool) (d k : ℕ) {ws : List Name} {t v u : Tab} (fs : Rows) {gs : Rows} {top w high ret had got : ℕ} {su : List ℕ} {i e M code place a b : ℕ}
+pub body-from : (bs : List ℕ) (setting : Setting) (loop drops : Bool) (d k : ℕ) {ws : List Name} {t v u : Tab} (fs : Rows) {gs : Rows} {top w high ret had got : ℕ} {su : List ℕ} {i e M code place a b : ℕ}
     → v ≡ t → w ≡ top → had ≡ ret
-    → Done ws (bodyAt bs loop drops d k (stateOf v fs w had)) v u gs w high got su i e M code place a b
-    → Done ws (bodyAt bs loop drops d k (stateOf t fs top ret)) t u gs top high got su i e M code place a b
-body-from bs loop drops l k fs o p q d = rw (← o, ← p, ← q) d
+    → Done ws (bodyAt bs setting loop drops d k (stateOf v fs w had)) v u gs w high got su i e M code place a b
+    → Done ws (bodyAt bs setting loop drops d k (stateOf t fs top ret)) t u gs top high got su i e M code place a b
+body-from bs setting loop drops l k fs o p q d = rw (← o, ← p, ← q) d
 
 -- a statement, by a number that is its top
-pub acted-from : (bs : List ℕ) (loop : Bool) (d i : ℕ) {ws : List Name} {t u : Tab} (fs : Rows) {gs : Rows} {top w high : ℕ} (ret : ℕ) {got : ℕ} {su : List ℕ} {k e M code place a b : ℕ}
-    → w ≡ top → Done ws (acted bs loop d i (stateOf t fs w ret)) t u gs w high got su k e M code place a b
-    → Done ws (acted bs loop d i (stateOf t fs top ret)) t u gs top high got su k e M code place a b
-acted-from bs loop l i fs ret o d = rw (← o) d
+pub acted-from : (bs : List ℕ) (setting : Setting) (loop : Bool) (d i : ℕ) {ws : List Name} {t u : Tab} (fs : Rows) {gs : Rows} {top w high : ℕ} (ret : ℕ) {got : ℕ} {su : List ℕ} {k e M code place a b : ℕ}
+    → w ≡ top → Done ws (acted bs setting loop d i (stateOf t fs w ret)) t u gs w high got su k e M code place a b
+    → Done ws (acted bs setting loop d i (stateOf t fs top ret)) t u gs top high got su k e M code place a b
+acted-from bs setting loop l i fs ret o d = rw (← o) d
 
-pub walked-from : (bs : List ℕ) (loop : Bool) (d i : ℕ) {ws : List Name} {t v u : Tab} (fs : Rows) {gs : Rows} {top w high ret had got : ℕ} {su : List ℕ} {k e M code place a b : ℕ}
+pub walked-from : (bs : List ℕ) (setting : Setting) (loop : Bool) (d i : ℕ) {ws : List Name} {t v u : Tab} (fs : Rows) {gs : Rows} {top w high ret had got : ℕ} {su : List ℕ} {k e M code place a b : ℕ}
     → v ≡ t → w ≡ top → had ≡ ret
-    → Done ws (walkedAt bs loop d i (stateOf v fs w had)) v u gs w high got su k e M code place a b
-    → Done ws (walkedAt bs loop d i (stateOf t fs top ret)) t u gs top high got su k e M code place a b
-walked-from bs loop l i fs o p q d = rw (← o, ← p, ← q) d
+    → Done ws (walkedAt bs setting loop d i (stateOf v fs w had)) v u gs w high got su k e M code place a b
+    → Done ws (walkedAt bs setting loop d i (stateOf t fs top ret)) t u gs top high got su k e M code place a b
+walked-from bs setting loop l i fs o p q d = rw (← o, ← p, ← q) d
 
-pub armed-from : (bs : List ℕ) (loop : Bool) (d n i : ℕ) {ws : List Name} {t u : Tab} {fs gs : Rows} {top w high ret got : ℕ} {su : List ℕ} {k e M code place a b : ℕ}
-    → w ≡ top → Armed ws (armedAt bs loop d n i (stateOf t fs w ret)) t u fs gs w high ret got su k e M code place a b
-    → Armed ws (armedAt bs loop d n i (stateOf t fs top ret)) t u fs gs top high ret got su k e M code place a b
-armed-from bs loop l n i o d = rw (← o) d
+-- a branch
+pub armed-from : (bs : List ℕ) (setting : Setting) (loop : Bool) (d n i : ℕ) {ws : List Name} {t u : Tab} (fs : Rows) {gs : Rows} {top w high : ℕ} (ret : ℕ) {got : ℕ} {su : List ℕ} {k e M code place a b : ℕ}
+    → w ≡ top → Done ws (armedAt bs setting loop d n i (stateOf t fs w ret)) t u gs w high got su k e M code place a b
+    → Done ws (armedAt bs setting loop d n i (stateOf t fs top ret)) t u gs top high got su k e M code place a b
+armed-from bs setting loop l n i fs ret o d = rw (← o) d
 
-pub armed-ends : {ws : List Name} {r : End} {t u : Tab} {fs gs : Rows} {top high peak ret got had : ℕ} {su : List ℕ} {i e M code place a b : ℕ}
-    → peak ≡ high → had ≡ got → Armed ws r t u fs gs top high ret got su i e M code place a b → Armed ws r t u fs gs top peak ret had su i e M code place a b
-armed-ends o p d = rw (o, p) d
-
-pub ran-as : {bs : List ℕ} {t : Tab} {cells ms : List ℕ} {gs : Rows} {n m top high : ℕ} {su : List ℕ} {code place a b code′ place′ a′ b′ : ℕ}
+pub ran-as : {bs : List ℕ} {setting : Setting} {t : Tab} {cells ms : List ℕ} {gs : Rows} {n m top high : ℕ} {su : List ℕ} {code place a b code′ place′ a′ b′ : ℕ}
     → Noting ms → n ≡ typesIn ms → m ≡ elementsIn ms → high ≡ top → code′ ≡ code → place′ ≡ place → a′ ≡ a → b′ ≡ b
-    → Ran bs t (tabIn cells ms) gs top su code place a b → Ran bs t (tab cells n m) gs high su code′ place′ a′ b′
+    → Ran bs setting t (tabIn cells ms) gs top su code place a b → Ran bs setting t (tab cells n m) gs high su code′ place′ a′ b′
 ran-as l o p q x y z w r = rw (o, p, q, x, y, z, w) r
 
 -- ---- an end is told by other notes

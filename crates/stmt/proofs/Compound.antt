@@ -18,7 +18,7 @@ use Rattle.meaning.specs.Decode.{stopOf, past, paramsFrom, exprAt, blockAt}
 use Rattle.meaning.specs.Message.{aType, refusal}
 use Rattle.meaning.specs.Frames.{Frame, Frames, empty, write}
 use Rattle.meaning.specs.Rules.{elementOf, check}
-use Rattle.meaning.specs.Walk.{State, state, withFrames, withReturns, End, done, wrong, tooDeep, _>>=_, after, checked, condition, overElements, withParams, enter, popped, ifRoom, act, body}
+use Rattle.meaning.specs.Walk.{Setting, dropping, State, state, withFrames, withReturns, End, done, wrong, tooDeep, _>>=_, after, checked, condition, overElements, withParams, enter, popped, ifRoom, act, body}
 use Rattle.meaning.proofs.Decoding.{while-at, for-at, def-at}
 use Rattle.meaning.proofs.Faults.{Sound}
 use Rattle.types.specs.Table.{Tab, Wf, Grown, denote}
@@ -163,29 +163,29 @@ module _ {bs : List ℕ} {nodes : ℕ} {t : Tab} {fs : Rows} {top : ℕ} {st : L
 -- ---- While
 
 module _ {bs : List ℕ} {nodes : ℕ} {t : Tab} {fs : Rows} {top : ℕ} {st : List ℕ} {ret i d : ℕ} (r : Standing bs nodes fs top t st ret i (stopOf (nodesOf bs) i)) (q : Stmt bs i d 9) where
-  while-is : (loop : Bool) → acted bs loop d i (stateOf t fs top ret)
-      ≡ (conditionAt bs d (i + 1) (stateOf t fs top ret) >>= λ s. after (withFrames (framesOf t fs top)) (bodyAt bs true true d (stopOf (nodesOf bs) (i + 1)) s))
+  while-is : (setting : Setting) (loop : Bool) → acted bs setting loop d i (stateOf t fs top ret)
+      ≡ (conditionAt bs d (i + 1) (stateOf t fs top ret) >>= λ s. after (withFrames (framesOf t fs top)) (bodyAt bs setting true (dropping setting) d (stopOf (nodesOf bs) (i + 1)) s))
   unfolding acted conditionAt bodyAt act
-  while-is loop = rw (while-at (nodesOf bs) (λ j. exprAt (nodesOf bs) d j) (λ j. blockAt (nodesOf bs) d j) i (q .kind), add-one i)
+  while-is setting loop = rw (while-at (nodesOf bs) (λ j. exprAt (nodesOf bs) d j) (λ j. blockAt (nodesOf bs) d j) i (q .kind), add-one i)
 
   module _ {u : Tab} {su : List ℕ} {code place a b : ℕ}
       (c : Assigned (namesOf bs) (λ y. conditionAt bs d (i + 1) (state (framesOf t fs top) y)) t u fs top su (i + 1) (stopOf (nodesOf bs) (i + 1)) (nodeCount bs) code place a b) where
-    pub while-bad : (code ≡ 0 → ⊥) → (loop : Bool)
-        → Done (namesOf bs) (acted bs loop d i (stateOf t fs top ret)) t u fs top top ret su i (stopOf (nodesOf bs) i) (nodeCount bs) code place a b
+    pub while-bad : (code ≡ 0 → ⊥) → (setting : Setting) (loop : Bool)
+        → Done (namesOf bs) (acted bs setting loop d i (stateOf t fs top ret)) t u fs top top ret su i (stopOf (nodesOf bs) i) (nodeCount bs) code place a b
     unfolding _>>=_
-    while-bad z loop =
+    while-bad z setting loop =
         let w = ended-wrong (namesOf bs) u fs top (denote t ret) code place a b z (c .typing) in
-        first-refused r (pair-while (r .ready .sound) q) (c .left) (while-is loop ∙ rw (c .says (denote t ret), w)) (c .named) (c .typing)
+        first-refused r (pair-while (r .ready .sound) q) (c .left) (while-is setting loop ∙ rw (c .says (denote t ret), w)) (c .named) (c .typing)
 
-    pub while-done : {v : Tab} {gs : Rows} {high got k : ℕ} {sv : List ℕ} {code′ place′ a′ b′ : ℕ} → code ≡ 0 → k ≡ stopOf (nodesOf bs) (i + 1)
-        → Done (namesOf bs) (bodyAt bs true true d k (stateOf u fs top ret)) u v gs top high got sv k (stopOf (nodesOf bs) k) (nodeCount bs) code′ place′ a′ b′
+    pub while-done : (setting : Setting) {drops : Bool} {v : Tab} {gs : Rows} {high got k : ℕ} {sv : List ℕ} {code′ place′ a′ b′ : ℕ} → dropping setting ≡ drops → code ≡ 0 → k ≡ stopOf (nodesOf bs) (i + 1)
+        → Done (namesOf bs) (bodyAt bs setting true drops d k (stateOf u fs top ret)) u v gs top high got sv k (stopOf (nodesOf bs) k) (nodeCount bs) code′ place′ a′ b′
         → (loop : Bool)
-        → Done (namesOf bs) (acted bs loop d i (stateOf t fs top ret)) t v fs top top got sv i (stopOf (nodesOf bs) i) (nodeCount bs) code′ place′ a′ b′
+        → Done (namesOf bs) (acted bs setting loop d i (stateOf t fs top ret)) t v fs top top got sv i (stopOf (nodesOf bs) i) (nodeCount bs) code′ place′ a′ b′
     unfolding _>>=_
-    while-done z o e loop =
+    while-done setting y z o e loop =
         let p = pair-while (r .ready .sound) q in
         copied
-        (while-is loop ∙ rw (c .says (denote t ret), ended-done (namesOf bs) u fs top (denote t ret) code place a b z, ← o, c .left .grown .same ret (r .kept)))
+        (while-is setting loop ∙ rw (y, c .says (denote t ret), ended-done (namesOf bs) u fs top (denote t ret) code place a b z, ← o, c .left .grown .same ret (r .kept)))
         (r .ready .fit) (before-body r p (c .left) o) (rw (o) (omega (arith, p .last))) e
 
 -- ---- For
@@ -193,16 +193,16 @@ module _ {bs : List ℕ} {nodes : ℕ} {t : Tab} {fs : Rows} {top : ℕ} {st : L
 module _ {bs : List ℕ} {nodes : ℕ} {t : Tab} {fs : Rows} {top : ℕ} {st : List ℕ} {ret i d x : ℕ} (r : Standing bs nodes fs top t st ret i (stopOf (nodesOf bs) i)) (q : Stmt bs i d 10) (m : x ≡ nodeOf (nodesOf bs) i .arg)
     {u : Tab} {su : List ℕ} {code place′ number a b : ℕ}
     (c : Iterated bs d t u fs top su (i + 1) (stopOf (nodesOf bs) (i + 1)) (nodeCount bs) code place′ number a b) where
-  for-is : (loop : Bool) → acted bs loop d i (stateOf t fs top ret)
+  for-is : (setting : Setting) (loop : Bool) → acted bs setting loop d i (stateOf t fs top ret)
       ≡ checked (namesOf bs) (exprAt (nodesOf bs) d (i + 1)) (stateOf t fs top ret)
       (λ y. overElements (place (exprAt (nodesOf bs) d (i + 1))) y (stateOf t fs top ret)
-      λ z. after (withFrames (framesOf t fs top)) (bodyAt bs true false d (stopOf (nodesOf bs) (i + 1)) (state (write x z (framesOf t fs top)) (denote t ret))))
+      λ z. after (withFrames (framesOf t fs top)) (bodyAt bs setting true false d (stopOf (nodesOf bs) (i + 1)) (state (write x z (framesOf t fs top)) (denote t ret))))
   unfolding acted bodyAt act
-  for-is loop = rw (for-at (nodesOf bs) (λ j. exprAt (nodesOf bs) d j) (λ j. blockAt (nodesOf bs) d j) i (q .kind), add-one i, m)
+  for-is setting loop = rw (for-at (nodesOf bs) (λ j. exprAt (nodesOf bs) d j) (λ j. blockAt (nodesOf bs) d j) i (q .kind), add-one i, m)
 
-  pub for-bad : (code ≡ 0 → ⊥) → (loop : Bool)
-      → Done (namesOf bs) (acted bs loop d i (stateOf t fs top ret)) t u fs top top ret su i (stopOf (nodesOf bs) i) (nodeCount bs) code place′ a b
-  for-bad z loop = first-refused r (pair-for (r .ready .sound) q) (c .left) (for-is loop ∙ c .ill z (denote t ret) _) (c .named) (c .typing)
+  pub for-bad : (code ≡ 0 → ⊥) → (setting : Setting) (loop : Bool)
+      → Done (namesOf bs) (acted bs setting loop d i (stateOf t fs top ret)) t u fs top top ret su i (stopOf (nodesOf bs) i) (nodeCount bs) code place′ a b
+  for-bad z setting loop = first-refused r (pair-for (r .ready .sound) q) (c .left) (for-is setting loop ∙ c .ill z (denote t ret) _) (c .named) (c .typing)
 
   pub for-name : x < 128
   for-name = rw m (arg-small (r .ready .sound) i (q .there))
@@ -221,13 +221,13 @@ module _ {bs : List ℕ} {nodes : ℕ} {t : Tab} {fs : Rows} {top : ℕ} {st : L
     for-rows =
         rw (← (frames-grown (c .left .grown) (r .ready .fit))) (o .says u (c .left .fit))
 
-    pub for-done : {v : Tab} {gs : Rows} {high got k : ℕ} {sv : List ℕ} {code′ place″ a′ b′ : ℕ} → k ≡ stopOf (nodesOf bs) (i + 1)
-        → Done (namesOf bs) (bodyAt bs true false d k (stateOf u es top ret)) u v gs top high got sv k (stopOf (nodesOf bs) k) (nodeCount bs) code′ place″ a′ b′
+    pub for-done : (setting : Setting) {v : Tab} {gs : Rows} {high got k : ℕ} {sv : List ℕ} {code′ place″ a′ b′ : ℕ} → k ≡ stopOf (nodesOf bs) (i + 1)
+        → Done (namesOf bs) (bodyAt bs setting true false d k (stateOf u es top ret)) u v gs top high got sv k (stopOf (nodesOf bs) k) (nodeCount bs) code′ place″ a′ b′
         → (loop : Bool)
-        → Done (namesOf bs) (acted bs loop d i (stateOf t fs top ret)) t v fs top top got sv i (stopOf (nodesOf bs) i) (nodeCount bs) code′ place″ a′ b′
-    for-done e w loop =
+        → Done (namesOf bs) (acted bs setting loop d i (stateOf t fs top ret)) t v fs top top got sv i (stopOf (nodesOf bs) i) (nodeCount bs) code′ place″ a′ b′
+    for-done setting e w loop =
         let p = pair-for (r .ready .sound) q in
-        copied (for-is loop ∙ c .well z (denote t ret) _ ∙ rw (← e, for-rows, c .left .grown .same ret (r .kept)))
+        copied (for-is setting loop ∙ c .well z (denote t ret) _ ∙ rw (← e, for-rows, c .left .grown .same ret (r .kept)))
         (r .ready .fit) (before-body r p (c .left) e) (rw e (omega (arith, p .last))) w
 
 -- ---- Def
@@ -241,16 +241,16 @@ module _ {bs : List ℕ} {nodes : ℕ} {t : Tab} {fs : Rows} {top : ℕ} {st : L
       let o : n - 1 + 1 ≡ n = omega (arith, def-some) in
       rw (o, m) (within-all (r .ready .sound) i (q .there))
 
-  def-is : (loop : Bool) → acted bs loop d i (stateOf t fs top ret)
+  def-is : (setting : Setting) (loop : Bool) → acted bs setting loop d i (stateOf t fs top ret)
       ≡ ifRoom i (stateOf t fs top ret)
-      (after (withReturns (denote t ret)) (popped (bodyAt bs false false d (past (nodesOf bs) (n - 1) (i + 1)) (enter (paramsFrom (nodesOf bs) (n - 1) (i + 1)) (stateOf t fs top ret)))))
+      (after (withReturns (denote t ret)) (popped (bodyAt bs setting false false d (past (nodesOf bs) (n - 1) (i + 1)) (enter (paramsFrom (nodesOf bs) (n - 1) (i + 1)) (stateOf t fs top ret)))))
   unfolding acted bodyAt act
-  def-is loop = rw (def-at (nodesOf bs) (λ j. exprAt (nodesOf bs) d j) (λ j. blockAt (nodesOf bs) d j) i (q .kind), add-one i, m)
+  def-is setting loop = rw (def-at (nodesOf bs) (λ j. exprAt (nodesOf bs) d j) (λ j. blockAt (nodesOf bs) d j) i (q .kind), add-one i, m)
 
-  pub def-deep : 7 ≤ top → (loop : Bool)
-      → Done (namesOf bs) (acted bs loop d i (stateOf t fs top ret)) t t fs top top ret st i (stopOf (nodesOf bs) i) (nodeCount bs) 9 i 0 0
+  pub def-deep : 7 ≤ top → (setting : Setting) (loop : Bool)
+      → Done (namesOf bs) (acted bs setting loop d i (stateOf t fs top ret)) t t fs top top ret st i (stopOf (nodesOf bs) i) (nodeCount bs) 9 i 0 0
   unfolding ifRoom if_then_else_
-  def-deep o loop = too-deep refl (def-is loop ∙ rw (length-frames t fs top, le-ltb (top + 1) 8 (omega arith))) (q .there)
+  def-deep o setting loop = too-deep refl (def-is setting loop ∙ rw (length-frames t fs top, le-ltb (top + 1) 8 (omega arith))) (q .there)
 
   -- the new row, cleared and with the parameters bound
   module _ {cs es : Rows} {k : ℕ} (o : top < 7) (c : cs ≡ set fs (top + 1) (replicate 128 0)) (y : Entered cs es (top + 1) (paramsFrom (nodesOf bs) (n - 1) (i + 1)))
@@ -286,27 +286,27 @@ module _ {bs : List ℕ} {nodes : ℕ} {t : Tab} {fs : Rows} {top : ℕ} {st : L
           kept = omega (arith, r .ready .wf .base);
         }
 
-    def-answer : (loop : Bool) → acted bs loop d i (stateOf t fs top ret)
-        ≡ after (withReturns (denote t ret)) (popped (bodyAt bs false false d k (stateOf t es (top + 1) 0)))
+    def-answer : (setting : Setting) (loop : Bool) → acted bs setting loop d i (stateOf t fs top ret)
+        ≡ after (withReturns (denote t ret)) (popped (bodyAt bs setting false false d k (stateOf t es (top + 1) 0)))
     unfolding ifRoom if_then_else_ enter
-    def-answer loop =
-        def-is loop
+    def-answer setting loop =
+        def-is setting loop
         ∙ rw (length-frames t fs top, lt-ltb (top + 1) 8 (omega arith), ← (w .0), entered, unknown-number (r .ready .wf))
 
-    module _ {u : Tab} {gs : Rows} {high got : ℕ} {su : List ℕ} {code place a b : ℕ}
-        (e : Done (namesOf bs) (bodyAt bs false false d k (stateOf t es (top + 1) 0)) t u gs (top + 1) high got su k (stopOf (nodesOf bs) k) (nodeCount bs) code place a b) where
+    module _ (setting : Setting) {u : Tab} {gs : Rows} {high got : ℕ} {su : List ℕ} {code place a b : ℕ}
+        (e : Done (namesOf bs) (bodyAt bs setting false false d k (stateOf t es (top + 1) 0)) t u gs (top + 1) high got su k (stopOf (nodesOf bs) k) (nodeCount bs) code place a b) where
       around : (code ≡ 9 → ⊥) → Left t u gs high su i (stopOf (nodesOf bs) i)
       around z = left-wider (e .fine z .left) (omega (arith, block-ends .0)) (omega (arith, block-ends .1))
 
       -- the frame is popped
       pub def-done : code ≡ 0 → (loop : Bool)
-          → Done (namesOf bs) (acted bs loop d i (stateOf t fs top ret)) t u gs top (high - 1) ret su i (stopOf (nodesOf bs) i) (nodeCount bs) 0 0 0 0
+          → Done (namesOf bs) (acted bs setting loop d i (stateOf t fs top ret)) t u gs top (high - 1) ret su i (stopOf (nodesOf bs) i) (nodeCount bs) 0 0 0 0
       unfolding popped after
       def-done z loop =
           let f = e .fine (λ x. omega arith) in
           let l = around (λ x. omega arith) in
           record {
-            says = def-answer loop ∙ rw (was-done e z, frames-pop u gs high (omega (arith, f .raised)), ← (f .left .grown .same ret (r .kept)))
+            says = def-answer setting loop ∙ rw (was-done e z, frames-pop u gs high (omega (arith, f .raised)), ← (f .left .grown .same ret (r .kept)))
                 (sym (ended-done (namesOf bs) u gs (high - 1) (denote u ret) 0 0 0 0 refl));
             fine = λ _. record {
               left = record {
@@ -325,14 +325,14 @@ module _ {bs : List ℕ} {nodes : ℕ} {t : Tab} {fs : Rows} {top : ℕ} {st : L
 
       -- the frame stays
       pub def-bad : (code ≡ 0 → ⊥) → (loop : Bool)
-          → Done (namesOf bs) (acted bs loop d i (stateOf t fs top ret)) t u gs top high ret su i (stopOf (nodesOf bs) i) (nodeCount bs) code place a b
+          → Done (namesOf bs) (acted bs setting loop d i (stateOf t fs top ret)) t u gs top high ret su i (stopOf (nodesOf bs) i) (nodeCount bs) code place a b
       unfolding popped after
       def-bad z loop = elim (ℕ-discrete code 9) [
-        | yes x ↦ too-deep x (def-answer loop ∙ rw (was-deep e x)) (e .placed x)
+        | yes x ↦ too-deep x (def-answer setting loop ∙ rw (was-deep e x)) (e .placed x)
         | no x ↦
             let f = e .fine x in
             record {
-              says = def-answer loop ∙ rw (was-wrong e z x, ← (f .left .grown .same ret (r .kept)))
+              says = def-answer setting loop ∙ rw (was-wrong e z x, ← (f .left .grown .same ret (r .kept)))
                   (sym (ended-wrong (namesOf bs) u gs high (denote u ret) code place a b z x));
               fine = λ _. record { left = around x; kept = omega (arith, r .kept, f .left .grown .more); raised = omega (arith, f .raised) };
               named = e .named;

@@ -19,7 +19,7 @@ use Rattle.meaning.specs.Message.{refusal}
 use Rattle.meaning.specs.Frames.{Frames}
 use Rattle.meaning.specs.Operators.{Checked, ok, refused}
 use Rattle.meaning.specs.Rules.{check}
-use Rattle.meaning.specs.Walk.{State, state, End, done, wrong, tooDeep, typed, onward}
+use Rattle.meaning.specs.Walk.{dropping, State, state, End, done, wrong, tooDeep, typed, onward}
 use Rattle.meaning.proofs.Codes.{Fair, fair-typing, check-fair}
 use Rattle.meaning.proofs.Faults.{Sound, sizes}
 use Rattle.meaning.proofs.Nesting.{Nested, sound-nested, nodes-many, node-stands, Children, child, children, children-le, children-end, deeper}
@@ -31,11 +31,18 @@ use Rattle.rules.specs.Outcome.{typesNamed, pieces}
 use Rattle.expr.specs.Contract.{Ready, At}
 use Rattle.expr.specs.Contract.{Done as Typed}
 use Rattle.targets.specs.Ending.{ended, Named, Left, Assigned}
-use Rattle.stmt.specs.Contract.{stateOf, Standing, Stmt, Pair, Within, Fine, Done}
+use Rattle.stmt.specs.Contract.{stateOf, settingIf, Standing, Stmt, Pair, Within, Fine, Done}
 
 pub never : {A : Type 0} → _≡_ {A = Bool} false true → A
 unfolding if_then_else_
 never e = let z : _≡_ {A = ℕ} 0 1 = ap (λ (b : Bool). if b then 1 else 0) e in absurd (omega arith)
+
+-- ---- the setting: code that is told whether it is plain drops exactly if it is
+
+pub drops-if : (b : Bool) → dropping (settingIf b) ≡ b
+unfolding dropping if_then_else_
+drops-if true = refl
+drops-if false = refl
 
 -- ---- how a part of the walk ended
 

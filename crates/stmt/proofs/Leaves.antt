@@ -19,7 +19,7 @@ use Rattle.meaning.specs.Decode.{stopOf, past, paramsFrom, exprAt, blockAt, act
 use Rattle.meaning.specs.Message.{aType, refusal}
 use Rattle.meaning.specs.Frames.{Frame, Frames, write}
 use Rattle.meaning.specs.Rules.{check}
-use Rattle.meaning.specs.Walk.{State, state, End, done, wrong, refuse, agreed, checked, condition, assignTo, returnRule, onlyIn, withParams, act}
+use Rattle.meaning.specs.Walk.{Setting, State, state, End, done, wrong, refuse, agreed, checked, condition, assignTo, returnRule, onlyIn, withParams, act}
 use Rattle.meaning.proofs.Choices.{same-yes, same-no}
 use Rattle.meaning.proofs.Decoding.{break-at, continue-at, pass-at, class-at, assign-at, expression-at, return-at, params-down, params-none, past-down, past-none}
 use Rattle.meaning.proofs.Faults.{Sound}
@@ -265,42 +265,42 @@ module _ {bs : List ℕ} {nodes : ℕ} {t : Tab} {fs : Rows} {top : ℕ} {st : L
       by true = a
       by false = b
 
-  pub simple-break : {code : ℕ} → k ≡ 1 → code ≡ (if loop then 0 else 20)
-      → Done (namesOf bs) (acted bs loop d i (stateOf t fs top ret)) t t fs top top ret st i (stopOf (nodesOf bs) i) (nodeCount bs) code i 0 0
+  pub simple-break : (setting : Setting) {code : ℕ} → k ≡ 1 → code ≡ (if loop then 0 else 20)
+      → Done (namesOf bs) (acted bs setting loop d i (stateOf t fs top ret)) t t fs top top ret st i (stopOf (nodesOf bs) i) (nodeCount bs) code i 0 0
   unfolding acted act pieces typesNamed isIn choose if_then_else_ _or_
-  simple-break e o =
+  simple-break setting e o =
       rw o (stays (either (λ c. c ≡ 9 → ⊥) 20 (λ x. absurd (omega arith)) (λ x. absurd (omega arith))) (either (λ c. typesNamed c ≡ 0) 20 refl refl)
       (rw (break-at (nodesOf bs) (λ j. exprAt (nodesOf bs) d j) (λ j. blockAt (nodesOf bs) d j) i (q .kind ∙ e)) (only-says 20 (λ x. absurd (omega arith)) (λ x. absurd (omega arith)) refl)))
 
-  pub simple-continue : {code : ℕ} → k ≡ 2 → code ≡ (if loop then 0 else 21)
-      → Done (namesOf bs) (acted bs loop d i (stateOf t fs top ret)) t t fs top top ret st i (stopOf (nodesOf bs) i) (nodeCount bs) code i 0 0
+  pub simple-continue : (setting : Setting) {code : ℕ} → k ≡ 2 → code ≡ (if loop then 0 else 21)
+      → Done (namesOf bs) (acted bs setting loop d i (stateOf t fs top ret)) t t fs top top ret st i (stopOf (nodesOf bs) i) (nodeCount bs) code i 0 0
   unfolding acted act pieces typesNamed isIn choose if_then_else_ _or_
-  simple-continue e o =
+  simple-continue setting e o =
       rw o (stays (either (λ c. c ≡ 9 → ⊥) 21 (λ x. absurd (omega arith)) (λ x. absurd (omega arith))) (either (λ c. typesNamed c ≡ 0) 21 refl refl)
       (rw (continue-at (nodesOf bs) (λ j. exprAt (nodesOf bs) d j) (λ j. blockAt (nodesOf bs) d j) i (q .kind ∙ e)) (only-says 21 (λ x. absurd (omega arith)) (λ x. absurd (omega arith)) refl)))
 
-  pub simple-assign : {u : Tab} {gs : Rows} {su : List ℕ} {code place′ a b : ℕ} → k ≡ 5
+  pub simple-assign : (setting : Setting) {u : Tab} {gs : Rows} {su : List ℕ} {code place′ a b : ℕ} → k ≡ 5
       → Assigned (namesOf bs) (λ y. assignedAt bs d i (state (framesOf t fs top) y)) t u gs top su i (stopOf (nodesOf bs) i) (nodeCount bs) code place′ a b
-      → Done (namesOf bs) (acted bs loop d i (stateOf t fs top ret)) t u gs top top ret su i (stopOf (nodesOf bs) i) (nodeCount bs) code place′ a b
+      → Done (namesOf bs) (acted bs setting loop d i (stateOf t fs top ret)) t u gs top top ret su i (stopOf (nodesOf bs) i) (nodeCount bs) code place′ a b
   unfolding acted assignedAt act
-  simple-assign e a =
+  simple-assign setting e a =
       done-as (rw (assign-at (nodesOf bs) (λ j. exprAt (nodesOf bs) d j) (λ j. blockAt (nodesOf bs) d j) i (q .kind ∙ e), add-one i)) (assigned-done ret a (r .kept))
 
-  pub simple-expr : {u : Tab} {gs : Rows} {su : List ℕ} {code place′ a b : ℕ} → k ≡ 6
+  pub simple-expr : (setting : Setting) {u : Tab} {gs : Rows} {su : List ℕ} {code place′ a b : ℕ} → k ≡ 6
       → Assigned (namesOf bs) (λ y. evaluatedAt bs d (i + 1) (state (framesOf t fs top) y)) t u gs top su (i + 1) (stopOf (nodesOf bs) (i + 1)) (nodeCount bs) code place′ a b
-      → Done (namesOf bs) (acted bs loop d i (stateOf t fs top ret)) t u gs top top ret su i (stopOf (nodesOf bs) i) (nodeCount bs) code place′ a b
+      → Done (namesOf bs) (acted bs setting loop d i (stateOf t fs top ret)) t u gs top top ret su i (stopOf (nodesOf bs) i) (nodeCount bs) code place′ a b
   unfolding acted evaluatedAt act
-  simple-expr e a =
+  simple-expr setting e a =
       let o = one-child (r .ready .sound) q (inl e) .1 in
       done-wider
       (done-as (rw (expression-at (nodesOf bs) (λ j. exprAt (nodesOf bs) d j) (λ j. blockAt (nodesOf bs) d j) i (q .kind ∙ e), add-one i)) (assigned-done ret a (r .kept)))
       (omega arith) (omega arith)
 
-  pub simple-return : {u : Tab} {gs : Rows} {high got : ℕ} {su : List ℕ} {code place′ a b : ℕ} → k ≡ 7
+  pub simple-return : (setting : Setting) {u : Tab} {gs : Rows} {high got : ℕ} {su : List ℕ} {code place′ a b : ℕ} → k ≡ 7
       → Done (namesOf bs) (returnedAt bs d (i + 1) (stateOf t fs top ret)) t u gs top high got su (i + 1) (stopOf (nodesOf bs) (i + 1)) (nodeCount bs) code place′ a b
-      → Done (namesOf bs) (acted bs loop d i (stateOf t fs top ret)) t u gs top high got su i (stopOf (nodesOf bs) i) (nodeCount bs) code place′ a b
+      → Done (namesOf bs) (acted bs setting loop d i (stateOf t fs top ret)) t u gs top high got su i (stopOf (nodesOf bs) i) (nodeCount bs) code place′ a b
   unfolding acted returnedAt act
-  simple-return e a =
+  simple-return setting e a =
       let o = one-child (r .ready .sound) q (inr e) .1 in
       done-wider (done-as (rw (return-at (nodesOf bs) (λ j. exprAt (nodesOf bs) d j) (λ j. blockAt (nodesOf bs) d j) i (q .kind ∙ e), add-one i)) a) (omega arith) (omega arith)
 
@@ -308,10 +308,10 @@ module _ {bs : List ℕ} {nodes : ℕ} {t : Tab} {fs : Rows} {top : ℕ} {st : L
   simple-ready e = ready-within (r .ready) (omega arith) (omega (arith, one-child (r .ready .sound) q e .1))
 
   -- Pass, Class, and any kind that is no statement's
-  nothing-at : (k ≡ 1 → ⊥) → (k ≡ 2 → ⊥) → (k ≡ 5 → ⊥) → (k ≡ 6 → ⊥) → (k ≡ 7 → ⊥) → Bodiless k
-      → acted bs loop d i (stateOf t fs top ret) ≡ done (stateOf t fs top ret)
+  nothing-at : (setting : Setting) → (k ≡ 1 → ⊥) → (k ≡ 2 → ⊥) → (k ≡ 5 → ⊥) → (k ≡ 6 → ⊥) → (k ≡ 7 → ⊥) → Bodiless k
+      → acted bs setting loop d i (stateOf t fs top ret) ≡ done (stateOf t fs top ret)
   unfolding acted act actAt choose if_then_else_
-  nothing-at a b c f g n = elim (ℕ-discrete k 4) [
+  nothing-at setting a b c f g n = elim (ℕ-discrete k 4) [
     | yes z ↦ rw (class-at (nodesOf bs) (λ j. exprAt (nodesOf bs) d j) (λ j. blockAt (nodesOf bs) d j) i (q .kind ∙ z))
     | no z ↦ elim (ℕ-discrete k 3) [
       | yes y ↦ rw (pass-at (nodesOf bs) (λ j. exprAt (nodesOf bs) d j) (λ j. blockAt (nodesOf bs) d j) i (q .kind ∙ y))
@@ -332,12 +332,12 @@ module _ {bs : List ℕ} {nodes : ℕ} {t : Tab} {fs : Rows} {top : ℕ} {st : L
     ]
   ]
 
-  pub simple-nothing : (k ≡ 1 → ⊥) → (k ≡ 2 → ⊥) → (k ≡ 5 → ⊥) → (k ≡ 6 → ⊥) → (k ≡ 7 → ⊥) → Bodiless k
-      → Done (namesOf bs) (acted bs loop d i (stateOf t fs top ret)) t t fs top top ret st i (stopOf (nodesOf bs) i) (nodeCount bs) 0 0 0 0
-  simple-nothing a b c f g n =
+  pub simple-nothing : (setting : Setting) → (k ≡ 1 → ⊥) → (k ≡ 2 → ⊥) → (k ≡ 5 → ⊥) → (k ≡ 6 → ⊥) → (k ≡ 7 → ⊥) → Bodiless k
+      → Done (namesOf bs) (acted bs setting loop d i (stateOf t fs top ret)) t t fs top top ret st i (stopOf (nodesOf bs) i) (nodeCount bs) 0 0 0 0
+  simple-nothing setting a b c f g n =
       let w = wide-at (r .ready .sound) i (q .there) in
       record {
-        says = nothing-at a b c f g n ∙ sym (ended-done (namesOf bs) t fs top (denote t ret) 0 0 0 0 refl);
+        says = nothing-at setting a b c f g n ∙ sym (ended-done (namesOf bs) t fs top (denote t ret) 0 0 0 0 refl);
         fine = λ _. record { left = left-refl (r .ready) (omega arith); kept = r .kept; raised = omega arith };
         named = λ _. named-well;
         placed = λ x. absurd (omega arith);

@@ -13,7 +13,7 @@ use Rattle.meaning.specs.Base.{_and_, if_then_else_}
 use Rattle.meaning.specs.Types.{Ty, unknown}
 use Rattle.meaning.specs.Image.{Node, Name, nodeCount, nodesFrom, nodesOf, nodeOf, namesOf, depth}
 use Rattle.meaning.specs.Decode.{stopOf, stmtAt, blockAt, stmtsFrom, treeOf}
-use Rattle.meaning.specs.Walk.{State, state, End, done, wrong, tooDeep, _>>=_, walk, program, start}
+use Rattle.meaning.specs.Walk.{Setting, State, state, End, done, wrong, tooDeep, _>>=_, walk, program, start}
 use Rattle.meaning.specs.Answer.{walked}
 use Rattle.meaning.proofs.Decoding.{stmts-down}
 use Rattle.meaning.proofs.Faults.{Sound, sizes}
@@ -45,17 +45,17 @@ module _ {bs : List ℕ} (s : Sound bs) where
   root-stop = sym (stop-is s 0) ∙ root (sound-nested s) (rw (nodes-many bs) some-node) .1 ∙ nodes-many bs
 
 -- what is left of the module ends as all of it ends
-pub record Running (bs : List ℕ) (nodes : ℕ) (t u : Tab) (gs : Rows) (high : ℕ) (su : List ℕ) (j left : ℕ) : Type 0 where
+pub record Running (bs : List ℕ) (setting : Setting) (nodes : ℕ) (t u : Tab) (gs : Rows) (high : ℕ) (su : List ℕ) (j left : ℕ) : Type 0 where
   pub standing : Standing bs nodes gs high u su 0 j (nodeCount bs)
   pub within : Within bs 0 j left
   pub spent : Left t u gs high su 0 j
   pub returns : Ty
-  pub answer : walked bs ≡ program (namesOf bs) (stmtsFrom (nodesOf bs) (λ k. stmtAt (nodesOf bs) 63 k) left j) (state (framesOf u gs high) returns)
+  pub answer : walked setting bs ≡ program (namesOf bs) setting (stmtsFrom (nodesOf bs) (λ k. stmtAt (nodesOf bs) 63 k) left j) (state (framesOf u gs high) returns)
 
-pub running-first : {bs : List ℕ} {nodes : ℕ} {fs : Rows} {t : Tab} {st : List ℕ} {n : ℕ} → Started bs fs t st → nodes ≡ nodesFrom bs → n ≡ nodeOf (nodesOf bs) 0 .children
-    → Running bs nodes t t fs 0 st 1 n
+pub running-first : {bs : List ℕ} {setting : Setting} {nodes : ℕ} {fs : Rows} {t : Tab} {st : List ℕ} {n : ℕ} → Started bs fs t st → nodes ≡ nodesFrom bs → n ≡ nodeOf (nodesOf bs) 0 .children
+    → Running bs setting nodes t t fs 0 st 1 n
 unfolding walked treeOf start
-running-first {bs} {nodes} {fs} {t} {st} {n} a k e =
+running-first {bs} {setting} {nodes} {fs} {t} {st} {n} a k e =
     let s = a .sound in
     let r : Ready bs nodes fs 0 t st 0 0 (nodeCount bs) = record {
       sound = s;
@@ -75,7 +75,7 @@ running-first {bs} {nodes} {fs} {t} {st} {n} a k e =
       answer = rw (block-down bs 64 0 (omega arith), ← e, a .module-frame);
     }
 
-module _ {bs : List ℕ} {nodes : ℕ} {t u : Tab} {gs : Rows} {high : ℕ} {su : List ℕ} {j left : ℕ} (l : Running bs nodes t u gs high su j left) (p : 0 < left) where
+module _ {bs : List ℕ} {setting : Setting} {nodes : ℕ} {t u : Tab} {gs : Rows} {high : ℕ} {su : List ℕ} {j left : ℕ} (l : Running bs setting nodes t u gs high su j left) (p : 0 < left) where
   running-child : (j < stopOf (nodesOf bs) j) × (stopOf (nodesOf bs) j ≤ stopOf (nodesOf bs) 0) × (j < nodeCount bs) × Within bs 0 (stopOf (nodesOf bs) j) (left - 1)
   running-child = within-child (l .standing .ready .sound) (l .within) p
 
@@ -88,14 +88,14 @@ module _ {bs : List ℕ} {nodes : ℕ} {t u : Tab} {gs : Rows} {high : ℕ} {su 
   pub running-standing : Standing bs nodes gs high u su 0 j (stopOf (nodesOf bs) j)
   running-standing = record { ready = ready-within (l .standing .ready) (omega arith) (omega (arith, running-child .1, root-stop (l .standing .ready .sound))); kept = l .standing .kept }
 
-  running-answer : walked bs
-      ≡ (walkedAt bs false 63 j (stateOf u gs high 0) >>= λ s. program (namesOf bs) (stmtsFrom (nodesOf bs) (λ k. stmtAt (nodesOf bs) 63 k) (left - 1) (stopOf (nodesOf bs) j)) s)
+  running-answer : walked setting bs
+      ≡ (walkedAt bs setting false 63 j (stateOf u gs high 0) >>= λ s. program (namesOf bs) setting (stmtsFrom (nodesOf bs) (λ k. stmtAt (nodesOf bs) 63 k) (left - 1) (stopOf (nodesOf bs) j)) s)
   unfolding program walkedAt
   running-answer = l .answer ∙ rw (stmts-down (nodesOf bs) (λ k. stmtAt (nodesOf bs) 63 k) left j p, unknown-number (l .standing .ready .wf))
 
   module _ {v : Tab} {hs : Rows} {peak had : ℕ} {sv : List ℕ} {code place a b : ℕ}
-      (c : Done (namesOf bs) (walkedAt bs false 63 j (stateOf u gs high 0)) u v hs high peak had sv j (stopOf (nodesOf bs) j) (nodeCount bs) code place a b) where
-    pub running-out : (code ≡ 0 → ⊥) → Ran bs t v hs peak sv code place a b
+      (c : Done (namesOf bs) (walkedAt bs setting false 63 j (stateOf u gs high 0)) u v hs high peak had sv j (stopOf (nodesOf bs) j) (nodeCount bs) code place a b) where
+    pub running-out : (code ≡ 0 → ⊥) → Ran bs setting t v hs peak sv code place a b
     unfolding _>>=_
     running-out z = record {
       returns = denote v had;
@@ -108,7 +108,7 @@ module _ {bs : List ℕ} {nodes : ℕ} {t u : Tab} {gs : Rows} {high : ℕ} {su 
       placed = c .placed;
     }
 
-    pub running-next : {e : ℕ} → e ≡ stopOf (nodesOf bs) j → code ≡ 0 → Running bs nodes t v hs peak sv e (left - 1)
+    pub running-next : {e : ℕ} → e ≡ stopOf (nodesOf bs) j → code ≡ 0 → Running bs setting nodes t v hs peak sv e (left - 1)
     unfolding _>>=_
     running-next z o =
         let f = c .fine (λ x. omega arith) in
@@ -121,10 +121,10 @@ module _ {bs : List ℕ} {nodes : ℕ} {t u : Tab} {gs : Rows} {high : ℕ} {su 
           answer = running-answer ∙ rw (was-done c o);
         })
 
-pub running-end : {bs : List ℕ} {nodes : ℕ} {t u : Tab} {gs : Rows} {high : ℕ} {su : List ℕ} {j left : ℕ} → Running bs nodes t u gs high su j left → left ≤ 0
-    → Ran bs t u gs high su 0 0 0 0
+pub running-end : {bs : List ℕ} {setting : Setting} {nodes : ℕ} {t u : Tab} {gs : Rows} {high : ℕ} {su : List ℕ} {j left : ℕ} → Running bs setting nodes t u gs high su j left → left ≤ 0
+    → Ran bs setting t u gs high su 0 0 0 0
 unfolding program stmtsFrom
-running-end {bs} {nodes} {t} {u} {gs} {high} {su} {j} {left} l z =
+running-end {bs} {setting} {nodes} {t} {u} {gs} {high} {su} {j} {left} l z =
     let o : left ≡ 0 = omega arith in
     let s = l .standing .ready .sound in
     record {

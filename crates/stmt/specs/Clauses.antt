@@ -1,19 +1,19 @@
 -- What the functions of this crate ask of what they are lent, w, and what they leave of it, v. They walk the image bs, whose nodes start at
 -- `nodes`; the newest frame is the row `top`, by default the one that is noted.
 use mathlib.Core.Path.{_≡_}
-use mathlib.Core.Bool.{Bool, true}
+use mathlib.Core.Bool.{Bool}
 use mathlib.Core.List.{List}
 use Prim.Native.Nat.{ℕ}
 use Rattle.meaning.specs.Types.{Ty}
 use Rattle.meaning.specs.Image.{nodeCount, nodesOf, namesOf}
 use Rattle.meaning.specs.Decode.{stopOf}
-use Rattle.meaning.specs.Walk.{State, End}
+use Rattle.meaning.specs.Walk.{Setting, State, End}
 use Rattle.nodes.specs.Notes.{placeIn, firstIn, secondIn, retIn, topIn, verdict, Noting, Kept}
 use Rattle.nodes.specs.Lent.{Lent, tableOf, stateIn}
 use Rattle.expr.specs.Contract.{At}
 use Rattle.expr.specs.Clauses.{Asked, Checkable as Free}
 use Rattle.targets.specs.Ending.{Assigned}
-use Rattle.stmt.specs.Contract.{stateOf, acted, walkedAt, bodyAt, armBlock, armedAt, Tells, Standing, Bodiless, Stmt, Pair, Branch, Done, Armed, Iterated}
+use Rattle.stmt.specs.Contract.{stateOf, settingIf, acted, walkedAt, bodyAt, armBlock, armedAt, Tells, Standing, Bodiless, Stmt, Pair, Branch, Done, Iterated}
 
 -- ---- what is asked
 
@@ -77,26 +77,30 @@ Walked bs top i q w v r =
 abbrev pub Walks : List ℕ → ℕ → ℕ → ℕ → Lent → Lent → (State → End) → Type 0
 Walks bs top i q w v r = Walked bs top i q w v r × Tells (v .notes) q
 
-abbrev pub WalksStmt : List ℕ → ℕ → ℕ → Bool → ℕ → Lent → Lent → Type 0
-WalksStmt bs i d looped q w v = Walks bs (topIn (w .notes)) i q w v (walkedAt bs looped d i)
+-- a statement at most d deep
+abbrev pub WalksStmt : List ℕ → ℕ → ℕ → Bool → Bool → ℕ → Lent → Lent → Type 0
+WalksStmt bs i d looped plain q w v = Walks bs (topIn (w .notes)) i q w v (walkedAt bs (settingIf plain) looped d i)
 
--- a Block; where errors are dropped, only a ninth frame ends it ill
-abbrev pub WalksBlock : List ℕ → ℕ → ℕ → Bool → Bool → ℕ → Lent → Lent → Type 0
-WalksBlock bs i d looped drops q w v =
-    Walked bs (topIn (w .notes)) i q w v (bodyAt bs looped drops d i)
-    × (Tells (v .notes) q × (drops ≡ true → (verdict q (v .notes) ≡ 9 → ⊥) → verdict q (v .notes) ≡ 0))
+abbrev pub WalksBlock : List ℕ → ℕ → ℕ → Bool → Bool → Bool → ℕ → Lent → Lent → Type 0
+WalksBlock bs i d looped drops plain q w v = Walks bs (topIn (w .notes)) i q w v (bodyAt bs (settingIf plain) looped drops d i)
 
 -- a statement whose children are at most d deep
-abbrev pub Acts : List ℕ → ℕ → ℕ → Bool → ℕ → Lent → Lent → Type 0
-Acts bs i d looped q w v = Walks bs (topIn (w .notes)) i q w v (acted bs looped d i)
+abbrev pub Acts : List ℕ → ℕ → ℕ → Bool → Bool → ℕ → Lent → Lent → Type 0
+Acts bs i d looped plain q w v = Walks bs (topIn (w .notes)) i q w v (acted bs (settingIf plain) looped d i)
 
 -- the same, in a loop or not
-abbrev pub ActsAnywhere : List ℕ → ℕ → ℕ → ℕ → Lent → Lent → Type 0
-ActsAnywhere bs i d q w v = ((loop : Bool) → Walked bs (topIn (w .notes)) i q w v (acted bs loop d i)) × Tells (v .notes) q
+abbrev pub ActsAnywhere : List ℕ → ℕ → ℕ → Bool → ℕ → Lent → Lent → Type 0
+ActsAnywhere bs i d plain q w v =
+    ((loop : Bool) → Walked bs (topIn (w .notes)) i q w v (acted bs (settingIf plain) loop d i)) × Tells (v .notes) q
 
-abbrev pub WalksArm : List ℕ → ℕ → ℕ → ℕ → Bool → ℕ → Lent → Lent → Type 0
-WalksArm bs i n d looped q w v =
-    Armed (namesOf bs) (armedAt bs looped d n i (stateOf (tableOf w) (w .rows) (topIn (w .notes)) (retIn (w .notes)))) (tableOf w) (tableOf v)
-    (w .rows) (v .rows) (topIn (w .notes)) (topIn (v .notes)) (retIn (w .notes)) (retIn (v .notes)) (v .stack)
+-- the same, under either setting
+abbrev pub ActsEither : List ℕ → ℕ → ℕ → ℕ → Bool → ℕ → Lent → Lent → Type 0
+ActsEither bs top i d looped q w v =
+    ((setting : Setting) → Walked bs top i q w v (acted bs setting looped d i)) × Tells (v .notes) q
+
+abbrev pub WalksArm : List ℕ → ℕ → ℕ → ℕ → Bool → Bool → ℕ → Lent → Lent → Type 0
+WalksArm bs i n d looped plain q w v =
+    Done (namesOf bs) (armedAt bs (settingIf plain) looped d n i (stateOf (tableOf w) (w .rows) (topIn (w .notes)) (retIn (w .notes)))) (tableOf w) (tableOf v)
+    (v .rows) (topIn (w .notes)) (topIn (v .notes)) (retIn (v .notes)) (v .stack)
     i (stopOf (nodesOf bs) (armBlock bs n i)) (nodeCount bs) (verdict q (v .notes)) (placeIn (v .notes)) (firstIn (v .notes)) (secondIn (v .notes))
     × Tells (v .notes) q

@@ -12,7 +12,7 @@ use Rattle.meaning.specs.Tree.{place, on, otherwise}
 use Rattle.meaning.specs.Image.{Name, nodeCount, nodesOf, nodeOf, namesOf, depth}
 use Rattle.meaning.specs.Decode.{stopOf, exprAt, actAt, stmtAt, blockAt}
 use Rattle.meaning.specs.Frames.{Frame, Frames, empty}
-use Rattle.meaning.specs.Walk.{State, state, End, done, checked, condition, assignTo, returnRule, overElements, withParams, walk, act, body, arm}
+use Rattle.meaning.specs.Walk.{Setting, plain, strict, State, state, End, done, checked, condition, assignTo, returnRule, overElements, withParams, walk, act, body, arm}
 use Rattle.meaning.specs.Answer.{walked}
 use Rattle.meaning.proofs.Faults.{Sound}
 use Rattle.meaning.proofs.Nesting.{Children}
@@ -26,20 +26,24 @@ use Rattle.targets.specs.Ending.{ended, Named, Left}
 abbrev pub stateOf : Tab → Rows → ℕ → ℕ → State
 stateOf t fs top ret = state (framesOf t fs top) (denote t ret)
 
+-- the setting, which code tells by whether it is plain
+abbrev pub settingIf : Bool → Setting
+settingIf b = if b then plain else strict
+
 -- ---- the parts of the walk, by node
 
 -- the statement at node i, its children at most d deep
-unfoldable pub acted : List ℕ → Bool → ℕ → ℕ → State → End
-acted bs loop d i s =
-    act (namesOf bs) loop i (actAt (nodesOf bs) (λ j. exprAt (nodesOf bs) d j) (λ j. blockAt (nodesOf bs) d j) i) s
+unfoldable pub acted : List ℕ → Setting → Bool → ℕ → ℕ → State → End
+acted bs setting loop d i s =
+    act (namesOf bs) setting loop i (actAt (nodesOf bs) (λ j. exprAt (nodesOf bs) d j) (λ j. blockAt (nodesOf bs) d j) i) s
 
 -- the statement at node i, at most d deep
-unfoldable pub walkedAt : List ℕ → Bool → ℕ → ℕ → State → End
-walkedAt bs loop d i s = walk (namesOf bs) loop (stmtAt (nodesOf bs) d i) s
+unfoldable pub walkedAt : List ℕ → Setting → Bool → ℕ → ℕ → State → End
+walkedAt bs setting loop d i s = walk (namesOf bs) setting loop (stmtAt (nodesOf bs) d i) s
 
 -- the Block at node i, at most d deep
-unfoldable pub bodyAt : List ℕ → Bool → Bool → ℕ → ℕ → State → End
-bodyAt bs loop drops d i s = body (namesOf bs) loop drops (blockAt (nodesOf bs) d i) s
+unfoldable pub bodyAt : List ℕ → Setting → Bool → Bool → ℕ → ℕ → State → End
+bodyAt bs setting loop drops d i s = body (namesOf bs) setting loop drops (blockAt (nodesOf bs) d i) s
 
 unfoldable pub conditionAt : List ℕ → ℕ → ℕ → State → End
 conditionAt bs d i s = condition (namesOf bs) (exprAt (nodesOf bs) d i) s
@@ -64,9 +68,9 @@ unfoldable pub armBlock : List ℕ → ℕ → ℕ → ℕ
 armBlock bs n i = if ltb 1 n then stopOf (nodesOf bs) i else i
 
 -- and that branch
-unfoldable pub armedAt : List ℕ → Bool → ℕ → ℕ → ℕ → State → End
-armedAt bs loop d n i s =
-    arm (namesOf bs) loop
+unfoldable pub armedAt : List ℕ → Setting → Bool → ℕ → ℕ → ℕ → State → End
+armedAt bs setting loop d n i s =
+    arm (namesOf bs) setting loop
     (if ltb 1 n
     then on (exprAt (nodesOf bs) d i) (blockAt (nodesOf bs) d (stopOf (nodesOf bs) i))
     else otherwise (blockAt (nodesOf bs) d i)) s
@@ -138,11 +142,6 @@ pub record Done (ws : List Name) (r : End) (t u : Tab) (gs : Rows) (top high ret
   pub named : (code ≡ 9 → ⊥) → Named u M code place a b
   pub placed : code ≡ 9 → place < M
 
--- a branch: a refusal (of its condition) leaves the state as it was
-pub record Armed (ws : List Name) (r : End) (t u : Tab) (fs gs : Rows) (top high ret got : ℕ) (su : List ℕ) (i e M code place a b : ℕ) : Type 0 where
-  pub done : Done ws r t u gs top high got su i e M code place a b
-  pub entry : (code ≡ 0 → ⊥) → (code ≡ 9 → ⊥) → (gs ≡ fs) × (high ≡ top) × (got ≡ ret)
-
 -- gs is fs with the names xs in the row `top` as Unknown, whatever the table
 pub record Entered (fs gs : Rows) (top : ℕ) (xs : List ℕ) : Type 0 where
   pub says : (t : Tab) (f : Frame) (Γ : Frames) → Wf t → Fit t fs top → framesOf t fs top ≡ f ∷ Γ → framesOf t gs top ≡ withParams xs f ∷ Γ
@@ -177,9 +176,9 @@ pub record Started (bs : List ℕ) (fs : Rows) (t : Tab) (st : List ℕ) : Type 
   pub room : nodeCount bs + 8 ≤ capacity t.cells
 
 -- how the whole walk ended, y being the return type where it stood
-pub record Ran (bs : List ℕ) (t u : Tab) (gs : Rows) (top : ℕ) (su : List ℕ) (code place a b : ℕ) : Type 0 where
+pub record Ran (bs : List ℕ) (setting : Setting) (t u : Tab) (gs : Rows) (top : ℕ) (su : List ℕ) (code place a b : ℕ) : Type 0 where
   pub returns : Ty
-  pub says : walked bs ≡ ended (namesOf bs) u gs top returns code place a b
+  pub says : walked setting bs ≡ ended (namesOf bs) u gs top returns code place a b
   pub named : (code ≡ 9 → ⊥) → Named u (nodeCount bs) code place a b
   pub left : (code ≡ 9 → ⊥) → Left t u gs top su 0 (nodeCount bs)
   pub placed : code ≡ 9 → place < nodeCount bs

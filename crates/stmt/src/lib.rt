@@ -2,6 +2,7 @@
 // A result is OK, or ERR where something was refused: the notes then have the code (9 for a Def that needs a ninth frame, else a typing
 // code), its node and the numbers that a message needs. The notes also have the counts of the table, the return type so far and the newest
 // frame's row (crates/nodes/specs/Notes.antt).
+// There is one walk for both settings of document 02: `plain` goes with every statement, and where it is false, the setting is strict.
 ghost use mathlib.Core.Path.{_≡_};
 ghost use Prim.Native.Nat.{_+_, _-_, _<_};
 ghost use Rattle.meaning.specs.Limits.{mostNodes, mostFrames};
@@ -12,10 +13,10 @@ ghost use Rattle.types.specs.Table.{tab};
 ghost use Rattle.nodes.specs.Notes.{Noting};
 ghost use Rattle.nodes.specs.Lent.{lent};
 ghost use Rattle.image.specs.Parts.{On};
-ghost use Rattle.stmt.specs.Contract.{acted, conditionAt, evaluatedAt, assignedAt, returnedAt, armBlock};
+ghost use Rattle.stmt.specs.Contract.{settingIf, conditionAt, evaluatedAt, assignedAt, returnedAt, armBlock};
 ghost use Rattle.stmt.specs.Contract.{Outside, Within, Entered, Started, Ran};
 ghost use Rattle.stmt.specs.Clauses.{Checkable, Paired, Returnable, Simple, Walkable, OfKind, InIf};
-ghost use Rattle.stmt.specs.Clauses.{Ends, Iterates, Walks, WalksStmt, WalksBlock, Acts, ActsAnywhere, WalksArm};
+ghost use Rattle.stmt.specs.Clauses.{Ends, Iterates, Walks, WalksStmt, WalksBlock, Acts, ActsAnywhere, ActsEither, WalksArm};
 use expr::expr;
 use frames::ABSENT;
 use frames::Frames;
@@ -228,10 +229,9 @@ fn simple(
     looped: bool,
 ) -> usize
     requires { ⌜ Simple (now image) nodes top at kind depth (lent (now rows) (now table) (now notes) (now stack)) ⌝ }
-    ensures { λ r. ⌜ Walks (now (image .entry)) top at r
+    ensures { λ r. ⌜ ActsEither (now (image .entry)) top at depth looped r
         (lent (now (rows .entry)) (now (table .entry)) (now (notes .entry)) (now (stack .entry)))
-        (lent (now (rows .exit)) (now (table .exit)) (now (notes .exit)) (now (stack .exit)))
-        (acted (now (image .entry)) looped depth at) ⌝ }
+        (lent (now (rows .exit)) (now (table .exit)) (now (notes .exit)) (now (stack .exit))) ⌝ }
 {
     match kind {
         kinds::BREAK => outside(notes, looped, codes::BREAK, at),
@@ -338,9 +338,10 @@ fn stmt(
     at: usize,
     depth: usize,
     looped: bool,
+    plain: bool,
 ) -> usize
     requires { ⌜ Walkable (now image) nodes at depth (lent (now rows) (now table) (now notes) (now stack)) ⌝ }
-    ensures { λ r. ⌜ WalksStmt (now (image .entry)) at depth looped r
+    ensures { λ r. ⌜ WalksStmt (now (image .entry)) at depth looped plain r
         (lent (now (rows .entry)) (now (table .entry)) (now (notes .entry)) (now (stack .entry)))
         (lent (now (rows .exit)) (now (table .exit)) (now (notes .exit)) (now (stack .exit))) ⌝ }
 {
@@ -349,10 +350,21 @@ fn stmt(
     let d = depth - 1;
     let top = wide(notes[TOP]);
     match kind {
-        kinds::IF => choices(image, nodes, rows, table, notes, stack, at, d, looped),
-        kinds::WHILE => repeat(image, nodes, rows, table, notes, stack, at, d),
-        kinds::FOR => each(image, nodes, rows, table, notes, stack, at, d),
-        kinds::DEF => define(image, nodes, rows, table, notes, stack, at, d),
+        kinds::IF => choices(
+            image,
+            nodes,
+            rows,
+            table,
+            notes,
+            stack,
+            at,
+            d,
+            looped,
+            plain,
+        ),
+        kinds::WHILE => repeat(image, nodes, rows, table, notes, stack, at, d, plain),
+        kinds::FOR => each(image, nodes, rows, table, notes, stack, at, d, plain),
+        kinds::DEF => define(image, nodes, rows, table, notes, stack, at, d, plain),
         _ => simple(
             image,
             nodes,
@@ -381,9 +393,10 @@ fn block(
     depth: usize,
     looped: bool,
     drops: bool,
+    plain: bool,
 ) -> usize
     requires { ⌜ Walkable (now image) nodes at depth (lent (now rows) (now table) (now notes) (now stack)) ⌝ }
-    ensures { λ r. ⌜ WalksBlock (now (image .entry)) at depth looped drops r
+    ensures { λ r. ⌜ WalksBlock (now (image .entry)) at depth looped drops plain r
         (lent (now (rows .entry)) (now (table .entry)) (now (notes .entry)) (now (stack .entry)))
         (lent (now (rows .exit)) (now (table .exit)) (now (notes .exit)) (now (stack .exit))) ⌝ }
 {
@@ -394,7 +407,18 @@ fn block(
     let mut next = read.cursor;
     let mut left = node.children as usize;
     while 0 < left {
-        let r = stmt(image, nodes, rows, table, notes, stack, next.at, d, looped);
+        let r = stmt(
+            image,
+            nodes,
+            rows,
+            table,
+            notes,
+            stack,
+            next.at,
+            d,
+            looped,
+            plain,
+        );
         if r == ERR {
             if notes[CODE] == codes::NINTH_FRAME {
                 return r;
@@ -421,9 +445,10 @@ fn choices(
     at: usize,
     depth: usize,
     looped: bool,
+    plain: bool,
 ) -> usize
     requires { ⌜ OfKind 8 (now image) nodes at depth (lent (now rows) (now table) (now notes) (now stack)) ⌝ }
-    ensures { λ r. ⌜ Acts (now (image .entry)) at depth looped r
+    ensures { λ r. ⌜ Acts (now (image .entry)) at depth looped plain r
         (lent (now (rows .entry)) (now (table .entry)) (now (notes .entry)) (now (stack .entry)))
         (lent (now (rows .exit)) (now (table .exit)) (now (notes .exit)) (now (stack .exit))) ⌝ }
 {
@@ -448,6 +473,7 @@ fn choices(
             left,
             depth,
             looped,
+            plain,
         );
         let high = wide(notes[TOP]);
         notes[TOP] = small(top);
@@ -465,7 +491,7 @@ fn choices(
     }
 }
 
-// The branch at node `at`, of `left` nodes of an If: its condition, if it has one, and its Block, whose errors are dropped.
+// The branch at node `at`, of `left` nodes of an If: its condition, if it has one, and its Block, whose errors plain drops.
 fn one_arm(
     image: &[u8],
     nodes: usize,
@@ -477,13 +503,14 @@ fn one_arm(
     left: usize,
     depth: usize,
     looped: bool,
+    plain: bool,
 ) -> usize
     requires { ⌜ InIf (now image) nodes at left depth (lent (now rows) (now table) (now notes) (now stack)) ⌝ }
-    ensures { λ r. ⌜ WalksArm (now (image .entry)) at left depth looped r
+    ensures { λ r. ⌜ WalksArm (now (image .entry)) at left depth looped plain r
         (lent (now (rows .entry)) (now (table .entry)) (now (notes .entry)) (now (stack .entry)))
         (lent (now (rows .exit)) (now (table .exit)) (now (notes .exit)) (now (stack .exit))) ⌝ }
 {
-    let drops = true;
+    let drops = plain;
     if 1 < left {
         let top = wide(notes[TOP]);
         let o = condition(image, nodes, rows, top, table, notes, stack, at, depth);
@@ -502,6 +529,7 @@ fn one_arm(
             depth,
             looped,
             drops,
+            plain,
         );
     }
     block(
@@ -515,6 +543,7 @@ fn one_arm(
         depth,
         looped,
         drops,
+        plain,
     )
 }
 
@@ -528,9 +557,10 @@ fn define(
     stack: &mut Stack,
     at: usize,
     depth: usize,
+    plain: bool,
 ) -> usize
     requires { ⌜ OfKind 11 (now image) nodes at depth (lent (now rows) (now table) (now notes) (now stack)) ⌝ }
-    ensures { λ r. ⌜ ActsAnywhere (now (image .entry)) at depth r
+    ensures { λ r. ⌜ ActsAnywhere (now (image .entry)) at depth plain r
         (lent (now (rows .entry)) (now (table .entry)) (now (notes .entry)) (now (stack .entry)))
         (lent (now (rows .exit)) (now (table .exit)) (now (notes .exit)) (now (stack .exit))) ⌝ }
 {
@@ -556,6 +586,7 @@ fn define(
         depth,
         false,
         false,
+        plain,
     );
     notes[RETURNS] = ret;
     if r == ERR {
@@ -575,9 +606,10 @@ fn each(
     stack: &mut Stack,
     at: usize,
     depth: usize,
+    plain: bool,
 ) -> usize
     requires { ⌜ OfKind 10 (now image) nodes at depth (lent (now rows) (now table) (now notes) (now stack)) ⌝ }
-    ensures { λ r. ⌜ ActsAnywhere (now (image .entry)) at depth r
+    ensures { λ r. ⌜ ActsAnywhere (now (image .entry)) at depth plain r
         (lent (now (rows .entry)) (now (table .entry)) (now (notes .entry)) (now (stack .entry)))
         (lent (now (rows .entry)) (now (table .exit)) (now (notes .exit)) (now (stack .exit))) ⌝ }
 {
@@ -601,12 +633,13 @@ fn each(
         depth,
         true,
         false,
+        plain,
     );
     notes[TOP] = small(top);
     r
 }
 
-// The While at node `at`: its body on a copy of the frames, of which nothing stays; its errors are dropped.
+// The While at node `at`: its body on a copy of the frames, of which nothing stays; plain drops its errors.
 fn repeat(
     image: &[u8],
     nodes: usize,
@@ -616,9 +649,10 @@ fn repeat(
     stack: &mut Stack,
     at: usize,
     depth: usize,
+    plain: bool,
 ) -> usize
     requires { ⌜ OfKind 9 (now image) nodes at depth (lent (now rows) (now table) (now notes) (now stack)) ⌝ }
-    ensures { λ r. ⌜ ActsAnywhere (now (image .entry)) at depth r
+    ensures { λ r. ⌜ ActsAnywhere (now (image .entry)) at depth plain r
         (lent (now (rows .entry)) (now (table .entry)) (now (notes .entry)) (now (stack .entry)))
         (lent (now (rows .entry)) (now (table .exit)) (now (notes .exit)) (now (stack .exit))) ⌝ }
 {
@@ -628,6 +662,7 @@ fn repeat(
         return o;
     }
     let mut inner = *rows;
+    let drops = plain;
     let b = stop_of(image, nodes, at + 1);
     let r = block(
         image,
@@ -639,7 +674,8 @@ fn repeat(
         b,
         depth,
         true,
-        true,
+        drops,
+        plain,
     );
     notes[TOP] = small(top);
     r
@@ -658,9 +694,15 @@ pub struct Walked {
 }
 
 // The module's statements: errors are returned, and each has a return type of its own.
-pub fn program(image: &[u8], frames: &mut Frames, table: &mut [u16], stack: &mut Stack) -> Walked
+pub fn program(
+    image: &[u8],
+    frames: &mut Frames,
+    table: &mut [u16],
+    stack: &mut Stack,
+    plain: bool,
+) -> Walked
     requires { ⌜ Started (now image) (now frames) (tab (now table) 8 0) (now stack) ⌝ }
-    ensures { λ r. ⌜ Ran (now (image .entry))
+    ensures { λ r. ⌜ Ran (now (image .entry)) (settingIf plain)
         (tab (now (table .entry)) 8 0)
         (tab (now (table .exit)) (r .counts .types) (r .counts .elements))
         (now (frames .exit)) (r .top) (now (stack .exit)) (r .code) (r .place) (r .a) (r .b) ⌝ }
@@ -687,6 +729,7 @@ pub fn program(image: &[u8], frames: &mut Frames, table: &mut [u16], stack: &mut
             next.at,
             BELOW_MODULE,
             false,
+            plain,
         );
         if r == ERR {
             return Walked {

@@ -386,6 +386,6 @@ damaged =
     )
     ∷ [])
 
-pub damaged-end : map (λ r. answer (r .0) sheetBuffer messageBuffer) damaged ≡ map (λ r. r .1) damaged
+pub damaged-end : map (λ r. answer 0 (r .0) sheetBuffer messageBuffer) damaged ≡ map (λ r. r .1) damaged
 unfolding meaning-open
 damaged-end = refl

@@ -66,7 +66,7 @@ images =
     ∷ [])
 
 abbrev told : List ℕ → ℕ × ℕ
-told bs = let a : Answer = answer bs sheetBuffer messageBuffer in (a .code, a .place)
+told bs = let a : Answer = answer 0 bs sheetBuffer messageBuffer in (a .code, a .place)
 
 pub images-end : map (λ r. told (r .0)) images ≡ map {B = ℕ × ℕ} (λ r. (r .1, r .2)) images
 unfolding meaning-open
@@ -108,7 +108,7 @@ rooms =
     ∷ [])
 
 abbrev toldIn : List ℕ → ℕ → ℕ → ℕ × ℕ × ℕ
-toldIn bs sheet message = let a : Answer = answer bs sheet message in (a .code, a .place, length (a .message))
+toldIn bs sheet message = let a : Answer = answer 0 bs sheet message in (a .code, a .place, length (a .message))
 
 pub rooms-end : map (λ r. toldIn (r .0) (r .1) (r .2)) rooms ≡ map {B = ℕ × ℕ × ℕ} (λ r. (r .3, r .4, r .5)) rooms
 unfolding meaning-open

@@ -1,3 +1,4 @@
 mod Programs
 mod Damaged
 mod Decisions
+mod Strict

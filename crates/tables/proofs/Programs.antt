@@ -617,6 +617,6 @@ programs =
     )
     ∷ [])
 
-pub programs-end : map (λ r. answer (r .0) sheetBuffer messageBuffer) programs ≡ map (λ r. r .1) programs
+pub programs-end : map (λ r. answer 0 (r .0) sheetBuffer messageBuffer) programs ≡ map (λ r. r .1) programs
 unfolding meaning-open
 programs-end = refl

@@ -37,7 +37,16 @@ pub const FAMILIES: [(&str, &str); 18] = [
 
 /// The written quirks: a title, and the program's text.
 pub fn quirks() -> Vec<(&'static str, &'static str)> {
-    include_str!("quirks.txt")
+    written(include_str!("quirks.txt"))
+}
+
+/// What strict makes visible: the loop flag, and that a body's error comes at once.
+pub fn strict() -> Vec<(&'static str, &'static str)> {
+    written(include_str!("strict.txt"))
+}
+
+fn written(texts: &'static str) -> Vec<(&'static str, &'static str)> {
+    texts
         .split("---\n")
         .map(|part| {
             let (title, text) = part.split_at(part.find('\n').map_or(part.len(), |end| end + 1));
@@ -47,7 +56,7 @@ pub fn quirks() -> Vec<(&'static str, &'static str)> {
 }
 
 pub fn quirk(text: &str) -> Program {
-    source::parse(text).unwrap_or_else(|why| panic!("{}\nin quirks.txt:\n{}", why, text))
+    source::parse(text).unwrap_or_else(|why| panic!("{}\nin:\n{}", why, text))
 }
 
 thread_local! {

@@ -10,7 +10,7 @@ pub mod types;
 pub mod walk;
 pub mod write;
 
-use crate::answer::{Answer, Rooms};
+use crate::answer::{Answer, Rooms, Setting};
 use crate::mistakes::Mind;
 use walk::End;
 
@@ -21,13 +21,13 @@ pub struct Judged {
     pub weight: u64,
 }
 
-/// Document 01's answer, as far as `mind` gets it right.
-pub fn judge(bytes: &[u8], rooms: Rooms, mind: Mind) -> Judged {
+/// Document 01's answer, in strict with the dropping removed, as far as `mind` gets it right.
+pub fn judge(bytes: &[u8], setting: Setting, rooms: Rooms, mind: Mind) -> Judged {
     let image = match read::read(bytes, mind) {
         Ok(image) => image,
         Err((code, place)) => return Judged { answer: Answer::bare(code, place as u32), weight: 0 },
     };
-    let mut walk = walk::Walk::new(&image, mind);
+    let mut walk = walk::Walk::new(&image, setting, mind);
     let end = walk.program();
     let answer = match end {
         End::Done => write::accepted(&walk, rooms, mind),

@@ -2,6 +2,7 @@
 
 use super::read::Image;
 use super::types::*;
+use crate::answer::Setting;
 use crate::mistakes::{Mind, Mistake, Mistake::*};
 use std::collections::HashMap;
 
@@ -47,7 +48,17 @@ pub struct Walk<'a> {
     returns: Ty,
     /// Nodes of type trees that T would have copied by now. What it makes and prints is in proportion.
     pub weight: u64,
+    setting: Setting,
     pub(super) mind: Mind,
+}
+
+/// The bodies whose errors plain drops.
+#[derive(Clone, Copy, PartialEq)]
+enum Body {
+    Then,
+    Elif,
+    Else,
+    While,
 }
 
 pub(super) fn refuse<T>(code: u32, node: usize, pieces: Vec<Piece>) -> Result<T, Refusal> {
@@ -55,7 +66,7 @@ pub(super) fn refuse<T>(code: u32, node: usize, pieces: Vec<Piece>) -> Result<T,
 }
 
 impl<'a> Walk<'a> {
-    pub fn new(image: &'a Image, mind: Mind) -> Walk<'a> {
+    pub fn new(image: &'a Image, setting: Setting, mind: Mind) -> Walk<'a> {
         let module = vec![None; image.names.len()];
         Walk {
             image,
@@ -63,6 +74,7 @@ impl<'a> Walk<'a> {
             frames: vec![module],
             returns: UNKNOWN,
             weight: 0,
+            setting,
             mind,
         }
     }
@@ -172,7 +184,8 @@ impl<'a> Walk<'a> {
                     return End::Refused(refusal);
                 }
                 let entry = self.snapshot();
-                let end = self.dropping(parts[1], true, WhileErrorReturned, WhileStopsAtError);
+                let flag = in_loop || !self.mind.slips(WhileHandsItsFlag);
+                let end = self.dropping(parts[1], flag, Body::While);
                 if !self.mind.slips(WhileCommits) {
                     self.frames = entry;
                 }
@@ -207,7 +220,7 @@ impl<'a> Walk<'a> {
         let returns = self.returns;
         let flag = !self.mind.slips(ForSetsNoFlag);
         let end = if self.mind.slips(ForErrorDropped) {
-            self.dropping(parts[1], flag, WhileErrorReturned, WhileStopsAtError)
+            self.dropping(parts[1], flag, Body::While)
         } else {
             self.returning(parts[1], flag)
         };
@@ -239,16 +252,30 @@ impl<'a> Walk<'a> {
         End::Done
     }
 
-    /// A body whose errors are dropped, statement by statement: what was done before an error stays. The
-    /// two mistakes are this kind of body's.
-    fn dropping(&mut self, block: usize, in_loop: bool, returned: Mistake, stops: Mistake) -> End {
+    /// A body whose errors plain drops, statement by statement, so that what was done before an error stays;
+    /// strict returns the first at once.
+    fn dropping(&mut self, block: usize, in_loop: bool, body: Body) -> End {
+        let (returned, stops, still_dropped) = match body {
+            Body::Then => (IfErrorReturned, IfStopsAtError, ThenDropped),
+            Body::Elif => (IfErrorReturned, IfStopsAtError, ElifDropped),
+            Body::Else => (IfErrorReturned, IfStopsAtError, ElseDropped),
+            Body::While => (WhileErrorReturned, WhileStopsAtError, WhileDropped),
+        };
+        let strict = self.setting == Setting::Strict && !self.mind.slips(still_dropped);
         let before = self.returns;
+        let mut held = End::Done;
         for statement in self.children(block) {
             match self.statement(statement, in_loop) {
                 End::Done => {}
                 End::NinthFrame(_) if self.mind.slips(NinthDropped) => {}
                 end @ End::NinthFrame(_) => return end,
-                end if self.mind.slips(returned) => return end,
+                end if strict && self.mind.slips(LastErrorTold) => held = end,
+                end if strict && self.mind.slips(BodyWalkedOn) => {
+                    if matches!(held, End::Done) {
+                        held = end;
+                    }
+                }
+                end if strict || self.mind.slips(returned) => return end,
                 End::Refused(_) if self.mind.slips(stops) => break,
                 End::Refused(_) => {}
             }
@@ -256,7 +283,7 @@ impl<'a> Walk<'a> {
         if self.mind.slips(DroppedReturnsForgotten) {
             self.returns = before;
         }
-        End::Done
+        held
     }
 
     fn def(&mut self, node: usize, parts: &[usize], in_loop: bool) -> End {
@@ -285,7 +312,7 @@ impl<'a> Walk<'a> {
         }
         let flag = in_loop && self.mind.slips(LoopFlagIntoDef);
         let end = if self.mind.slips(DefErrorDropped) {
-            self.dropping(*body, flag, WhileErrorReturned, WhileStopsAtError)
+            self.dropping(*body, flag, Body::While)
         } else {
             self.returning(*body, flag)
         };
@@ -303,6 +330,8 @@ impl<'a> Walk<'a> {
         let entry = self.frames.clone();
         let returns = self.returns;
         let mut branches: Vec<Frames> = Vec::new();
+        // Only a mistake keeps a body's error for later.
+        let mut held: Option<End> = None;
         if self.mind.slips(ElifsFirst) {
             for arm in parts.chunks_exact(2) {
                 if let Err(refusal) = self.condition(node, arm[0]) {
@@ -310,7 +339,7 @@ impl<'a> Walk<'a> {
                 }
             }
         }
-        for arm in parts.chunks(2) {
+        for (number, arm) in parts.chunks(2).enumerate() {
             let block = *arm.last().expect("chunks are not empty");
             // A condition stands before each body but an else, and is checked at the entry frames.
             if arm.len() == 2 {
@@ -331,10 +360,28 @@ impl<'a> Walk<'a> {
             }
             self.spend_frames();
             self.spend_frames();
-            let end = self.dropping(block, in_loop, IfErrorReturned, IfStopsAtError);
+            let body = match (number, arm.len()) {
+                (0, _) => Body::Then,
+                (_, 2) => Body::Elif,
+                _ => Body::Else,
+            };
+            if held.is_some() && self.mind.slips(ConditionsFirst) {
+                continue;
+            }
+            let end = self.dropping(block, self.flag_for(body, in_loop), body);
             self.spend_frames();
             branches.push(std::mem::replace(&mut self.frames, entry.clone()));
-            if !matches!(end, End::Done) {
+            match end {
+                End::Done => {}
+                End::Refused(_) if self.mind.slips(LastBranchTold) => held = Some(end),
+                End::Refused(_) if self.mind.slips(ConditionsFirst) || self.mind.slips(MergeFirst) => {
+                    held = held.or(Some(end));
+                }
+                end => return end,
+            }
+        }
+        if !self.mind.slips(MergeFirst) {
+            if let Some(end) = held {
                 return end;
             }
         }
@@ -343,7 +390,20 @@ impl<'a> Walk<'a> {
             Mind(Some(MergeAtLast)) => parts[(parts.len() / 2 - 1) * 2],
             _ => parts[0],
         };
-        ended(self.merge(place, &branches))
+        match (ended(self.merge(place, &branches)), held) {
+            (End::Done, Some(end)) => end,
+            (end, _) => end,
+        }
+    }
+
+    /// An If hands on the flag that it has.
+    fn flag_for(&self, body: Body, in_loop: bool) -> bool {
+        let clears = match body {
+            Body::Elif => self.mind.slips(ElifClearsFlag),
+            Body::Else => self.mind.slips(ElseClearsFlag),
+            _ => false,
+        };
+        (in_loop && !self.mind.slips(IfClearsFlag) && !clears) || self.mind.slips(IfSetsFlag)
     }
 
     /// Names in byte order, which is the order of their numbers.

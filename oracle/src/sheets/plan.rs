@@ -1,5 +1,6 @@
 //! What a sheet is to say, before it is written: from a program that is accepted, or made up.
 
+use crate::answer::Setting;
 use crate::generate;
 use crate::mistakes::Mind;
 use crate::random::Random;
@@ -37,7 +38,7 @@ impl Plan {
             texts: self.names.keys().cloned().collect(),
             nodes: Vec::new(),
         };
-        let mut walk = Walk::new(&image, mind);
+        let mut walk = Walk::new(&image, Setting::Plain, mind);
         walk.types = self.types.clone();
         walk.frames[0] = self.names.values().map(|t| Some(*t)).collect();
         write::sheet(&walk, mind)
@@ -46,7 +47,7 @@ impl Plan {
     /// The module frame at the end of a program; none if it is refused.
     pub fn of_program(image: &[u8]) -> Option<Plan> {
         let image = read::read(image, Mind::SOUND).ok()?;
-        let mut walk = Walk::new(&image, Mind::SOUND);
+        let mut walk = Walk::new(&image, Setting::Plain, Mind::SOUND);
         if !matches!(walk.program(), End::Done) {
             return None;
         }

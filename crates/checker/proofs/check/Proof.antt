@@ -1,136 +1,63 @@
-use mathlib.Core.Path.{refl, sym, ap, _∙_}
-use Rattle.image.specs.Outcome.{faultOf}
-use Rattle.image.proofs.Answers.{judged-sound}
-use Rattle.checker.proofs.Outcomes.{answers-fault}
+-- `checker::check` meets its contract: the answer under the setting that the number names, or 13. The answers stand by name in
+-- answers/check.txt.
+use Rattle.checker.proofs.Outcomes.{answers-plain, answers-strict, answers-none}
 use native.Mathlib.Omega.{arith}
 use borrow.Author.Needs.{needs}
 use Rattle.checker.proofs.check.Statement.{statement}
 use Rattle.checker.proofs.check.Tie as tie
 use Rattle.checker.proofs.check.Reads as reads
 use Rattle.checker.proofs.check.Lts as lts
-use Rattle.checker.proofs.walk_image.Reads as walk-image-reads
-use Rattle.image.proofs.judge.Reads as judge-reads
+use Rattle.checker.proofs.answer_under.Reads as answer-under-reads
 
--- src/lib.rt:151:11
-judge-requires : tie.Need-judge-requires
-judge-requires c κs = search needs
+-- src/lib.rt:249:18
+answer-under-requires : tie.Need-answer-under-requires
+answer-under-requires c κs = search needs
 
--- src/lib.rt:152:49
-enum-told : tie.Need-enum-told
-enum-told c = search needs
+-- src/lib.rt:250:19
+answer-under-requires-2 : tie.Need-answer-under-requires-2
+answer-under-requires-2 c κs = search needs
 
--- src/lib.rt:152:31
-walk-image-requires : tie.Need-walk-image-requires
-walk-image-requires c κs =
-    judged-sound _ _ (c .before .before .before .before .judge .ensures) .0 (c .before .before .enum-told .given .1)
-
--- src/lib.rt:153:28
-enum-told-2 : tie.Need-enum-told-2
-enum-told-2 c = search needs
-
--- src/lib.rt:154:29
-enum-told-3 : tie.Need-enum-told-3
-enum-told-3 c = search needs
-
--- src/lib.rt:155:30
-enum-told-4 : tie.Need-enum-told-4
-enum-told-4 c = search needs
-
--- src/lib.rt:156:25
-enum-known-i : tie.Need-enum-known-i
-enum-known-i c = search needs
-
--- src/lib.rt:157:28
-enum-known-i-2 : tie.Need-enum-known-i-2
-enum-known-i-2 c = search needs
-
--- src/lib.rt:158:25
-enum-known-i-3 : tie.Need-enum-known-i-3
-enum-known-i-3 c = search needs
-
--- src/lib.rt:159:28
-enum-known-i-4 : tie.Need-enum-known-i-4
-enum-known-i-4 c = search needs
-
--- src/lib.rt:160:25
-enum-known-i-5 : tie.Need-enum-known-i-5
-enum-known-i-5 c = search needs
-
--- src/lib.rt:147:1
+-- src/lib.rt:244:1
 same-length : tie.Need-same-length
 same-length c = search needs
 
--- src/lib.rt:147:1
+-- src/lib.rt:244:1
 same-length-2 : tie.Need-same-length-2
 same-length-2 c = search needs
 
--- src/lib.rt:147:1
+-- src/lib.rt:244:1
 returns : tie.Need-returns
-returns c = search needs
+returns c =
+    answers-plain _ _ _ (c .before .before .before .before .before .before .before .match .keys1) (c .before .before .before .before .answer-under .ensures)
 
--- src/lib.rt:147:1
+-- src/lib.rt:244:1
+same-length-3 : tie.Need-same-length-3
+same-length-3 c = search needs
+
+-- src/lib.rt:244:1
+same-length-4 : tie.Need-same-length-4
+same-length-4 c = search needs
+
+-- src/lib.rt:244:1
 returns-2 : tie.Need-returns-2
 returns-2 c =
-    answers-fault _ _ _ (sym (c .before .before .judge .ensures) ∙ ap faultOf (c .enum-told2 .given .1)) refl tt
+    answers-strict _ _ _ (c .before .before .before .before .before .before .before .match .keys2) (c .before .before .before .before .answer-under2 .ensures)
 
--- src/lib.rt:147:1
+-- src/lib.rt:244:1
 returns-3 : tie.Need-returns-3
 returns-3 c =
-    answers-fault _ _ _ (sym (c .before .before .judge .ensures) ∙ ap faultOf (c .enum-told3 .given .1)) refl tt
-
--- src/lib.rt:147:1
-returns-4 : tie.Need-returns-4
-returns-4 c =
-    answers-fault _ _ _ (sym (c .before .before .judge .ensures) ∙ ap faultOf (c .enum-told4 .given .1)) refl tt
-
--- src/lib.rt:147:1
-returns-5 : tie.Need-returns-5
-returns-5 c =
-    answers-fault _ _ _ (sym (c .before .before .before .judge .ensures) ∙ ap faultOf (c .before .i .given .1)) refl tt
-
--- src/lib.rt:147:1
-returns-6 : tie.Need-returns-6
-returns-6 c =
-    answers-fault _ _ _ (sym (c .before .before .before .judge .ensures) ∙ ap faultOf (c .before .i2 .given .1)) refl tt
-
--- src/lib.rt:147:1
-returns-7 : tie.Need-returns-7
-returns-7 c =
-    answers-fault _ _ _ (sym (c .before .before .before .judge .ensures) ∙ ap faultOf (c .before .i3 .given .1)) refl tt
-
--- src/lib.rt:147:1
-returns-8 : tie.Need-returns-8
-returns-8 c =
-    answers-fault _ _ _ (sym (c .before .before .before .judge .ensures) ∙ ap faultOf (c .before .i4 .given .1)) refl tt
-
--- src/lib.rt:147:1
-returns-9 : tie.Need-returns-9
-returns-9 c =
-    answers-fault _ _ _ (sym (c .before .before .before .judge .ensures) ∙ ap faultOf (c .before .i5 .given .1)) refl tt
+    answers-none _ _ _ _ (c .match .rest .0 .1) (c .match .rest .1)
 
 pub check-spec : {M : Type 1} → statement M
 check-spec =
     tie.close
     (tie.spec
-    judge-requires
-    enum-told
-    walk-image-requires
-    enum-told-2
-    enum-told-3
-    enum-told-4
-    enum-known-i
-    enum-known-i-2
-    enum-known-i-3
-    enum-known-i-4
-    enum-known-i-5
+    answer-under-requires
+    answer-under-requires-2
     same-length
     same-length-2
     returns
+    same-length-3
+    same-length-4
     returns-2
-    returns-3
-    returns-4
-    returns-5
-    returns-6
-    returns-7
-    returns-8
-    returns-9)
+    returns-3)

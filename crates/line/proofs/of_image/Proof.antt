@@ -18,22 +18,22 @@ cablebirch-check-requires c κs = search needs
 -- src/lib.rt:129:9
 word-requires : tie.Need-word-requires
 word-requires c κs =
-    place-near _ _ _ _ _ (c .before .before .before .before .cablebirch-check .ensures)
+    place-near _ _ _ _ _ _ (c .before .before .before .before .cablebirch-check .ensures)
 
 -- src/lib.rt:132:9
 text-requires : tie.Need-text-requires
 text-requires c κs =
-    omega (arith, sheet-in _ _ _ _ _ (c .before .before .before .before .before .before .cablebirch-check .ensures))
+    omega (arith, sheet-in _ _ _ _ _ _ (c .before .before .before .before .before .before .cablebirch-check .ensures))
 
 -- src/lib.rt:133:9
 text-requires-2 : tie.Need-text-requires-2
 text-requires-2 c κs =
-    omega (arith, message-in _ _ _ _ _ (c .before .before .before .before .before .before .before .before .cablebirch-check .ensures))
+    omega (arith, message-in _ _ _ _ _ _ (c .before .before .before .before .before .before .before .before .cablebirch-check .ensures))
 
 -- src/lib.rt:127:9
 write-requires : tie.Need-write-requires
 write-requires c κs =
-    rw (c .before .before .before .text .ensures, c .before .text2 .ensures) (printable _ _ _ _ _ (c .before .before .before .before .before .before .before .before .before .before .cablebirch-check .ensures) (c .before .before .before .before .before .before .before .before .before .before .before .before .before .before .before .before .before .pre .0) (c .before .before .before .before .before .before .before .before .before .before .before .before .before .before .before .before .before .pre .1))
+    rw (c .before .before .before .text .ensures, c .before .text2 .ensures) (printable _ _ _ _ _ _ (c .before .before .before .before .before .before .before .before .before .before .cablebirch-check .ensures) (c .before .before .before .before .before .before .before .before .before .before .before .before .before .before .before .before .before .pre .0) (c .before .before .before .before .before .before .before .before .before .before .before .before .before .before .before .before .before .pre .1))
 
 -- src/lib.rt:120:1
 same-length : tie.Need-same-length
@@ -50,7 +50,7 @@ same-length-3 c = search needs
 -- src/lib.rt:120:1
 returns : tie.Need-returns
 returns c =
-    lined _ _ _ _ _ (c .before .before .before .before .before .before .before .before .before .before .before .before .before .cablebirch-check .ensures) (c .before .before .before .before .before .before .before .before .word .ensures) (rw (c .before .before .before .before .before .before .text .ensures, c .before .before .before .before .text2 .ensures) at (c .before .before .write .ensures)) (search needs)
+    lined _ _ _ _ _ _ (c .before .before .before .before .before .before .before .before .before .before .before .before .before .cablebirch-check .ensures) (c .before .before .before .before .before .before .before .before .word .ensures) (rw (c .before .before .before .before .before .before .text .ensures, c .before .before .before .before .text2 .ensures) at (c .before .before .write .ensures)) (search needs)
 
 pub of-image-spec : {M : Type 1} → statement M
 of-image-spec =

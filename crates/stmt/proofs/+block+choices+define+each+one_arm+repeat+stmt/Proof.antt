@@ -5,9 +5,10 @@ use Rattle.nodes.proofs.Noting.{kept-noting, refused-kept, went-ill, went-well}
 use Rattle.nodes.specs.Notes.{Noting, retIn, tabIn, topIn}
 use Rattle.stmt.proofs.Bodies.{Loop, bodiless, loop-at, loop-deep, loop-end, loop-first, loop-next, loop-standing, loop-wrong, stmt-done, stmt-here}
 use Rattle.stmt.proofs.Branching.{Choosing, arm-bad, arm-done, arm-last, choosing-as, choosing-branch, choosing-end, choosing-first, choosing-next, choosing-out, choosing-standing, clash-small, last-standing, when-at, when-ready, when-standing}
-use Rattle.stmt.proofs.Cells.{acted-from, armed-ends, armed-from, body-from, done-ends, done-moved, done-refused, moved-noting, moved-trans, ret-back, ret-clear, small-node, standing-as, tab-moved, tells-deep, tells-kept, tells-moved, tells-self, tells-shallow, tells-zero, top-down, top-set, verdict-zero, well-shallow}
+use Rattle.stmt.proofs.Cells.{acted-from, armed-from, body-from, done-ends, done-moved, done-refused, moved-noting, moved-trans, ret-back, ret-clear, small-node, standing-as, tab-moved, tells-deep, tells-kept, tells-moved, tells-self, tells-shallow, tells-zero, top-down, top-set, verdict-zero, well-shallow}
 use Rattle.stmt.proofs.Compound.{def-at-block, def-bad, def-deep, def-done, def-some, def-standing, def-within, first-ready, for-bad, for-done, for-name, for-small, for-standing, second-at, second-standing, while-bad, while-done}
-use Rattle.stmt.proofs.Laws.{done-any, few-nodes, never, pair-for, pair-while, some-depth}
+use Rattle.stmt.specs.Contract.{settingIf}
+use Rattle.stmt.proofs.Laws.{done-any, drops-if, few-nodes, pair-for, pair-while, some-depth}
 use Rattle.image.proofs.Moving.{stops}
 use borrow.Author.Tests.{not-false, not-true}
 use mathlib.Core.Bool.{true}
@@ -122,11 +123,11 @@ abbrev stmt-below : ℕ → In 5 stmt-kinds.ps
 stmt-below t = and 5 stmt-kinds.ps (falls 5 stmt-kinds.ps _<_ μ-stmt t) stmt.Pre
 
 abbrev block-Inv-loop : block-lts.InvT-loop
-block-Inv-loop image nodes rows₀ table₀ notes₀ stack₀ at depth looped drops d next₀ left₀ rows table notes stack next left =
-    Loop image nodes (tabIn table₀ notes₀) rows₀ (topIn notes₀) (retIn notes₀) at depth looped drops (tabIn table notes) rows (topIn notes) (retIn notes) stack (next .at) left × Noting notes × (next .nodes ≡ nodes)
+block-Inv-loop image nodes rows₀ table₀ notes₀ stack₀ at depth looped drops plain d next₀ left₀ rows table notes stack next left =
+    Loop image (settingIf plain) nodes (tabIn table₀ notes₀) rows₀ (topIn notes₀) (retIn notes₀) at depth looped drops (tabIn table notes) rows (topIn notes) (retIn notes) stack (next .at) left × Noting notes × (next .nodes ≡ nodes)
 
 abbrev block-μ-loop : block-lts.MeasureT-loop
-block-μ-loop image nodes rows₀ table₀ notes₀ stack₀ at depth looped drops d next₀ left₀ rows table notes stack next left = left
+block-μ-loop image nodes rows₀ table₀ notes₀ stack₀ at depth looped drops plain d next₀ left₀ rows table notes stack next left = left
 
 block-next-requires : (t : ℕ) → block-lts.Need-next-requires (next-reads.Asked, next-reads.Learnt, stmt-below t, stmt.Post, over-reads.Asked, over-reads.Learnt) (block-at t) block.Post block-Inv-loop block-μ-loop
 block-next-requires t c κs =
@@ -161,17 +162,15 @@ block-same-length t c = search needs
 block-returns : (t : ℕ) → block-lts.Need-returns (next-reads.Asked, next-reads.Learnt, stmt-below t, stmt.Post, over-reads.Asked, over-reads.Learnt) (block-at t) block.Post block-Inv-loop block-μ-loop
 block-returns t c =
     let e = tells-deep (c .before .before .before .before .before .stmt .ensures .1) (c .before .before .if1 .taken) (c .if2 .taken) in
-    (loop-deep (c .before .before .before .before .before .before .before .before .before .before .before .loop .inv .0) (c .before .before .before .before .before .before .before .before .before .before .loop-test .taken) (c .before .before .before .before .before .stmt .ensures .0) e, (c .before .before .before .before .before .stmt .ensures .1, λ y n. absurd (n e)))
+    (loop-deep (c .before .before .before .before .before .before .before .before .before .before .before .loop .inv .0) (c .before .before .before .before .before .before .before .before .before .before .loop-test .taken) (c .before .before .before .before .before .stmt .ensures .0) e, c .before .before .before .before .before .stmt .ensures .1)
 
 block-same-length-2 : (t : ℕ) → block-lts.Need-same-length-2 (next-reads.Asked, next-reads.Learnt, stmt-below t, stmt.Post, over-reads.Asked, over-reads.Learnt) (block-at t) block.Post block-Inv-loop block-μ-loop
 block-same-length-2 t c = search needs
 
 block-returns-2 : (t : ℕ) → block-lts.Need-returns-2 (next-reads.Asked, next-reads.Learnt, stmt-below t, stmt.Post, over-reads.Asked, over-reads.Learnt) (block-at t) block.Post block-Inv-loop block-μ-loop
 block-returns-2 t c =
-    let k = c .before .before .before .before .before .before .stmt .ensures .1 in (
-      loop-wrong (c .before .before .before .before .before .before .before .before .before .before .before .before .loop .inv .0) (c .before .before .before .before .before .before .before .before .before .before .before .loop-test .taken) (c .before .before .before .before .before .before .stmt .ensures .0) (went-ill (tells-self k) (c .before .before .before .if1 .taken)) (tells-shallow k (c .before .before .before .if1 .taken) (c .before .if2 .left)) (not-true _ (c .if3 .taken)),
-      (k, λ y. never (sym (not-true _ (c .if3 .taken)) ∙ y)),
-    )
+    let k = c .before .before .before .before .before .before .stmt .ensures .1 in
+    (loop-wrong (c .before .before .before .before .before .before .before .before .before .before .before .before .loop .inv .0) (c .before .before .before .before .before .before .before .before .before .before .before .loop-test .taken) (c .before .before .before .before .before .before .stmt .ensures .0) (went-ill (tells-self k) (c .before .before .before .if1 .taken)) (tells-shallow k (c .before .before .before .if1 .taken) (c .before .if2 .left)) (not-true _ (c .if3 .taken)), k)
 
 block-over-requires : (t : ℕ) → block-lts.Need-over-requires (next-reads.Asked, next-reads.Learnt, stmt-below t, stmt.Post, over-reads.Asked, over-reads.Learnt) (block-at t) block.Post block-Inv-loop block-μ-loop
 block-over-requires t c κs =
@@ -198,14 +197,14 @@ block-same-length-3 t c = search needs
 
 block-returns-3 : (t : ℕ) → block-lts.Need-returns-3 (next-reads.Asked, next-reads.Learnt, stmt-below t, stmt.Post, over-reads.Asked, over-reads.Learnt) (block-at t) block.Post block-Inv-loop block-μ-loop
 block-returns-3 t c =
-    (done-any refl (verdict-zero _) (loop-end (c .before .loop .inv .0) (c .loop-test .left)), (tells-zero (c .before .loop .inv .1), λ y n. verdict-zero _))
+    (done-any refl (verdict-zero _) (loop-end (c .before .loop .inv .0) (c .loop-test .left)), tells-zero (c .before .loop .inv .1))
 
 abbrev choices-Inv-loop : choices-lts.InvT-loop
-choices-Inv-loop image nodes rows table₀ notes₀ stack₀ at depth looped merged₀ clashes₀ top next₀ left₀ table notes stack merged clashes next left =
-    Choosing image nodes (tabIn table₀ notes₀) rows top (retIn notes₀) at depth looped (tabIn table notes) (retIn notes) stack merged clashes (next .at) left × (topIn notes ≡ top) × Noting notes × (next .nodes ≡ nodes)
+choices-Inv-loop image nodes rows table₀ notes₀ stack₀ at depth looped plain merged₀ clashes₀ top next₀ left₀ table notes stack merged clashes next left =
+    Choosing image (settingIf plain) nodes (tabIn table₀ notes₀) rows top (retIn notes₀) at depth looped (tabIn table notes) (retIn notes) stack merged clashes (next .at) left × (topIn notes ≡ top) × Noting notes × (next .nodes ≡ nodes)
 
 abbrev choices-μ-loop : choices-lts.MeasureT-loop
-choices-μ-loop image nodes rows table₀ notes₀ stack₀ at depth looped merged₀ clashes₀ top next₀ left₀ table notes stack merged clashes next left = left
+choices-μ-loop image nodes rows table₀ notes₀ stack₀ at depth looped plain merged₀ clashes₀ top next₀ left₀ table notes stack merged clashes next left = left
 
 choices-next-requires : (t : ℕ) → choices-lts.Need-next-requires (next-reads.Asked, next-reads.Learnt, wide-reads.Asked, wide-reads.Learnt, one-arm-below t, one-arm.Post, small-reads.Asked, small-reads.Learnt, note-branch-reads.Asked, note-branch-reads.Learnt, after-arm-reads.Asked, after-arm-reads.Learnt, fewer-reads.Asked, fewer-reads.Learnt, commit-reads.Asked, commit-reads.Learnt, refused-reads.Asked, refused-reads.Learnt) (choices-at t) choices.Post choices-Inv-loop choices-μ-loop
 choices-next-requires t c κs =
@@ -262,15 +261,15 @@ choices-returns : (t : ℕ) → choices-lts.Need-returns (next-reads.Asked, next
 choices-returns t c =
     let k = c .before .before .before .before .before .before .one-arm .ensures .1 in
     let s = top-set (k .noting) (c .before .small .ensures) in
-    let g = armed-from _ _ _ _ _ (c .before .before .before .before .before .before .before .before .before .before .before .before .before .loop .inv .1) (c .before .before .before .before .before .before .one-arm .ensures .0) in (
-      acted-from _ _ _ _ _ _ (c .before .before .before .before .before .before .before .before .before .before .before .before .before .before .before .before .wide .ensures) (done-moved (s .moved) _ (s .top-is) (s .ret-kept)
+    let g = armed-from _ _ _ _ _ _ _ _ (c .before .before .before .before .before .before .before .before .before .before .before .before .before .loop .inv .1) (c .before .before .before .before .before .before .one-arm .ensures .0) in (
+      acted-from _ _ _ _ _ _ _ (c .before .before .before .before .before .before .before .before .before .before .before .before .before .before .before .before .wide .ensures) (done-moved (s .moved) _ (s .top-is) (s .ret-kept)
           (choosing-out (c .before .before .before .before .before .before .before .before .before .before .before .before .before .loop .inv .0) (c .before .before .before .before .before .before .before .before .before .before .before .before .loop-test .taken) g (went-ill (tells-self k) (c .if1 .taken)))),
       tells-moved (s .moved) k,
     )
 
 choices-note-branch-requires : (t : ℕ) → choices-lts.Need-note-branch-requires (next-reads.Asked, next-reads.Learnt, wide-reads.Asked, wide-reads.Learnt, one-arm-below t, one-arm.Post, small-reads.Asked, small-reads.Learnt, note-branch-reads.Asked, note-branch-reads.Learnt, after-arm-reads.Asked, after-arm-reads.Learnt, fewer-reads.Asked, fewer-reads.Learnt, commit-reads.Asked, commit-reads.Learnt, refused-reads.Asked, refused-reads.Learnt) (choices-at t) choices.Post choices-Inv-loop choices-μ-loop
 choices-note-branch-requires t c κs =
-    let f = c .before .before .before .before .before .before .before .before .before .before .one-arm .ensures .0 .done .fine (well-shallow (c .before .before .before .before .before .before .before .before .before .before .one-arm .ensures .1) (c .before .before .before .before .if1 .left)) in
+    let f = c .before .before .before .before .before .before .before .before .before .before .one-arm .ensures .0 .fine (well-shallow (c .before .before .before .before .before .before .before .before .before .before .one-arm .ensures .1) (c .before .before .before .before .if1 .left)) in
     ((c .before .before .before .before .before .before .before .before .before .before .before .before .before .before .before .before .before .loop .inv .0 .spent .fit .high, omega (arith, c .before .before .before .before .before .before .wide2 .ensures, f .left .fit .high)), (c .before .before .before .before .before .before .before .before .before .before .before .before .before .before .before .before .before .loop .inv .0 .tally .lm, c .before .before .before .before .before .before .before .before .before .before .before .before .before .before .before .before .before .loop .inv .0 .tally .lc))
 
 choices-after-arm-requires : (t : ℕ) → choices-lts.Need-after-arm-requires (next-reads.Asked, next-reads.Learnt, wide-reads.Asked, wide-reads.Learnt, one-arm-below t, one-arm.Post, small-reads.Asked, small-reads.Learnt, note-branch-reads.Asked, note-branch-reads.Learnt, after-arm-reads.Asked, after-arm-reads.Learnt, fewer-reads.Asked, fewer-reads.Learnt, commit-reads.Asked, commit-reads.Learnt, refused-reads.Asked, refused-reads.Learnt) (choices-at t) choices.Post choices-Inv-loop choices-μ-loop
@@ -290,7 +289,7 @@ choices-loop-again : (t : ℕ) → choices-lts.Need-loop-again (next-reads.Asked
 choices-loop-again t c =
     let k = c .before .before .before .before .before .before .before .before .before .before .before .before .before .one-arm .ensures .1 in
     let s = top-set (k .noting) (c .before .before .before .before .before .before .before .before .small .ensures) in
-    let g = armed-from _ _ _ _ _ (c .before .before .before .before .before .before .before .before .before .before .before .before .before .before .before .before .before .before .before .before .loop .inv .1) (c .before .before .before .before .before .before .before .before .before .before .before .before .before .one-arm .ensures .0) in (
+    let g = armed-from _ _ _ _ _ _ _ _ (c .before .before .before .before .before .before .before .before .before .before .before .before .before .before .before .before .before .before .before .before .loop .inv .1) (c .before .before .before .before .before .before .before .before .before .before .before .before .before .one-arm .ensures .0) in (
       choosing-as (tab-moved (s .moved) _) (s .ret-kept)
           (choosing-next (c .before .before .before .before .before .before .before .before .before .before .before .before .before .before .before .before .before .before .before .before .loop .inv .0) (c .before .before .before .before .before .before .before .before .before .before .before .before .before .before .before .before .before .before .before .loop-test .taken) g (c .before .after-arm .ensures .0) (c .fewer .ensures) (went-well (tells-self k) (c .before .before .before .before .before .before .before .if1 .left)) (c .before .before .before .before .before .before .before .before .before .wide2 .ensures) (c .before .before .note-branch .ensures)),
       s .top-is,
@@ -321,7 +320,7 @@ choices-same-length-2 t c = search needs
 
 choices-returns-2 : (t : ℕ) → choices-lts.Need-returns-2 (next-reads.Asked, next-reads.Learnt, wide-reads.Asked, wide-reads.Learnt, one-arm-below t, one-arm.Post, small-reads.Asked, small-reads.Learnt, note-branch-reads.Asked, note-branch-reads.Learnt, after-arm-reads.Asked, after-arm-reads.Learnt, fewer-reads.Asked, fewer-reads.Learnt, commit-reads.Asked, commit-reads.Learnt, refused-reads.Asked, refused-reads.Learnt) (choices-at t) choices.Post choices-Inv-loop choices-μ-loop
 choices-returns-2 t c = (
-  acted-from _ _ _ _ _ _ (c .before .before .before .before .before .before .before .before .before .before .wide .ensures) (done-any refl (verdict-zero _) (done-ends refl (c .before .before .before .before .before .before .before .loop .inv .1) refl
+  acted-from _ _ _ _ _ _ _ (c .before .before .before .before .before .before .before .before .before .before .wide .ensures) (done-any refl (verdict-zero _) (done-ends refl (c .before .before .before .before .before .before .before .loop .inv .1) refl
       (choosing-end (c .before .before .before .before .before .before .before .before .before .before .before .before .before .before .before .before .pre .1 .1 .1) (c .before .before .before .before .before .before .before .loop .inv .0) (c .before .before .before .before .before .before .loop-test .left) (rw (c .enum-told .given .1) at (c .before .before .commit .ensures))))),
   tells-zero (c .before .before .before .before .before .before .before .loop .inv .2),
 )
@@ -335,7 +334,7 @@ choices-returns-3 t c =
     let k = rw (c .before .before .before .merge .given .1) at (c .before .before .before .before .before .commit .ensures) in
     let h = few-nodes (c .before .before .before .before .before .before .before .before .before .before .before .before .before .before .before .before .before .before .before .pre .1 .1 .0 .ready .sound) in
     let i = c .before .before .before .before .before .before .before .before .before .before .before .before .before .before .before .before .before .before .before .pre .1 .1 .1 .there in (
-      acted-from _ _ _ _ _ _ (c .before .before .before .before .before .before .before .before .before .before .before .before .before .wide .ensures)
+      acted-from _ _ _ _ _ _ _ (c .before .before .before .before .before .before .before .before .before .before .before .before .before .wide .ensures)
           (done-refused f (omega arith) (clash-small k) (omega arith) (f .top ∙ c .before .before .before .before .before .before .before .before .before .before .loop .inv .1) (f .ret)
           (choosing-end (c .before .before .before .before .before .before .before .before .before .before .before .before .before .before .before .before .before .before .before .pre .1 .1 .1) (c .before .before .before .before .before .before .before .before .before .before .loop .inv .0) (c .before .before .before .before .before .before .before .before .before .loop-test .left) k)),
       tells-kept (refused-kept (λ z. omega arith) f),
@@ -360,7 +359,7 @@ define-returns t c =
     let f = c .refused .ensures in
     let r = c .before .before .before .before .before .before .before .before .pre .1 .1 .0 in (
       (λ loop. done-refused f (small-node (r .ready .sound) (c .before .before .before .before .before .before .before .before .pre .1 .1 .1 .there)) (omega arith) (omega arith) (f .top) (f .ret)
-          (def-deep r (c .before .before .before .before .before .before .before .before .pre .1 .1 .1) refl (omega (arith, c .before .before .before .before .wide .ensures, c .before .before .if1 .taken)) loop)),
+          (def-deep r (c .before .before .before .before .before .before .before .before .pre .1 .1 .1) refl (omega (arith, c .before .before .before .before .wide .ensures, c .before .before .if1 .taken)) _ loop)),
       tells-kept (refused-kept (λ z. omega arith) f),
     )
 
@@ -442,11 +441,11 @@ define-returns-2 t c =
     let m = ap (λ d. d .children) (c .before .before .before .before .before .before .before .before .before .before .before .before .before .before .node-at .ensures) in
     let a = top-set (c .before .before .before .before .before .before .before .before .before .before .before .before .before .before .before .before .before .before .before .before .before .pre .1 .0) (c .before .before .before .before .before .before .before .before .small .ensures) in
     let b = ret-clear (moved-noting (a .moved)) in
-    let d = body-from _ _ _ _ _ _ (tab-moved (moved-trans (a .moved) (b .moved)) _) (b .top-kept ∙ a .top-is) (b .ret-is) (c .before .before .before .block .ensures .0) in
-    let k = c .before .before .before .block .ensures .1 .0 in
+    let d = body-from _ _ _ _ _ _ _ (tab-moved (moved-trans (a .moved) (b .moved)) _) (b .top-kept ∙ a .top-is) (b .ret-is) (c .before .before .before .block .ensures .0) in
+    let k = c .before .before .before .block .ensures .1 in
     let z = ret-back (c .before .before .before .before .before .before .before .before .before .before .before .before .before .before .before .before .before .before .before .before .before .pre .1 .0) (k .noting) in (
-      (λ loop. acted-from _ _ _ _ _ _ (c .before .before .before .before .before .before .before .before .before .before .before .before .before .before .before .before .before .wide .ensures) (done-moved (z .moved) _ (z .top-kept) (z .ret-is)
-          (def-bad r q m (c .before .before .before .before .before .before .before .before .before .before .before .before .before .before .before .if1 .left) (c .before .before .before .before .before .before .before .before .before .before .before .clear .ensures) (c .before .before .before .before .before .before .before .before .before .parameters .ensures .1) (c .before .before .before .before .before .before .before .before .before .parameters .ensures .0) d (went-ill (tells-self k) (c .if2 .taken)) loop))),
+      (λ loop. acted-from _ _ _ _ _ _ _ (c .before .before .before .before .before .before .before .before .before .before .before .before .before .before .before .before .before .wide .ensures) (done-moved (z .moved) _ (z .top-kept) (z .ret-is)
+          (def-bad r q m (c .before .before .before .before .before .before .before .before .before .before .before .before .before .before .before .if1 .left) (c .before .before .before .before .before .before .before .before .before .before .before .clear .ensures) (c .before .before .before .before .before .before .before .before .before .parameters .ensures .1) (c .before .before .before .before .before .before .before .before .before .parameters .ensures .0) _ d (went-ill (tells-self k) (c .if2 .taken)) loop))),
       tells-moved (z .moved) k,
     )
 
@@ -455,7 +454,7 @@ define-element-copy-out-notes t c = search needs
 
 define-sub-notes : (t : ℕ) → define-lts.Need-sub-notes (wide-reads.Asked, wide-reads.Learnt, refused-reads.Asked, refused-reads.Learnt, node-at-reads.Asked, node-at-reads.Learnt, clear-reads.Asked, clear-reads.Learnt, parameters-reads.Asked, parameters-reads.Learnt, small-reads.Asked, small-reads.Learnt, block-below t, block.Post) (define-at t) define.Post
 define-sub-notes t c =
-    let k = c .before .before .before .before .block .ensures .1 .0 in
+    let k = c .before .before .before .before .block .ensures .1 in
     let a = top-set (c .before .before .before .before .before .before .before .before .before .before .before .before .before .before .before .before .before .before .before .before .before .before .pre .1 .0) (c .before .before .before .before .before .before .before .before .before .small .ensures) in
     let b = ret-clear (moved-noting (a .moved)) in
     let z = ret-back (c .before .before .before .before .before .before .before .before .before .before .before .before .before .before .before .before .before .before .before .before .before .before .pre .1 .0) (k .noting) in
@@ -475,13 +474,13 @@ define-returns-3 t c =
     let m = ap (λ d. d .children) (c .before .before .before .before .before .before .before .before .before .before .before .before .before .before .before .node-at .ensures) in
     let a = top-set (c .before .before .before .before .before .before .before .before .before .before .before .before .before .before .before .before .before .before .before .before .before .before .pre .1 .0) (c .before .before .before .before .before .before .before .before .before .small .ensures) in
     let b = ret-clear (moved-noting (a .moved)) in
-    let d = body-from _ _ _ _ _ _ (tab-moved (moved-trans (a .moved) (b .moved)) _) (b .top-kept ∙ a .top-is) (b .ret-is) (c .before .before .before .before .block .ensures .0) in
-    let k = c .before .before .before .before .block .ensures .1 .0 in
+    let d = body-from _ _ _ _ _ _ _ (tab-moved (moved-trans (a .moved) (b .moved)) _) (b .top-kept ∙ a .top-is) (b .ret-is) (c .before .before .before .before .block .ensures .0) in
+    let k = c .before .before .before .before .block .ensures .1 in
     let z = ret-back (c .before .before .before .before .before .before .before .before .before .before .before .before .before .before .before .before .before .before .before .before .before .before .pre .1 .0) (k .noting) in
     let y = top-down (moved-noting (z .moved)) in (
-      (λ loop. acted-from _ _ _ _ _ _ (c .before .before .before .before .before .before .before .before .before .before .before .before .before .before .before .before .before .before .wide .ensures) (done-any refl (verdict-zero _)
+      (λ loop. acted-from _ _ _ _ _ _ _ (c .before .before .before .before .before .before .before .before .before .before .before .before .before .before .before .before .before .before .wide .ensures) (done-any refl (verdict-zero _)
           (done-ends (tab-moved (moved-trans (z .moved) (y .moved)) _) (y .top-is ∙ ap (λ h. h - 1) (z .top-kept)) (y .ret-kept ∙ z .ret-is)
-          (def-done r q m (c .before .before .before .before .before .before .before .before .before .before .before .before .before .before .before .before .if1 .left) (c .before .before .before .before .before .before .before .before .before .before .before .before .clear .ensures) (c .before .before .before .before .before .before .before .before .before .before .parameters .ensures .1) (c .before .before .before .before .before .before .before .before .before .before .parameters .ensures .0) d (went-well (tells-self k) (c .before .if2 .left)) loop)))),
+          (def-done r q m (c .before .before .before .before .before .before .before .before .before .before .before .before .before .before .before .before .if1 .left) (c .before .before .before .before .before .before .before .before .before .before .before .before .clear .ensures) (c .before .before .before .before .before .before .before .before .before .before .parameters .ensures .1) (c .before .before .before .before .before .before .before .before .before .before .parameters .ensures .0) _ d (went-well (tells-self k) (c .before .if2 .left)) loop)))),
       tells-zero (moved-noting (y .moved)),
     )
 
@@ -509,8 +508,8 @@ each-returns : (t : ℕ) → each-lts.Need-returns (wide-reads.Asked, wide-reads
 each-returns t c =
     let r = standing-as refl (c .before .before .before .before .before .before .before .wide .ensures) refl (c .before .before .before .before .before .before .before .before .before .before .before .pre .1 .1 .0) in
     let k = c .before .before .before .elements .ensures .1 in (
-      (λ loop. acted-from _ _ _ _ _ _ (c .before .before .before .before .before .before .before .wide .ensures) (done-ends refl (k .top ∙ sym (c .before .before .before .before .before .before .before .wide .ensures)) (k .ret)
-          (for-bad r (c .before .before .before .before .before .before .before .before .before .before .before .pre .1 .1 .1) refl (c .before .before .before .elements .ensures .0) (went-ill k (c .if1 .taken)) loop))),
+      (λ loop. acted-from _ _ _ _ _ _ _ (c .before .before .before .before .before .before .before .wide .ensures) (done-ends refl (k .top ∙ sym (c .before .before .before .before .before .before .before .wide .ensures)) (k .ret)
+          (for-bad r (c .before .before .before .before .before .before .before .before .before .before .before .pre .1 .1 .1) refl (c .before .before .before .elements .ensures .0) (went-ill k (c .if1 .taken)) _ loop))),
       tells-kept k,
     )
 
@@ -572,11 +571,11 @@ each-returns-2 t c =
     let q = c .before .before .before .before .before .before .before .before .before .before .before .before .before .before .before .before .before .before .before .before .before .before .before .before .before .pre .1 .1 .1 in
     let k = c .before .before .before .before .before .before .before .before .before .before .before .before .before .before .before .before .before .elements .ensures .1 in
     let m = ap (λ d. d .arg) (c .before .before .before .before .before .before .before .before .before .before .before .before .before .node-at .ensures) in
-    let d = body-from _ _ _ _ _ _ refl (k .top ∙ sym (c .before .before .before .before .before .before .before .before .before .before .before .before .before .before .before .before .before .before .before .before .before .wide .ensures)) (k .ret) (c .before .before .before .block .ensures .0) in
-    let s = top-set (c .before .before .before .block .ensures .1 .0 .noting) (c .small .ensures) in (
-      (λ loop. acted-from _ _ _ _ _ _ (c .before .before .before .before .before .before .before .before .before .before .before .before .before .before .before .before .before .before .before .before .before .wide .ensures) (done-moved (s .moved) _ (s .top-is) (s .ret-kept)
-          (for-done r q m (c .before .before .before .before .before .before .before .before .before .before .before .before .before .before .before .before .before .elements .ensures .0) (went-well k (c .before .before .before .before .before .before .before .before .before .before .before .before .before .before .if1 .left)) (c .before .before .before .before .before .before .before .before .before .bind .ensures) (c .before .before .before .before .before .before .before .before .stop-of .ensures) d loop))),
-      tells-moved (s .moved) (c .before .before .before .block .ensures .1 .0),
+    let d = body-from _ _ _ _ _ _ _ refl (k .top ∙ sym (c .before .before .before .before .before .before .before .before .before .before .before .before .before .before .before .before .before .before .before .before .before .wide .ensures)) (k .ret) (c .before .before .before .block .ensures .0) in
+    let s = top-set (c .before .before .before .block .ensures .1 .noting) (c .small .ensures) in (
+      (λ loop. acted-from _ _ _ _ _ _ _ (c .before .before .before .before .before .before .before .before .before .before .before .before .before .before .before .before .before .before .before .before .before .wide .ensures) (done-moved (s .moved) _ (s .top-is) (s .ret-kept)
+          (for-done r q m (c .before .before .before .before .before .before .before .before .before .before .before .before .before .before .before .before .before .elements .ensures .0) (went-well k (c .before .before .before .before .before .before .before .before .before .before .before .before .before .before .if1 .left)) (c .before .before .before .before .before .before .before .before .before .bind .ensures) _ (c .before .before .before .before .before .before .before .before .stop-of .ensures) d loop))),
+      tells-moved (s .moved) (c .before .before .before .block .ensures .1),
     )
 
 one-arm-element-copy-out-wide : (t : ℕ) → one-arm-lts.Need-element-copy-out-wide (wide-reads.Asked, wide-reads.Learnt, condition-reads.Asked, condition-reads.Learnt, stop-of-reads.Asked, stop-of-reads.Learnt, block-below t, block.Post) (one-arm-at t) one-arm.Post
@@ -598,8 +597,8 @@ one-arm-returns : (t : ℕ) → one-arm-lts.Need-returns (wide-reads.Asked, wide
 one-arm-returns t c =
     let r = standing-as refl (c .before .before .before .before .before .before .before .before .wide .ensures) refl (c .before .before .before .before .before .before .before .before .before .before .before .before .before .pre .1 .1 .0) in
     let k = c .before .before .before .condition .ensures .1 in (
-      armed-from _ _ _ _ _ (c .before .before .before .before .before .before .before .before .wide .ensures) (armed-ends (k .top ∙ sym (c .before .before .before .before .before .before .before .before .wide .ensures)) (k .ret)
-          (arm-bad _ r (c .before .before .before .before .before .before .before .before .before .before .before .before .before .pre .1 .1 .1) (c .before .before .before .before .before .before .before .before .before .before .if1 .taken) (c .before .before .before .condition .ensures .0) (went-ill k (c .if2 .taken)))),
+      armed-from _ _ _ _ _ _ _ _ (c .before .before .before .before .before .before .before .before .wide .ensures) (done-ends refl (k .top ∙ sym (c .before .before .before .before .before .before .before .before .wide .ensures)) (k .ret)
+          (arm-bad _ r (c .before .before .before .before .before .before .before .before .before .before .before .before .before .pre .1 .1 .1) (c .before .before .before .before .before .before .before .before .before .before .if1 .taken) (c .before .before .before .condition .ensures .0) _ (went-ill k (c .if2 .taken)))),
       tells-kept k,
     )
 
@@ -629,10 +628,10 @@ one-arm-returns-2 : (t : ℕ) → one-arm-lts.Need-returns-2 (wide-reads.Asked, 
 one-arm-returns-2 t c =
     let r = standing-as refl (c .before .before .before .before .before .before .before .before .before .before .before .before .before .before .before .before .wide .ensures) refl (c .before .before .before .before .before .before .before .before .before .before .before .before .before .before .before .before .before .before .before .before .before .pre .1 .1 .0) in
     let k = c .before .before .before .before .before .before .before .before .before .before .before .condition .ensures .1 in
-    let d = body-from _ _ _ _ _ _ refl (k .top ∙ sym (c .before .before .before .before .before .before .before .before .before .before .before .before .before .before .before .before .wide .ensures)) (k .ret) (c .before .before .block .ensures .0) in (
-      armed-from _ _ _ _ _ (c .before .before .before .before .before .before .before .before .before .before .before .before .before .before .before .before .wide .ensures)
-          (arm-done _ r (c .before .before .before .before .before .before .before .before .before .before .before .before .before .before .before .before .before .before .before .before .before .pre .1 .1 .1) (c .before .before .before .before .before .before .before .before .before .before .before .before .before .before .before .before .before .before .if1 .taken) (c .before .before .before .before .before .before .before .before .before .before .before .condition .ensures .0) (c .before .before .before .before .before .before .before .stop-of .ensures) (went-well k (c .before .before .before .before .before .before .before .before .if2 .left)) d (c .before .before .block .ensures .1 .1)),
-      c .before .before .block .ensures .1 .0,
+    let d = body-from _ _ _ _ _ _ _ refl (k .top ∙ sym (c .before .before .before .before .before .before .before .before .before .before .before .before .before .before .before .before .wide .ensures)) (k .ret) (c .before .before .block .ensures .0) in (
+      armed-from _ _ _ _ _ _ _ _ (c .before .before .before .before .before .before .before .before .before .before .before .before .before .before .before .before .wide .ensures)
+          (arm-done _ r (c .before .before .before .before .before .before .before .before .before .before .before .before .before .before .before .before .before .before .before .before .before .pre .1 .1 .1) (c .before .before .before .before .before .before .before .before .before .before .before .before .before .before .before .before .before .before .if1 .taken) (c .before .before .before .before .before .before .before .before .before .before .before .condition .ensures .0) (c .before .before .before .before .before .before .before .stop-of .ensures) _ (drops-if _) (went-well k (c .before .before .before .before .before .before .before .before .if2 .left)) d),
+      c .before .before .block .ensures .1,
     )
 
 one-arm-block-requires-2 : (t : ℕ) → one-arm-lts.Need-block-requires-2 (wide-reads.Asked, wide-reads.Learnt, condition-reads.Asked, condition-reads.Learnt, stop-of-reads.Asked, stop-of-reads.Learnt, block-below t, block.Post) (one-arm-at t) one-arm.Post
@@ -644,7 +643,7 @@ one-arm-same-length-3 t c = search needs
 
 one-arm-returns-3 : (t : ℕ) → one-arm-lts.Need-returns-3 (wide-reads.Asked, wide-reads.Learnt, condition-reads.Asked, condition-reads.Learnt, stop-of-reads.Asked, stop-of-reads.Learnt, block-below t, block.Post) (one-arm-at t) one-arm.Post
 one-arm-returns-3 t c =
-    (arm-last _ (c .before .before .before .before .before .before .before .before .before .before .pre .1 .1 .0) (c .before .before .before .before .before .before .before .before .before .before .pre .1 .1 .1) (c .before .before .before .before .before .before .before .if1 .left) (c .before .before .block2 .ensures .0) (c .before .before .block2 .ensures .1 .1), c .before .before .block2 .ensures .1 .0)
+    (arm-last _ (c .before .before .before .before .before .before .before .before .before .before .pre .1 .1 .0) (c .before .before .before .before .before .before .before .before .before .before .pre .1 .1 .1) (c .before .before .before .before .before .before .before .if1 .left) _ (drops-if _) (c .before .before .block2 .ensures .0), c .before .before .block2 .ensures .1)
 
 repeat-element-copy-out-wide : (t : ℕ) → repeat-lts.Need-element-copy-out-wide (wide-reads.Asked, wide-reads.Learnt, condition-reads.Asked, condition-reads.Learnt, stop-of-reads.Asked, stop-of-reads.Learnt, block-below t, block.Post, small-reads.Asked, small-reads.Learnt) (repeat-at t) repeat.Post
 repeat-element-copy-out-wide t c = search needs
@@ -670,8 +669,8 @@ repeat-returns : (t : ℕ) → repeat-lts.Need-returns (wide-reads.Asked, wide-r
 repeat-returns t c =
     let r = standing-as refl (c .before .before .before .before .before .before .before .wide .ensures) refl (c .before .before .before .before .before .before .before .before .before .before .before .pre .1 .1 .0) in
     let k = c .before .before .before .condition .ensures .1 in (
-      (λ loop. acted-from _ _ _ _ _ _ (c .before .before .before .before .before .before .before .wide .ensures) (done-ends refl (k .top ∙ sym (c .before .before .before .before .before .before .before .wide .ensures)) (k .ret)
-          (while-bad r (c .before .before .before .before .before .before .before .before .before .before .before .pre .1 .1 .1) (c .before .before .before .condition .ensures .0) (went-ill k (c .if1 .taken)) loop))),
+      (λ loop. acted-from _ _ _ _ _ _ _ (c .before .before .before .before .before .before .before .wide .ensures) (done-ends refl (k .top ∙ sym (c .before .before .before .before .before .before .before .wide .ensures)) (k .ret)
+          (while-bad r (c .before .before .before .before .before .before .before .before .before .before .before .pre .1 .1 .1) (c .before .before .before .condition .ensures .0) (went-ill k (c .if1 .taken)) _ loop))),
       tells-kept k,
     )
 
@@ -716,11 +715,11 @@ repeat-returns-2 : (t : ℕ) → repeat-lts.Need-returns-2 (wide-reads.Asked, wi
 repeat-returns-2 t c =
     let r = standing-as refl (c .before .before .before .before .before .before .before .before .before .before .before .before .before .before .before .before .before .wide .ensures) refl (c .before .before .before .before .before .before .before .before .before .before .before .before .before .before .before .before .before .before .before .before .before .pre .1 .1 .0) in
     let k = c .before .before .before .before .before .before .before .before .before .before .before .before .before .condition .ensures .1 in
-    let d = body-from _ _ _ _ _ _ refl (k .top ∙ sym (c .before .before .before .before .before .before .before .before .before .before .before .before .before .before .before .before .before .wide .ensures)) (k .ret) (c .before .before .before .block .ensures .0) in
-    let s = top-set (c .before .before .before .block .ensures .1 .0 .noting) (c .small .ensures) in (
-      (λ loop. acted-from _ _ _ _ _ _ (c .before .before .before .before .before .before .before .before .before .before .before .before .before .before .before .before .before .wide .ensures) (done-moved (s .moved) _ (s .top-is) (s .ret-kept)
-          (while-done r (c .before .before .before .before .before .before .before .before .before .before .before .before .before .before .before .before .before .before .before .before .before .pre .1 .1 .1) (c .before .before .before .before .before .before .before .before .before .before .before .before .before .condition .ensures .0) (went-well k (c .before .before .before .before .before .before .before .before .before .before .if1 .left)) (c .before .before .before .before .before .before .before .before .stop-of .ensures) d loop))),
-      tells-moved (s .moved) (c .before .before .before .block .ensures .1 .0),
+    let d = body-from _ _ _ _ _ _ _ refl (k .top ∙ sym (c .before .before .before .before .before .before .before .before .before .before .before .before .before .before .before .before .before .wide .ensures)) (k .ret) (c .before .before .before .block .ensures .0) in
+    let s = top-set (c .before .before .before .block .ensures .1 .noting) (c .small .ensures) in (
+      (λ loop. acted-from _ _ _ _ _ _ _ (c .before .before .before .before .before .before .before .before .before .before .before .before .before .before .before .before .before .wide .ensures) (done-moved (s .moved) _ (s .top-is) (s .ret-kept)
+          (while-done r (c .before .before .before .before .before .before .before .before .before .before .before .before .before .before .before .before .before .before .before .before .before .pre .1 .1 .1) (c .before .before .before .before .before .before .before .before .before .before .before .before .before .condition .ensures .0) _ (drops-if _) (went-well k (c .before .before .before .before .before .before .before .before .before .before .if1 .left)) (c .before .before .before .before .before .before .before .before .stop-of .ensures) d loop))),
+      tells-moved (s .moved) (c .before .before .before .block .ensures .1),
     )
 
 stmt-node-at-requires : (t : ℕ) → stmt-lts.Need-node-at-requires (node-at-reads.Asked, node-at-reads.Learnt, wide-reads.Asked, wide-reads.Learnt, choices-below t, choices.Post, repeat-below t, repeat.Post, each-below t, each.Post, define-below t, define.Post, simple-reads.Asked, simple-reads.Learnt) (stmt-at t) stmt.Post
@@ -783,35 +782,35 @@ stmt-same-length t c = search needs
 
 stmt-returns : (t : ℕ) → stmt-lts.Need-returns (node-at-reads.Asked, node-at-reads.Learnt, wide-reads.Asked, wide-reads.Learnt, choices-below t, choices.Post, repeat-below t, repeat.Post, each-below t, each.Post, define-below t, define.Post, simple-reads.Asked, simple-reads.Learnt) (stmt-at t) stmt.Post
 stmt-returns t c =
-    (stmt-done (c .before .before .before .before .before .before .before .before .before .before .before .before .before .pre .1 .1 .0 .ready .sound) (c .before .before .before .before .before .before .before .before .before .before .before .before .before .pre .1 .1 .1) _ _ (c .before .before .choices .ensures .0), c .before .before .choices .ensures .1)
+    (stmt-done (c .before .before .before .before .before .before .before .before .before .before .before .before .before .pre .1 .1 .0 .ready .sound) (c .before .before .before .before .before .before .before .before .before .before .before .before .before .pre .1 .1 .1) _ _ _ (c .before .before .choices .ensures .0), c .before .before .choices .ensures .1)
 
 stmt-same-length-2 : (t : ℕ) → stmt-lts.Need-same-length-2 (node-at-reads.Asked, node-at-reads.Learnt, wide-reads.Asked, wide-reads.Learnt, choices-below t, choices.Post, repeat-below t, repeat.Post, each-below t, each.Post, define-below t, define.Post, simple-reads.Asked, simple-reads.Learnt) (stmt-at t) stmt.Post
 stmt-same-length-2 t c = search needs
 
 stmt-returns-2 : (t : ℕ) → stmt-lts.Need-returns-2 (node-at-reads.Asked, node-at-reads.Learnt, wide-reads.Asked, wide-reads.Learnt, choices-below t, choices.Post, repeat-below t, repeat.Post, each-below t, each.Post, define-below t, define.Post, simple-reads.Asked, simple-reads.Learnt) (stmt-at t) stmt.Post
 stmt-returns-2 t c =
-    (stmt-done (c .before .before .before .before .before .before .before .before .before .before .before .before .before .pre .1 .1 .0 .ready .sound) (c .before .before .before .before .before .before .before .before .before .before .before .before .before .pre .1 .1 .1) _ _ (c .before .before .repeat .ensures .0 _), c .before .before .repeat .ensures .1)
+    (stmt-done (c .before .before .before .before .before .before .before .before .before .before .before .before .before .pre .1 .1 .0 .ready .sound) (c .before .before .before .before .before .before .before .before .before .before .before .before .before .pre .1 .1 .1) _ _ _ (c .before .before .repeat .ensures .0 _), c .before .before .repeat .ensures .1)
 
 stmt-same-length-3 : (t : ℕ) → stmt-lts.Need-same-length-3 (node-at-reads.Asked, node-at-reads.Learnt, wide-reads.Asked, wide-reads.Learnt, choices-below t, choices.Post, repeat-below t, repeat.Post, each-below t, each.Post, define-below t, define.Post, simple-reads.Asked, simple-reads.Learnt) (stmt-at t) stmt.Post
 stmt-same-length-3 t c = search needs
 
 stmt-returns-3 : (t : ℕ) → stmt-lts.Need-returns-3 (node-at-reads.Asked, node-at-reads.Learnt, wide-reads.Asked, wide-reads.Learnt, choices-below t, choices.Post, repeat-below t, repeat.Post, each-below t, each.Post, define-below t, define.Post, simple-reads.Asked, simple-reads.Learnt) (stmt-at t) stmt.Post
 stmt-returns-3 t c =
-    (stmt-done (c .before .before .before .before .before .before .before .before .before .before .before .before .before .pre .1 .1 .0 .ready .sound) (c .before .before .before .before .before .before .before .before .before .before .before .before .before .pre .1 .1 .1) _ _ (c .before .before .each .ensures .0 _), c .before .before .each .ensures .1)
+    (stmt-done (c .before .before .before .before .before .before .before .before .before .before .before .before .before .pre .1 .1 .0 .ready .sound) (c .before .before .before .before .before .before .before .before .before .before .before .before .before .pre .1 .1 .1) _ _ _ (c .before .before .each .ensures .0 _), c .before .before .each .ensures .1)
 
 stmt-same-length-4 : (t : ℕ) → stmt-lts.Need-same-length-4 (node-at-reads.Asked, node-at-reads.Learnt, wide-reads.Asked, wide-reads.Learnt, choices-below t, choices.Post, repeat-below t, repeat.Post, each-below t, each.Post, define-below t, define.Post, simple-reads.Asked, simple-reads.Learnt) (stmt-at t) stmt.Post
 stmt-same-length-4 t c = search needs
 
 stmt-returns-4 : (t : ℕ) → stmt-lts.Need-returns-4 (node-at-reads.Asked, node-at-reads.Learnt, wide-reads.Asked, wide-reads.Learnt, choices-below t, choices.Post, repeat-below t, repeat.Post, each-below t, each.Post, define-below t, define.Post, simple-reads.Asked, simple-reads.Learnt) (stmt-at t) stmt.Post
 stmt-returns-4 t c =
-    (stmt-done (c .before .before .before .before .before .before .before .before .before .before .before .before .before .pre .1 .1 .0 .ready .sound) (c .before .before .before .before .before .before .before .before .before .before .before .before .before .pre .1 .1 .1) _ _ (c .before .before .define .ensures .0 _), c .before .before .define .ensures .1)
+    (stmt-done (c .before .before .before .before .before .before .before .before .before .before .before .before .before .pre .1 .1 .0 .ready .sound) (c .before .before .before .before .before .before .before .before .before .before .before .before .before .pre .1 .1 .1) _ _ _ (c .before .before .define .ensures .0 _), c .before .before .define .ensures .1)
 
 stmt-same-length-5 : (t : ℕ) → stmt-lts.Need-same-length-5 (node-at-reads.Asked, node-at-reads.Learnt, wide-reads.Asked, wide-reads.Learnt, choices-below t, choices.Post, repeat-below t, repeat.Post, each-below t, each.Post, define-below t, define.Post, simple-reads.Asked, simple-reads.Learnt) (stmt-at t) stmt.Post
 stmt-same-length-5 t c = search needs
 
 stmt-returns-5 : (t : ℕ) → stmt-lts.Need-returns-5 (node-at-reads.Asked, node-at-reads.Learnt, wide-reads.Asked, wide-reads.Learnt, choices-below t, choices.Post, repeat-below t, repeat.Post, each-below t, each.Post, define-below t, define.Post, simple-reads.Asked, simple-reads.Learnt) (stmt-at t) stmt.Post
 stmt-returns-5 t c =
-    (stmt-done (c .before .before .before .before .before .before .before .before .before .before .before .before .before .pre .1 .1 .0 .ready .sound) (c .before .before .before .before .before .before .before .before .before .before .before .before .before .pre .1 .1 .1) _ _ (acted-from _ _ _ _ _ _ (c .before .before .before .before .before .before .before .before .wide .ensures) (c .before .before .simple .ensures .0)), c .before .before .simple .ensures .1)
+    (stmt-done (c .before .before .before .before .before .before .before .before .before .before .before .before .before .pre .1 .1 .0 .ready .sound) (c .before .before .before .before .before .before .before .before .before .before .before .before .before .pre .1 .1 .1) _ _ _ (acted-from _ _ _ _ _ _ _ (c .before .before .before .before .before .before .before .before .wide .ensures) (c .before .before .simple .ensures .0 _)), c .before .before .simple .ensures .1)
 
 pub +block+choices+define+each+one-arm+repeat+stmt-spec : {M : Type 1} → statement M
 +block+choices+define+each+one-arm+repeat+stmt-spec =

@@ -6,6 +6,7 @@ use Rattle.image.proofs.Moving.{stops}
 use Rattle.nodes.specs.Notes.{Noting, tabIn, topIn}
 use Rattle.nodes.proofs.Noting.{went-ill, went-well}
 use Rattle.stmt.proofs.Cells.{moved-noting, ran-as, ret-clear, standing-as, tab-moved, tells-code, tells-self, walked-from}
+use Rattle.stmt.specs.Contract.{settingIf}
 use Rattle.stmt.proofs.Modules.{Running, running-at, running-end, running-first, running-here, running-next, running-out, running-standing}
 use native.Mathlib.Omega.{arith}
 use borrow.Author.Needs.{needs}
@@ -21,11 +22,11 @@ use Rattle.stmt.proofs.stmt.Reads as stmt-reads
 use Rattle.stmt.proofs.wide.Reads as wide-reads
 
 abbrev Inv-loop : tie.InvT-loop
-Inv-loop image frames₀ table₀ stack₀ notes₀ nodes next₀ left₀ frames table stack notes next left =
-    Running image nodes (tab table₀ 8 0) (tabIn table notes) frames (topIn notes) stack (next .at) left × Noting notes × (next .nodes ≡ nodes)
+Inv-loop image frames₀ table₀ stack₀ plain notes₀ nodes next₀ left₀ frames table stack notes next left =
+    Running image (settingIf plain) nodes (tab table₀ 8 0) (tabIn table notes) frames (topIn notes) stack (next .at) left × Noting notes × (next .nodes ≡ nodes)
 
 abbrev μ-loop : tie.MeasureT-loop
-μ-loop image frames₀ table₀ stack₀ notes₀ nodes next₀ left₀ frames table stack notes next left = left
+μ-loop image frames₀ table₀ stack₀ plain notes₀ nodes next₀ left₀ frames table stack notes next left = left
 
 -- src/lib.rt:669:5
 array-write-notes : tie.Need-array-write-notes Inv-loop μ-loop
@@ -78,8 +79,8 @@ stmt-requires c κs =
     )
 
 -- src/lib.rt:693:23
-array-read-t30 : tie.Need-array-read-t30 Inv-loop μ-loop
-array-read-t30 c = search needs
+array-read-t31 : tie.Need-array-read-t31 Inv-loop μ-loop
+array-read-t31 c = search needs
 
 -- src/lib.rt:694:29
 array-read-wide : tie.Need-array-read-wide Inv-loop μ-loop
@@ -131,7 +132,7 @@ returns : tie.Need-returns Inv-loop μ-loop
 returns c =
     let b = ret-clear (c .before .before .before .before .before .before .before .before .before .before .before .before .before .before .before .loop .inv .1) in
     let k = c .before .before .before .before .before .before .before .before .before .stmt .ensures .1 in
-    let d = walked-from _ _ _ _ _ (tab-moved (b .moved) _) (b .top-kept) (b .ret-is) (c .before .before .before .before .before .before .before .before .before .stmt .ensures .0) in
+    let d = walked-from _ _ _ _ _ _ (tab-moved (b .moved) _) (b .top-kept) (b .ret-is) (c .before .before .before .before .before .before .before .before .before .stmt .ensures .0) in
     ran-as (k .noting) (c .before .counts-of .ensures .0) (c .before .counts-of .ensures .1) (c .wide4 .ensures) (tells-code k (c .before .before .before .before .before .before .if1 .taken)) (c .before .before .before .before .before .wide .ensures) (c .before .before .before .before .wide2 .ensures) (c .before .before .before .wide3 .ensures)
     (running-out (c .before .before .before .before .before .before .before .before .before .before .before .before .before .before .before .loop .inv .0) (c .before .before .before .before .before .before .before .before .before .before .before .before .before .before .loop-test .taken) d (went-ill (tells-self k) (c .before .before .before .before .before .before .if1 .taken)))
 
@@ -153,7 +154,7 @@ loop-again : tie.Need-loop-again Inv-loop μ-loop
 loop-again c =
     let b = ret-clear (c .before .before .before .before .before .before .before .before .before .before .before .loop .inv .1) in
     let k = c .before .before .before .before .before .stmt .ensures .1 in
-    let d = walked-from _ _ _ _ _ (tab-moved (b .moved) _) (b .top-kept) (b .ret-is) (c .before .before .before .before .before .stmt .ensures .0) in (
+    let d = walked-from _ _ _ _ _ _ (tab-moved (b .moved) _) (b .top-kept) (b .ret-is) (c .before .before .before .before .before .stmt .ensures .0) in (
       running-next (c .before .before .before .before .before .before .before .before .before .before .before .loop .inv .0) (c .before .before .before .before .before .before .before .before .before .before .loop-test .taken) d (stops (c .before .over .ensures)) (went-well (tells-self k) (c .before .before .if1 .left)),
       k .noting,
       c .before .over .ensures .nodes ∙ sym (c .before .before .before .before .before .before .before .before .before .before .before .loop .inv .0 .standing .ready .nodes-at),
@@ -197,7 +198,7 @@ program-spec =
     loop-holds
     array-write-notes-4
     stmt-requires
-    array-read-t30
+    array-read-t31
     array-read-wide
     wide-requires
     array-read-wide-2

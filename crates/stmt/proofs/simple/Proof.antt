@@ -55,16 +55,16 @@ give-requires c κs = (
 returns : tie.Need-returns
 returns c =
     let o = c .outside .ensures in (
-      done-ends (tab-outside o _) (o .kept .top ∙ sym (c .before .before .before .before .before .pre .1 .1 .1 .1)) (o .kept .ret)
-          (outside-done _ 20 (o .well) (o .ill) (simple-break _ (c .before .before .before .before .before .pre .1 .0) (c .before .before .before .before .before .pre .1 .1 .0) (c .before .before .match .keys1) refl)),
+      λ setting. done-ends (tab-outside o _) (o .kept .top ∙ sym (c .before .before .before .before .before .pre .1 .1 .1 .1)) (o .kept .ret)
+          (outside-done _ 20 (o .well) (o .ill) (simple-break _ (c .before .before .before .before .before .pre .1 .0) (c .before .before .before .before .before .pre .1 .1 .0) setting (c .before .before .match .keys1) refl)),
       tells-kept (o .kept),
     )
 
 returns-2 : tie.Need-returns-2
 returns-2 c =
     let o = c .outside2 .ensures in (
-      done-ends (tab-outside o _) (o .kept .top ∙ sym (c .before .before .before .before .before .pre .1 .1 .1 .1)) (o .kept .ret)
-          (outside-done _ 21 (o .well) (o .ill) (simple-continue _ (c .before .before .before .before .before .pre .1 .0) (c .before .before .before .before .before .pre .1 .1 .0) (c .before .before .match .keys2) refl)),
+      λ setting. done-ends (tab-outside o _) (o .kept .top ∙ sym (c .before .before .before .before .before .pre .1 .1 .1 .1)) (o .kept .ret)
+          (outside-done _ 21 (o .well) (o .ill) (simple-continue _ (c .before .before .before .before .before .pre .1 .0) (c .before .before .before .before .before .pre .1 .1 .0) setting (c .before .before .match .keys2) refl)),
       tells-kept (o .kept),
     )
 
@@ -74,8 +74,8 @@ same-length c = search needs
 returns-3 : tie.Need-returns-3
 returns-3 c =
     let k = c .before .before .assignment .ensures .1 in (
-      done-ends refl (k .top ∙ sym (c .before .before .before .before .before .before .before .before .before .before .pre .1 .1 .1 .1)) (k .ret)
-          (simple-assign _ (c .before .before .before .before .before .before .before .before .before .before .pre .1 .0) (c .before .before .before .before .before .before .before .before .before .before .pre .1 .1 .0) (c .before .before .before .before .before .before .before .match .keys3) (c .before .before .assignment .ensures .0)),
+      λ setting. done-ends refl (k .top ∙ sym (c .before .before .before .before .before .before .before .before .before .before .pre .1 .1 .1 .1)) (k .ret)
+          (simple-assign _ (c .before .before .before .before .before .before .before .before .before .before .pre .1 .0) (c .before .before .before .before .before .before .before .before .before .before .pre .1 .1 .0) setting (c .before .before .before .before .before .before .before .match .keys3) (c .before .before .assignment .ensures .0)),
       tells-kept k,
     )
 
@@ -85,8 +85,8 @@ same-length-2 c = search needs
 returns-4 : tie.Need-returns-4
 returns-4 c =
     let k = c .before .before .evaluate .ensures .1 in (
-      done-ends refl (k .top ∙ sym (c .before .before .before .before .before .before .before .before .before .before .pre .1 .1 .1 .1)) (k .ret)
-          (simple-expr _ (c .before .before .before .before .before .before .before .before .before .before .pre .1 .0) (c .before .before .before .before .before .before .before .before .before .before .pre .1 .1 .0) (c .before .before .before .before .before .before .before .match .keys4) (c .before .before .evaluate .ensures .0)),
+      λ setting. done-ends refl (k .top ∙ sym (c .before .before .before .before .before .before .before .before .before .before .pre .1 .1 .1 .1)) (k .ret)
+          (simple-expr _ (c .before .before .before .before .before .before .before .before .before .before .pre .1 .0) (c .before .before .before .before .before .before .before .before .before .before .pre .1 .1 .0) setting (c .before .before .before .before .before .before .before .match .keys4) (c .before .before .evaluate .ensures .0)),
       tells-kept k,
     )
 
@@ -95,13 +95,13 @@ same-length-3 c = search needs
 
 returns-5 : tie.Need-returns-5
 returns-5 c =
-    (simple-return _ (c .before .before .before .before .before .before .before .before .before .before .pre .1 .0) (c .before .before .before .before .before .before .before .before .before .before .pre .1 .1 .0) (c .before .before .before .before .before .before .before .match .keys5) (c .before .before .give .ensures .0), c .before .before .give .ensures .1)
+    (λ setting. simple-return _ (c .before .before .before .before .before .before .before .before .before .before .pre .1 .0) (c .before .before .before .before .before .before .before .before .before .before .pre .1 .1 .0) setting (c .before .before .before .before .before .before .before .match .keys5) (c .before .before .give .ensures .0), c .before .before .give .ensures .1)
 
 returns-6 : tie.Need-returns-6
 returns-6 c =
     let o = c .match .rest in (
-      done-any refl (verdict-zero _) (done-ends refl (sym (c .before .before .before .pre .1 .1 .1 .1)) refl
-          (simple-nothing _ (c .before .before .before .pre .1 .0) (c .before .before .before .pre .1 .1 .0) (o .0 .0 .0 .0 .1) (o .0 .0 .0 .1) (o .0 .0 .1) (o .0 .1) (o .1) (c .before .before .before .pre .1 .1 .1 .0))),
+      λ setting. done-any refl (verdict-zero _) (done-ends refl (sym (c .before .before .before .pre .1 .1 .1 .1)) refl
+          (simple-nothing _ (c .before .before .before .pre .1 .0) (c .before .before .before .pre .1 .1 .0) setting (o .0 .0 .0 .0 .1) (o .0 .0 .0 .1) (o .0 .0 .1) (o .0 .1) (o .1) (c .before .before .before .pre .1 .1 .1 .0))),
       tells-zero (c .before .before .before .pre .0),
     )
 
