@@ -8,7 +8,7 @@
  * A script loads unseen exactly when it is accepted and its sheet equals the last approved sheet, byte for byte:
  *
  *     static uint8_t sheet[CABLEBIRCH_SHEET_MAX], message[CABLEBIRCH_MESSAGE_ROOM];
- *     cablebirch_answer a = cablebirch_check(image, image_len, sheet, sizeof sheet, message, sizeof message);
+ *     cablebirch_answer a = cablebirch_check(CABLEBIRCH_STRICT, image, image_len, sheet, sizeof sheet, message, sizeof message);
  *     if (a.code != CABLEBIRCH_ACCEPTED) printf("refused %u: %.*s\n", a.code, (int)a.message_length, (char *)message);
  *     else if (a.sheet_length == approved_len && memcmp(sheet, approved, approved_len) == 0) puts("loads unseen");
  *     else puts("someone must look at the new sheet");
@@ -30,11 +30,17 @@ extern "C" {
 /* The room for a message that the program `typecheck` has. Messages have no longest: one that does not fit is left out whole. */
 #define CABLEBIRCH_MESSAGE_ROOM 1024
 
+/* The settings. Plain passes over a typing error inside the body of an `if` or a `while`; strict returns it, as any other. What
+ * strict accepts, plain accepts with the same sheet. */
+#define CABLEBIRCH_PLAIN 0
+#define CABLEBIRCH_STRICT 1
+
 /* Codes; docs/CODES.md has them all. 1 to 8: the image is not well formed. 9: a ninth frame. 20 to 50: a typing error. */
 #define CABLEBIRCH_ACCEPTED 0
 #define CABLEBIRCH_NINTH_FRAME 9
 #define CABLEBIRCH_SHEET_TOO_LONG 10
 #define CABLEBIRCH_NO_SHEET 12
+#define CABLEBIRCH_NO_SETTING 13
 
 typedef struct {
     uint32_t code;         /* 0 accepted, else why not */
@@ -45,11 +51,11 @@ typedef struct {
     size_t message_length; /* codes 20 to 50: how many bytes of the message were written, at its front; 0 if it did not fit */
 } cablebirch_answer;
 
-/* Judges a program image.
+/* Judges a program image under a setting. A setting other than the two gives code 13, whatever the image is.
  * Code 0 writes the type sheet to the front of `sheet`; the bytes after it, and `message`, stay as they are.
  * Codes 20 to 50 write the message to the front of `message` if it fits (ASCII, no 0 at its end); `sheet` stays as it is.
  * For every other code, 10 too, no buffer is touched. */
-cablebirch_answer cablebirch_check(const uint8_t *image, size_t image_len, uint8_t *sheet, size_t sheet_len,
+cablebirch_answer cablebirch_check(uint32_t setting, const uint8_t *image, size_t image_len, uint8_t *sheet, size_t sheet_len,
                                    uint8_t *message, size_t message_len);
 
 /* Is this a type sheet, as a check writes it? 0 if it is, 12 if not. */

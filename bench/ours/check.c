@@ -17,7 +17,7 @@ int main(int argc, char **argv) {
     long times = strtol(argv[2], NULL, 10);
     cablebirch_answer answer = {0};
     for (long i = 0; i < times; i++) {
-        answer = cablebirch_check(image, length, sheet, sizeof sheet, message, sizeof message);
+        answer = cablebirch_check(PLAIN, image, length, sheet, sizeof sheet, message, sizeof message);
     }
     if (answer.code == 0) {
         printf("accepted\n");

@@ -25,7 +25,7 @@ static void call(void) {
     /* Pushing its return address is the first thing that a call writes. */
     __asm__ volatile("mov %%rsp, %0" : "=m"(entered));
     if (!sheets) {
-        answer = cablebirch_check(image, length, sheet, SHEET_ROOM, message, sizeof message);
+        answer = cablebirch_check(PLAIN, image, length, sheet, SHEET_ROOM, message, sizeof message);
     } else {
 #ifdef SHEETS
         answer = cablebirch_write_sheet(image, length, sheet, SHEET_ROOM);

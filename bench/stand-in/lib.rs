@@ -52,6 +52,7 @@ pub struct CablebirchAnswer {
 /// Each pointer must be good for as many bytes as the length behind it says.
 #[no_mangle]
 pub unsafe extern "C" fn cablebirch_check(
+    _plain: u32,
     image: *const u8,
     image_len: usize,
     sheet: *mut u8,
@@ -61,7 +62,7 @@ pub unsafe extern "C" fn cablebirch_check(
 ) -> CablebirchAnswer {
     let rooms = answer::Rooms { sheet: sheet_len, message: message_len };
     let bytes = std::slice::from_raw_parts(image, image_len);
-    let told = reference::judge(bytes, rooms, mistakes::Mind::SOUND).answer;
+    let told = reference::judge(bytes, answer::Setting::Plain, rooms, mistakes::Mind::SOUND).answer;
     std::ptr::copy_nonoverlapping(told.sheet.as_ptr(), sheet, told.sheet.len());
     std::ptr::copy_nonoverlapping(told.message.as_ptr(), message, told.message.len());
     CablebirchAnswer {

@@ -1,5 +1,6 @@
-/* usage: example IMAGE [SHEET]
- * Prints the checker's line for a program image, and, given the last approved sheet, whether the script loads unseen. */
+/* usage: example [plain | strict] IMAGE [SHEET]
+ * Prints the checker's line for a program image, in plain if no setting is named, and, given the last approved sheet, whether the
+ * script loads unseen. */
 #include "cablebirch.h"
 #include <stdio.h>
 #include <string.h>
@@ -19,6 +20,13 @@ static int read_file(const char *name, uint8_t *room, size_t size, size_t *lengt
     return 1;
 }
 
+/* Whether a word names a setting, and which. */
+static int names_setting(const char *word, uint32_t *setting)
+{
+    *setting = strcmp(word, "strict") == 0 ? CABLEBIRCH_STRICT : CABLEBIRCH_PLAIN;
+    return *setting == CABLEBIRCH_STRICT || strcmp(word, "plain") == 0;
+}
+
 /* A word of a sheet's header. */
 static uint32_t word(unsigned at)
 {
@@ -28,9 +36,12 @@ static uint32_t word(unsigned at)
 
 int main(int count, char **words)
 {
+    uint32_t setting = CABLEBIRCH_PLAIN;
     size_t image_length, approved_length = 0;
+    if (count > 1 && names_setting(words[1], &setting))
+        count--, words++;
     if (count < 2 || count > 3) {
-        fprintf(stderr, "usage: example IMAGE [SHEET]\n");
+        fprintf(stderr, "usage: example [plain | strict] IMAGE [SHEET]\n");
         return 2;
     }
     if (!read_file(words[1], image, sizeof image, &image_length))
@@ -38,7 +49,7 @@ int main(int count, char **words)
     if (count == 3 && !read_file(words[2], approved, sizeof approved, &approved_length))
         return 2;
 
-    cablebirch_answer a = cablebirch_check(image, image_length, sheet, sizeof sheet, message, sizeof message);
+    cablebirch_answer a = cablebirch_check(setting, image, image_length, sheet, sizeof sheet, message, sizeof message);
     if (a.code != CABLEBIRCH_ACCEPTED) {
         printf("refused %u %zu %u %u ", a.code, a.place, a.span_start, a.span_end);
         printf("%.*s\n", a.message_length ? (int)a.message_length : 1, a.message_length ? (char *)message : "-");

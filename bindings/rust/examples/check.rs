@@ -1,8 +1,15 @@
-//! usage: check IMAGE: prints the checker's line for a program image.
+//! usage: check [plain | strict] IMAGE: prints the checker's line for a program image, in plain if no setting is named.
+
+use cablebirch::Setting;
 
 fn main() {
-    let name = std::env::args().nth(1).expect("usage: check IMAGE");
+    let words: Vec<String> = std::env::args().skip(1).collect();
+    let (setting, name) = match words.iter().map(String::as_str).collect::<Vec<_>>()[..] {
+        [name] | ["plain", name] => (Setting::Plain, name),
+        ["strict", name] => (Setting::Strict, name),
+        _ => panic!("usage: check [plain | strict] IMAGE"),
+    };
     let image = std::fs::read(name).expect("the image can be read");
     let (mut sheet, mut message) = (vec![0; cablebirch::SHEET_MAX], [0; cablebirch::MESSAGE_ROOM]);
-    println!("{}", cablebirch::check(&image, &mut sheet, &mut message));
+    println!("{}", cablebirch::check(setting, &image, &mut sheet, &mut message));
 }

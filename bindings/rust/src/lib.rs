@@ -5,7 +5,7 @@
 //! ```no_run
 //! # let (image, approved): (Vec<u8>, Vec<u8>) = (vec![], vec![]);
 //! let (mut sheet, mut message) = (vec![0; cablebirch::SHEET_MAX], [0; cablebirch::MESSAGE_ROOM]);
-//! match cablebirch::check(&image, &mut sheet, &mut message) {
+//! match cablebirch::check(cablebirch::Setting::Strict, &image, &mut sheet, &mut message) {
 //!     cablebirch::Answer::Accepted { sheet } if sheet == approved => println!("loads unseen"),
 //!     cablebirch::Answer::Accepted { .. } => println!("someone must look at the new sheet"),
 //!     cablebirch::Answer::Refused(refusal) => println!("{}", refusal),
@@ -25,6 +25,15 @@ pub const IMAGE_MAX: usize = 59_936;
 /// The room for a message that the program `typecheck` has. A message that does not fit is left out whole.
 pub const MESSAGE_ROOM: usize = 1_024;
 
+/// What becomes of a typing error inside the body of an `if` or a `while`. What strict accepts, plain accepts with the same sheet.
+#[derive(Debug, Clone, Copy, PartialEq, Eq)]
+pub enum Setting {
+    /// It is passed over.
+    Plain = 0,
+    /// It is the answer, as any other typing error.
+    Strict = 1,
+}
+
 /// The answer to a program image.
 #[derive(Debug, Clone, Copy, PartialEq, Eq)]
 pub enum Answer<'a> {
@@ -40,7 +49,7 @@ pub enum Answer<'a> {
 /// Why an image was refused, and where.
 #[derive(Debug, Clone, Copy, PartialEq, Eq)]
 pub struct Refusal<'a> {
-    /// 1 to 10, or 20 to 50: see `docs/CODES.md`.
+    /// 1 to 10, or 20 to 50: see `docs/CODES.md`. Code 13, for a setting that is none, cannot come: a [`Setting`] is one.
     pub code: u32,
     /// Codes 4 and 5: a name's number; 6 to 9 and 20 to 50: a node's number; else 0.
     pub place: usize,
@@ -59,12 +68,13 @@ pub enum SheetError {
     NoSheet,
 }
 
-/// Judges a program image. An accepted one's sheet is written to the front of `sheet`, a typing error's message to the front of
-/// `message`; no other byte of the two changes.
-pub fn check<'a>(image: &[u8], sheet: &'a mut [u8], message: &'a mut [u8]) -> Answer<'a> {
+/// Judges a program image under a setting. An accepted one's sheet is written to the front of `sheet`, a typing error's message to
+/// the front of `message`; no other byte of the two changes.
+pub fn check<'a>(setting: Setting, image: &[u8], sheet: &'a mut [u8], message: &'a mut [u8]) -> Answer<'a> {
     // Safety: the pointers and lengths are those of slices, and the two that are written are borrowed by this call alone.
     let raw = unsafe {
         raw::cablebirch_check(
+            setting as u32,
             image.as_ptr(),
             image.len(),
             sheet.as_mut_ptr(),
@@ -150,6 +160,7 @@ mod raw {
 
     extern "C" {
         pub fn cablebirch_check(
+            setting: u32,
             image: *const u8,
             image_len: usize,
             sheet: *mut u8,

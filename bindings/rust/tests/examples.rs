@@ -1,5 +1,6 @@
 //! The repository's examples, through the linked library.
 
+use cablebirch::Setting::{self, Plain, Strict};
 use cablebirch::{check, read_sheet, write_sheet, Answer, SheetError, MESSAGE_ROOM, SHEET_MAX};
 use std::fs;
 use std::path::PathBuf;
@@ -23,31 +24,65 @@ fn names() -> Vec<String> {
     names
 }
 
+/// Each example under each setting.
+fn cases() -> Vec<(Setting, String)> {
+    names().into_iter().flat_map(|name| [(Plain, name.clone()), (Strict, name)]).collect()
+}
+
+/// The line that an example must give: a strict line of its own, where it has one and strict is asked for.
+fn line_of(setting: Setting, name: &str) -> String {
+    let strict = folder().join(name.to_string() + ".strict");
+    let line = match setting {
+        Strict if strict.exists() => fs::read(strict).expect("the strict line can be read"),
+        _ => file(&(name.to_string() + ".line")),
+    };
+    String::from_utf8(line).expect("a line is ASCII")
+}
+
 #[test]
 fn each_example_gives_its_line() {
-    assert!(names().len() >= 6);
-    for name in names() {
+    assert!(names().len() >= 7);
+    for (setting, name) in cases() {
         let (mut sheet, mut message) = (vec![0; SHEET_MAX], [0; MESSAGE_ROOM]);
-        let answer = check(&file(&(name.clone() + ".image")), &mut sheet, &mut message);
-        let line = String::from_utf8(file(&(name.clone() + ".line"))).expect("a line is ASCII");
-        assert_eq!(format!("{}\n", answer), line, "{}", name);
+        let answer = check(setting, &file(&(name.clone() + ".image")), &mut sheet, &mut message);
+        assert_eq!(format!("{}\n", answer), line_of(setting, &name), "{} {:?}", name, setting);
     }
 }
 
 #[test]
 fn an_accepted_example_gives_its_sheet_and_no_other_byte_changes() {
-    for name in names() {
+    for (setting, name) in cases() {
         let (mut sheet, mut message) = (vec![0xa5; SHEET_MAX], [0x5a; MESSAGE_ROOM]);
         let (mut sheet_length, mut message_length) = (0, 0);
-        match check(&file(&(name.clone() + ".image")), &mut sheet, &mut message) {
+        match check(setting, &file(&(name.clone() + ".image")), &mut sheet, &mut message) {
             Answer::Accepted { sheet } => {
-                assert_eq!(sheet, file(&(name.clone() + ".sheet")), "{}", name);
+                assert_eq!(sheet, file(&(name.clone() + ".sheet")), "{} {:?}", name, setting);
                 sheet_length = sheet.len();
             }
             Answer::Refused(refusal) => message_length = refusal.message.len(),
         }
-        assert!(sheet[sheet_length..].iter().all(|b| *b == 0xa5), "{}", name);
-        assert!(message[message_length..].iter().all(|b| *b == 0x5a), "{}", name);
+        assert!(sheet[sheet_length..].iter().all(|b| *b == 0xa5), "{} {:?}", name, setting);
+        assert!(message[message_length..].iter().all(|b| *b == 0x5a), "{} {:?}", name, setting);
+    }
+}
+
+#[test]
+fn plain_passes_over_what_strict_returns() {
+    let image = file("race.image");
+    let (mut sheet, mut message) = (vec![0; SHEET_MAX], [0; MESSAGE_ROOM]);
+    match check(Plain, &image, &mut sheet, &mut message) {
+        Answer::Accepted { sheet } => assert_eq!(sheet, file("race.sheet")),
+        Answer::Refused(refusal) => panic!("{}", refusal),
+    }
+    match check(Strict, &image, &mut sheet, &mut message) {
+        Answer::Accepted { .. } => panic!("accepted"),
+        Answer::Refused(refusal) => {
+            // The span is the `step` in the branch, without its value.
+            let script = String::from_utf8(file("race.py")).expect("a script is ASCII");
+            let start = script.find("    step = 2.5").expect("the branch has it") as u32 + 4;
+            assert_eq!((refusal.code, refusal.span), (25, (start, start + 4)));
+            assert_eq!(refusal.message, b"TypeError: cannot assign value of type Float to variable of type Int");
+        }
     }
 }
 
@@ -56,7 +91,7 @@ fn the_edited_dial_step_does_not_load_unseen() {
     let approved = file("bias.sheet");
     for (name, unseen) in [("bias.image", true), ("bias-float.image", false)] {
         let (mut sheet, mut message) = (vec![0; SHEET_MAX], [0; MESSAGE_ROOM]);
-        match check(&file(name), &mut sheet, &mut message) {
+        match check(Strict, &file(name), &mut sheet, &mut message) {
             Answer::Accepted { sheet } => assert_eq!(sheet == approved, unseen, "{}", name),
             Answer::Refused(refusal) => panic!("{}: {}", name, refusal),
         }
@@ -67,21 +102,27 @@ fn the_edited_dial_step_does_not_load_unseen() {
 fn short_buffers() {
     let length = file("bias.sheet").len();
     let (mut sheet, mut message) = (vec![0xa5; length - 1], [0x5a; MESSAGE_ROOM]);
-    let line = check(&file("bias.image"), &mut sheet, &mut message).to_string();
-    assert_eq!(line, "refused 10 0 0 0 -");
+    for setting in [Plain, Strict] {
+        let line = check(setting, &file("bias.image"), &mut sheet, &mut message).to_string();
+        assert_eq!(line, "refused 10 0 0 0 -");
+    }
     assert!(sheet.iter().all(|b| *b == 0xa5) && message.iter().all(|b| *b == 0x5a));
 
     // A message that does not fit is left out whole; the rest of the answer stays.
     let line = String::from_utf8(file("wet.line")).expect("a line is ASCII");
     let head = line.split(" TypeError").next().expect("a first part").to_string();
     let mut short = [0x5a; 5];
-    assert_eq!(check(&file("wet.image"), &mut [], &mut short).to_string(), head + " -");
+    for setting in [Plain, Strict] {
+        assert_eq!(check(setting, &file("wet.image"), &mut [], &mut short).to_string(), format!("{} -", head));
+    }
     assert_eq!(short, [0x5a; 5]);
 }
 
 #[test]
 fn no_image() {
-    assert_eq!(check(&[], &mut [], &mut []).to_string(), "refused 1 0 0 0 -");
+    for setting in [Plain, Strict] {
+        assert_eq!(check(setting, &[], &mut [], &mut []).to_string(), "refused 1 0 0 0 -");
+    }
 }
 
 #[test]
