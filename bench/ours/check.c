@@ -1,6 +1,7 @@
 /* Our checker on one image, so many times: check IMAGE N. It starts from the image's bytes, and what the last check
-   said is printed in the form of bench/t. The difference between N = 11 and N = 1 is ten checks and nothing else. */
+   said is printed in the form of bench/whole. The difference between N = 11 and N = 1 is ten checks and nothing else. */
 #include "cablebirch.h"
+#include <inttypes.h>
 #include <stdio.h>
 #include <stdlib.h>
 
@@ -26,5 +27,9 @@ int main(int argc, char **argv) {
     } else {
         printf("no tree: %u %zu\n", answer.code, answer.place);
     }
+    uint64_t sum = 0xcbf29ce484222325; /* FNV-1a of the sheet */
+    for (size_t i = 0; i < answer.sheet_length; i++) sum = (sum ^ sheet[i]) * 0x100000001b3;
+    printf("code %u, span %u to %u, sheet %zu #%016" PRIx64 "\n", answer.code, answer.span_start, answer.span_end,
+           answer.sheet_length, sum);
     return 0;
 }

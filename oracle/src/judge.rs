@@ -49,7 +49,7 @@ const HEAVIEST: u64 = 1_500_000;
 
 /// How a run of T ended.
 #[derive(Debug, PartialEq)]
-enum Outcome<T> {
+pub enum Outcome<T> {
     Accepted(T),
     Refused(SemanticError),
     NinthFrame(usize),
@@ -70,7 +70,7 @@ pub fn judge(bytes: &[u8], setting: Setting, rooms: Rooms) -> Judged {
 }
 
 /// What T wants to know of an image beforehand; on this thread, builtins are this image's from here on.
-fn context(image: &Image) -> ProgramContext {
+pub fn context(image: &Image) -> ProgramContext {
     builtins::register(&image.names);
     let functions = image.names.iter().filter_map(|name| match name.role {
         Role::Takes(p) => Some((name.text.clone(), p as usize)),
@@ -133,7 +133,7 @@ pub fn as_is_again(bytes: &[u8], runs: u64) -> BTreeMap<String, u64> {
     said
 }
 
-fn outcome<T>(run: impl FnOnce() -> SemanticResult<T>) -> Outcome<T> {
+pub fn outcome<T>(run: impl FnOnce() -> SemanticResult<T>) -> Outcome<T> {
     match catch_unwind(AssertUnwindSafe(run)) {
         Ok(Ok(value)) => Outcome::Accepted(value),
         Ok(Err(error)) => Outcome::Refused(error),
@@ -211,7 +211,7 @@ const TEXTS: [(u32, &str, &str); 31] = [
     (50, "TypeError: type '", "' is not subscriptable"),
 ];
 
-fn code_of(message: &[u8]) -> u32 {
+pub fn code_of(message: &[u8]) -> u32 {
     let fits = |(_, first, last): &&(u32, &str, &str)| {
         message.starts_with(first.as_bytes()) && message.ends_with(last.as_bytes())
     };
