@@ -61,7 +61,7 @@ module _ {bs : List ℕ} {t : Tab} {fs : Rows} {top : ℕ} {cells : List ℕ} {n
   accept-listing = l .listing t (a .wf) (a .fit)
 
   same : listed bs t cells n ≡ entries (namesOf bs) (newest (framesOf t fs top))
-  same = l .listed-is t (a .wf) (a .fit) ∙ ap (entries (namesOf bs)) (sym (newest-row t fs top))
+  same = l .listed-is t (a .wf) (a .fit)
 
   module _ {fits : Bool} {long : ℕ} {old new : List ℕ} (w : Laid (listed bs t cells n) fits long old new) where
     pub accepted : fits ≡ true → Wrote (written (length old) (sheetOf (entries (namesOf bs) (newest (framesOf t fs top))))) (Accepted long) old new

@@ -12,14 +12,12 @@ ghost use Rattle.frames.specs.Env.{framesOf};
 ghost use Rattle.stmt.specs.Contract.{settingIf};
 ghost use Rattle.checker.specs.Answers.{Answers, Wrote, Told, numbersOf, numbersIn, bareNumbers, readingNumbers, rewritingNumbers, rewritten, Rewrote, replyMeans, Replies, Relaid};
 ghost use Rattle.checker.specs.Steps.{Sized, Lent, Accepting, Refusing, refusedAs};
-use frames::ABSENT;
+use frames::EMPTY;
 use frames::Frames;
 use image::Judged;
 use image::areas;
 use image::judge;
 use image::node_at;
-use limits::MOST_FRAMES;
-use limits::MOST_NAMES;
 use limits::MOST_NODES;
 use names::list_names;
 use rules::codes;
@@ -131,7 +129,7 @@ fn walk_in(
         r (now (sheet .entry)) (now (sheet .exit)) (now (message .entry)) (now (message .exit)) ⌝ }
 {
     start(table);
-    let mut frames = [[ABSENT; MOST_NAMES]; MOST_FRAMES];
+    let mut frames = EMPTY;
     let mut stack = [FRESH; MOST_NODES];
     let w = program(image, &mut frames, table, &mut stack, plain);
     let code = w.code;

@@ -18,8 +18,9 @@ use Rattle.types.specs.Table.{Tab, denote, Wf, Means, Grown}
 use Rattle.types.proofs.Laws.{unknown-number, same-number}
 use Rattle.meaning.specs.Limits.{mostNames}
 use Rattle.meaning.specs.Base.{_and_, _or_, if_then_else_, ifSome, orElse, all, count}
-use Rattle.meaning.specs.Frames.{Frame, Frames, newest, find, lookup, write, empty}
-use Rattle.frames.specs.Env.{Rows, cellRoom, cell, put, pick, look, slot, frameOf, below, framesOf, Fit, Looked, Bound}
+use Rattle.meaning.specs.Frames.{Frame, Frames, newest, slotIn, find, lookup, write, empty}
+use Rattle.frames.specs.Env.{Rows, cellRoom, cell, put, pick, look, slot, frameOf, below, framesOf, Fit, Holds, Looked, Bound}
+use Rattle.frames.specs.declared.Held.the-variants.{Absent, OfType}
 
 -- ---- lookup
 pub look-down : (fs : Rows) (x i : ℕ) → 0 < i → look fs i x ≡ pick (eqb (cell fs (i - 1) x) 0) (look fs (i - 1) x) (cell fs (i - 1) x)
@@ -31,6 +32,11 @@ look-down fs x (suc k) h = rw sub-one
 pub slot-row : (t : Tab) (row : List ℕ) (x : ℕ) → getD (frameOf t row) x none ≡ slot t (getD row x 0)
 unfolding slot frameOf
 slot-row t row x = List·getD-map (slot t) row x 0
+
+-- a slot of the newest frame is the cell of the top row
+pub slot-frames : (t : Tab) (fs : Rows) (top x : ℕ) → slotIn (framesOf t fs top) x ≡ slot t (cell fs top x)
+unfolding slotIn framesOf below newest
+slot-frames t fs top x = slot-row t (getD fs top []) x
 
 find-cell : (t : Tab) (v l : ℕ) (r : Option Ty) → r ≡ slot t l → ifSome (slot t v) some r ≡ slot t (pick (eqb v 0) l v)
 unfolding slot ifSome
@@ -172,6 +178,19 @@ look-le f x zero h = omega arith
 look-le {t} {fs} f x (suc k) h = pick-le (eqb (cell fs k x) 0) (look-le f x k (omega arith)) (f .known k x h)
 
 -- ---- what callers learn: types, and no cells
+
+-- what the cell of the top row says that the newest frame holds
+pub held-none : {fs : Rows} {top x : ℕ} → cell fs top x ≡ 0 → Holds fs top x Absent
+unfolding slot
+held-none {fs} {top} {x} z = record { says = λ t. slot-frames t fs top x ∙ ap (slot t) z; known = λ t f. tt; small = tt }
+
+pub held-some : {fs : Rows} {top x r : ℕ} → suc r ≡ cell fs top x → r < cellRoom → Holds fs top x (OfType r)
+unfolding slot
+held-some {fs} {top} {x} {r} e h = record {
+  says = λ t. slot-frames t fs top x ∙ ap (slot t) (sym e);
+  known = λ t f. omega (arith, f .known top x (f .high));
+  small = h;
+}
 
 -- the type that a cell gives a name
 cell-type : {t : Tab} → Wf t → (o r : ℕ) → o ≤ t.n → (o ≡ 0 → r ≡ 0) → ((o ≡ 0 → ⊥) → suc r ≡ o) → Means t r (orElse (slot t o) unknown)

@@ -25,7 +25,7 @@ use Rattle.meaning.specs.Walk.{State, state, bind, End, done, wrong, tooDeep, r
 use Rattle.frames.specs.Env.{Rows, cell, put, pick, look, slot, frameOf, below, framesOf, Fit, mergeEnd, tellsCell, noteCell, clashCell, Noted, settleName, settle, Committed}
 use Rattle.frames.specs.declared.Merge.{Merge}
 use Rattle.frames.specs.declared.Merge.the-variants.{Whole, Clash}
-use Rattle.frames.proofs.Laws.{zeros, slot-row, slot-grown, frames-put-cell, fit-put}
+use Rattle.frames.proofs.Laws.{zeros, slot-frames, slot-grown, frames-put-cell, fit-put}
 
 never : {A : Type 0} → _≡_ {A = Bool} false true → A
 never e = let z : _≡_ {A = ℕ} 0 1 = ap (λ (b : Bool). pick b 1 0) e in absurd (omega arith)
@@ -83,11 +83,6 @@ assigned-snoc : (Γ : Frames) (x : ℕ) (Δs : List Frames) (Δ : Frames)
 unfolding assigned
 assigned-snoc Γ x [] Δ = refl
 assigned-snoc Γ x (E ∷ Δs) Δ = rw (assigned-snoc Γ x Δs Δ) (snoc-by (tells (slotIn Γ x) (slotIn E x)) (tells (slotIn Γ x) (slotIn Δ x)) _ _ _)
-
--- a slot of the newest frame is the cell of the top row
-slot-frames : (t : Tab) (fs : Rows) (top x : ℕ) → slotIn (framesOf t fs top) x ≡ slot t (cell fs top x)
-unfolding slotIn framesOf below newest
-slot-frames t fs top x = slot-row t (getD fs top []) x
 
 -- cells tell what slots tell
 tells-known : (t : Tab) → Wf t → (b k : ℕ) → b ≤ t.n → suc k < t.n → (if sameSlot (some (denote t (suc k))) (slot t b) then false else true) ≡ (if eqb (suc (suc k)) b then false else true)

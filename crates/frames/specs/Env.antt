@@ -12,8 +12,10 @@ use Rattle.types.specs.Table.{Tab, Wf, Means, denote}
 use Rattle.meaning.specs.Base.{if_then_else_, count}
 use Rattle.meaning.specs.Image.{Name, nameOf}
 use Rattle.meaning.specs.Message.{aText}
-use Rattle.meaning.specs.Frames.{Frame, Frames, lookup, write}
+use Rattle.meaning.specs.Frames.{Frame, Frames, slotIn, lookup, write}
 use Rattle.meaning.specs.Walk.{State, state, End, done, refuse, _>>=_, bind}
+use Rattle.frames.specs.declared.Held.{Held}
+use Rattle.frames.specs.declared.Held.the-variants.{Absent, OfType}
 use Rattle.frames.specs.declared.Merge.{Merge}
 use Rattle.frames.specs.declared.Merge.the-variants.{Whole, Clash}
 
@@ -62,6 +64,21 @@ pub record Fit (t : Tab) (fs : Rows) (top : ℕ) : Type 0 where
   pub wide : (i : ℕ) → i < mostFrames → length (getD fs i []) ≡ mostNames
   pub high : top < mostFrames
   pub known : (i x : ℕ) → i < mostFrames → cell fs i x ≤ t.n
+
+-- what is held for a name, by a table, and that its number is below n
+abbrev pub heldType : Tab → Held → Option Ty
+heldType t Absent = none
+heldType t (OfType r) = some (denote t r)
+
+abbrev pub HeldBelow : ℕ → Held → Type 0
+HeldBelow n Absent = Unit {0}
+HeldBelow n (OfType r) = r < n
+
+-- h is what the newest frame holds for name x, whatever the table
+pub record Holds (fs : Rows) (top x : ℕ) (h : Held) : Type 0 where
+  pub says : (t : Tab) → slotIn (framesOf t fs top) x ≡ heldType t h
+  pub known : (t : Tab) → Fit t fs top → HeldBelow (t.n) h
+  pub small : HeldBelow cellRoom h
 
 -- r is the number of the type of name x, whatever the table
 pub record Looked (fs : Rows) (top x r : ℕ) : Type 0 where

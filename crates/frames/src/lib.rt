@@ -5,12 +5,13 @@ ghost use Prim.Native.Nat.{ℕ, suc, _+_, _<_, _≤_};
 ghost use lib.ListN.{length, getD, set, replicate};
 ghost use mathlib.Core.List.{List, [], _∷_};
 ghost use Rattle.meaning.specs.Limits.{mostNames, mostFrames};
-ghost use Rattle.frames.specs.Env.{cellRoom, Looked, Bound, noteCell, clashCell, Noted, Committed};
+ghost use Rattle.frames.specs.Env.{cellRoom, Holds, Looked, Bound, noteCell, clashCell, Noted, Committed};
 use limits::MOST_FRAMES;
 use limits::MOST_NAMES;
 use types;
 
-// "Eight rows of 128 type numbers, copied whole": a frame for each Def around a statement and one for the module, a cell for each name.
+// "Eight rows of 128 type numbers, copied whole": a frame for each Def around a statement and one for the module, and a
+// cell for each name.
 pub type Row = [u16; MOST_NAMES];
 
 pub type Frames = [Row; MOST_FRAMES];
@@ -22,6 +23,17 @@ pub type Marks = [bool; MOST_NAMES];
 pub const ABSENT: u16 = 0;
 
 const UNKNOWN: u16 = 1;
+
+// A frame in which every name is absent, and eight of them.
+pub const NO_NAMES: Row = [ABSENT; MOST_NAMES];
+
+pub const EMPTY: Frames = [NO_NAMES; MOST_FRAMES];
+
+// What one frame holds for a name: nothing, or a type's number. The sheet tells an absent name from one of type Unknown.
+pub enum Held {
+    Absent,
+    OfType(usize),
+}
 
 // The type in a cell that holds one, and the cell of a type.
 fn type_in(cell: u16) -> usize
@@ -36,6 +48,18 @@ fn cell_of(ty: usize) -> u16
     ensures { λ r. ⌜ r ≡ suc ty ⌝ }
 {
     ty as u16 + 1
+}
+
+// What the newest frame itself holds for a name.
+pub fn held_in(frames: &Frames, top: usize, name: usize) -> Held
+    requires { ⌜ (top < mostFrames) × (name < mostNames) ⌝ }
+    ensures { λ r. ⌜ Holds (now (frames .entry)) top name r ⌝ }
+{
+    let own = frames[top][name];
+    if own == ABSENT {
+        return Held::Absent;
+    }
+    Held::OfType(type_in(own))
 }
 
 // The type of a name: "from the newest frame down; absent is Unknown".
@@ -67,7 +91,7 @@ pub fn clear(frames: &mut Frames, top: usize)
     requires { ⌜ top < mostFrames ⌝ }
     ensures { λ _. ⌜ now (frames .exit) ≡ set (now (frames .entry)) top (replicate mostNames 0) ⌝ }
 {
-    frames[top] = [ABSENT; MOST_NAMES];
+    frames[top] = NO_NAMES;
 }
 
 // A name's first known type, after a branch that leaves `v` over `b` at entry.
@@ -140,7 +164,8 @@ pub enum Merge {
 // Writes the merged names in order, up to the first that clashes.
 pub fn commit(frames: &mut Frames, top: usize, merged: &Row, clashes: &Marks) -> Merge
     requires { ⌜ (top < mostFrames) × (length (now frames) ≡ mostFrames) ⌝ }
-    ensures { λ r. ⌜ Committed (now (frames .entry)) (now (frames .exit)) top (now (merged .entry)) (now (clashes .entry)) r ⌝ }
+    ensures { λ r. ⌜ Committed (now (frames .entry)) (now (frames .exit)) top
+        (now (merged .entry)) (now (clashes .entry)) r ⌝ }
 {
     let mut x = 0;
     while x < MOST_NAMES {

@@ -1,11 +1,11 @@
 -- The turns of the walk over the names: what is listed so far and what is left come to all entries. Assumes nothing.
-use mathlib.Core.Path.{_≡_, refl, sym, ap, _∙_}
+use mathlib.Core.Path.{_≡_, refl, sym, ap, _∙_, subst}
 use mathlib.Core.Bool.{true}
 use mathlib.Core.List.{List, [], _∷_, _++_, map, map-append, append-assoc, append-nil}
 use mathlib.Core.Option.{none, some}
 use Prim.Native.Nat.{ℕ, zero, suc, _+_, _-_, _*_, _≤_, _<_}
 use native.Mathlib.Nat.{add-zero, zero-add, not-suc-le-zero, le-of-suc-le-suc}
-use native.Mathlib.Numerals.{add-one, sub-one}
+use native.Mathlib.Numerals.{add-one}
 use native.Mathlib.Omega.{arith}
 use lib.ListN.{length, getD, take, drop, length-map, drop-of-length-le}
 use lib.Seq.{drop-cons}
@@ -15,13 +15,14 @@ use Rattle.meaning.specs.Base.{ifSome, count}
 use Rattle.meaning.specs.Limits.{longestName}
 use Rattle.meaning.specs.Types.{Ty}
 use Rattle.meaning.specs.Image.{Name, NameRecord, nameRecords, nameCount, textsFrom, textsOf, namesOf, nameOf, plain, textStands, wrongName, brokenName}
-use Rattle.meaning.specs.Frames.{Frame}
+use Rattle.meaning.specs.Frames.{Frame, newest, slotIn}
 use Rattle.meaning.specs.Sheet.{Entry, entries}
 use Rattle.meaning.proofs.Choices.{and-left, and-right, if-none}
 use Rattle.meaning.proofs.Faults.{Sound, sizes}
 use Rattle.types.specs.Table.{Tab, Wf, denote}
-use Rattle.frames.specs.Env.{Rows, cell, slot, frameOf, Fit}
-use Rattle.frames.proofs.Laws.{slot-row}
+use Rattle.frames.specs.Env.{Rows, cellRoom, slot, frameOf, below, framesOf, HeldBelow, Fit, Holds}
+use Rattle.frames.specs.declared.Held.{Held}
+use Rattle.frames.specs.declared.Held.the-variants.{Absent, OfType}
 use Rattle.image.specs.Parts.{recordOf, nameStands}
 use Rattle.image.proofs.Records.{records-count, names-many, text-inside, text-fits, text-of}
 use Rattle.sheet.specs.Listing.{startAt, lengthAt, typeAt, entryAt, listedFrom, listed}
@@ -61,14 +62,22 @@ module _ (ws : List Name) (f : Frame) (k : ℕ) (hw : k < length ws) (hf : k < l
   unfolding entries ifSome nameOf
   entries-more y e = rw (drop-cons ws k (record { spelling = []; role = plain }) hw, drop-cons f k none hf, e, add-one)
 
-slot-none : (t : Tab) (v : ℕ) → v ≡ 0 → slot t v ≡ none
-unfolding slot
-slot-none t v e = rw e
+-- ---- what the newest frame holds for name k
 
-slot-some : (t : Tab) (v : ℕ) → (v ≡ 0 → ⊥) → slot t v ≡ some (denote t (v - 1))
-unfolding slot
-slot-some t zero n = absurd (n refl)
-slot-some t (suc v) n = rw (sub-one (suc v))
+module _ {fs : Rows} {top k : ℕ} {h : Held} (m : Holds fs top k h) where
+  held-absent : h ≡ Absent → (t : Tab) → getD (newest (framesOf t fs top)) k none ≡ none
+  unfolding slotIn
+  held-absent e t = rw e at (m .says t)
+
+  held-type : {r : ℕ} → h ≡ OfType r → (t : Tab) → getD (newest (framesOf t fs top)) k none ≡ some (denote t r)
+  unfolding slotIn
+  held-type e t = rw e at (m .says t)
+
+  held-known : {r : ℕ} → h ≡ OfType r → (t : Tab) → Fit t fs top → r < t.n
+  held-known e t f = subst (HeldBelow (t.n)) e (m .known t f)
+
+  pub held-small : {r : ℕ} → h ≡ OfType r → r < cellRoom
+  held-small e = subst (HeldBelow cellRoom) e (m .small)
 
 -- ---- the list of c names, and one more
 
@@ -110,8 +119,8 @@ pub record Naming (bs : List ℕ) (fs : Rows) (top : ℕ) (cells : List ℕ) (k 
   pub short : (j : ℕ) → j < c → lengthAt cells j ≤ 64
   pub known : (t : Tab) → Wf t → Fit t fs top → (j : ℕ) → j < c → typeAt cells j < t.n
   pub answer : (t : Tab) → Wf t → Fit t fs top
-      → listed bs t cells c ++ entries (drop k (namesOf bs)) (drop k (frameOf t (getD fs top [])))
-      ≡ entries (namesOf bs) (frameOf t (getD fs top []))
+      → listed bs t cells c ++ entries (drop k (namesOf bs)) (drop k (newest (framesOf t fs top)))
+      ≡ entries (namesOf bs) (newest (framesOf t fs top))
 
 pub naming-first : (bs : List ℕ) (fs : Rows) (top : ℕ) (cells : List ℕ) → length cells ≡ 384 → Naming bs fs top cells 0 0
 naming-first bs fs top cells l = record {
@@ -124,8 +133,8 @@ naming-first bs fs top cells l = record {
   answer = λ t w f. rw (listed-none bs t cells);
 }
 
-row-long : (t : Tab) (fs : Rows) (top : ℕ) → Fit t fs top → length (frameOf t (getD fs top [])) ≡ 128
-unfolding frameOf
+row-long : (t : Tab) (fs : Rows) (top : ℕ) → Fit t fs top → length (newest (framesOf t fs top)) ≡ 128
+unfolding newest framesOf below frameOf
 row-long t fs top f = length-map (getD fs top []) (slot t) ∙ f .wide top (f .high)
 
 -- name k and its slot are within their lists
@@ -133,12 +142,12 @@ module _ {bs : List ℕ} (s : Sound bs) (k : ℕ) (l : k < nameCount bs) where
   name-here : k < length (namesOf bs)
   name-here = rw (names-many bs) l
 
-  slot-here : (t : Tab) (fs : Rows) (top : ℕ) → Fit t fs top → k < length (frameOf t (getD fs top []))
+  slot-here : (t : Tab) (fs : Rows) (top : ℕ) → Fit t fs top → k < length (newest (framesOf t fs top))
   slot-here t fs top f = omega (arith, sizes (s .headed) .names, row-long t fs top f)
 
 pub naming-skip : {bs : List ℕ} {fs : Rows} {top : ℕ} {cells : List ℕ} {k c : ℕ} → Sound bs → Naming bs fs top cells k c → k < nameCount bs
-    → cell fs top k ≡ 0 → Naming bs fs top cells (k + 1) c
-naming-skip {bs} {fs} {top} {cells} {k} {c} s n l z = record {
+    → {h : Held} → Holds fs top k h → h ≡ Absent → Naming bs fs top cells (k + 1) c
+naming-skip {bs} {fs} {top} {cells} {k} {c} s n l m a = record {
   here = omega arith;
   few = omega (arith, n .few);
   long = n .long;
@@ -146,28 +155,24 @@ naming-skip {bs} {fs} {top} {cells} {k} {c} s n l z = record {
   short = n .short;
   known = n .known;
   answer = λ t w f.
-      let row = getD fs top [] in
-      let e : getD (frameOf t row) k none ≡ none = slot-row t row k ∙ slot-none t (getD row k 0) z in
-      rw (entries-skip (namesOf bs) (frameOf t row) k (name-here s k l) (slot-here s k l t fs top f) e) at (n .answer t w f);
+      rw (entries-skip (namesOf bs) (newest (framesOf t fs top)) k (name-here s k l) (slot-here s k l t fs top f) (held-absent m a t)) at (n .answer t w f);
 }
 
-module _ {bs : List ℕ} (s : Sound bs) {fs : Rows} {top k c : ℕ} {cs ds : List ℕ} {from len ty : ℕ}
-    (n : Naming bs fs top cs k c) (l : k < nameCount bs) (z : cell fs top k ≡ 0 → ⊥) (p : PutName cs ds c from len ty)
-    (ef : from ≡ textsFrom bs + recordOf (nameRecords bs) k .start) (el : len ≡ recordOf (nameRecords bs) k .size) (et : ty ≡ cell fs top k - 1) where
-  entry-put : (t : Tab) → entryAt bs t ds c ≡ (nameOf (namesOf bs) k .spelling, denote t (cell fs top k - 1))
+module _ {bs : List ℕ} (s : Sound bs) {fs : Rows} {top k c : ℕ} {cs ds : List ℕ} {from len ty : ℕ} {h : Held}
+    (n : Naming bs fs top cs k c) (l : k < nameCount bs) (m : Holds fs top k h) (a : h ≡ OfType ty) (p : PutName cs ds c from len ty)
+    (ef : from ≡ textsFrom bs + recordOf (nameRecords bs) k .start) (el : len ≡ recordOf (nameRecords bs) k .size) where
+  entry-put : (t : Tab) → entryAt bs t ds c ≡ (nameOf (namesOf bs) k .spelling, denote t ty)
   unfolding entryAt
-  entry-put t = rw (p .start-is, p .length-is, p .type-is, ef, el, et, text-of (s .headed) k)
+  entry-put t = rw (p .start-is, p .length-is, p .type-is, ef, el, text-of (s .headed) k)
 
   answer-put : (t : Tab) → Wf t → Fit t fs top
-      → listed bs t ds (c + 1) ++ entries (drop (k + 1) (namesOf bs)) (drop (k + 1) (frameOf t (getD fs top [])))
-      ≡ entries (namesOf bs) (frameOf t (getD fs top []))
+      → listed bs t ds (c + 1) ++ entries (drop (k + 1) (namesOf bs)) (drop (k + 1) (newest (framesOf t fs top)))
+      ≡ entries (namesOf bs) (newest (framesOf t fs top))
   answer-put t w f =
-      let row = getD fs top [] in
-      let rest = entries (drop (k + 1) (namesOf bs)) (drop (k + 1) (frameOf t row)) in
-      let here : getD (frameOf t row) k none ≡ some (denote t (cell fs top k - 1)) = slot-row t row k ∙ slot-some t (cell fs top k) z in
-      let more = entries-more (namesOf bs) (frameOf t row) k (name-here s k l) (slot-here s k l t fs top f) (denote t (cell fs top k - 1)) here in
+      let F = newest (framesOf t fs top) in
+      let more = entries-more (namesOf bs) F k (name-here s k l) (slot-here s k l t fs top f) (denote t ty) (held-type m a t) in
       let old : listed bs t ds c ≡ listed bs t cs c = listed-same bs t cs ds c (p .before) in
-      let new : listed bs t ds (c + 1) ≡ listed bs t cs c ++ ((nameOf (namesOf bs) k .spelling, denote t (cell fs top k - 1)) ∷ []) =
+      let new : listed bs t ds (c + 1) ≡ listed bs t cs c ++ ((nameOf (namesOf bs) k .spelling, denote t ty) ∷ []) =
       rw (add-one c, ← old, ← entry-put t) (listed-more bs t ds c) in
       rw (new, append-assoc) (rw more at (n .answer t w f))
 
@@ -184,7 +189,7 @@ module _ {bs : List ℕ} (s : Sound bs) {fs : Rows} {top k c : ℕ} {cs ds : Lis
         (omega (arith, p .length-is, text-short bs (s .names) k l));
     known = λ t w f. below-more (λ j. typeAt ds j < t.n) c
         (λ j h. omega (arith, p .before (3 * j + 2) (omega arith), n .known t w f j h))
-        (omega (arith, p .type-is, f .known top k (f .high)));
+        (omega (arith, p .type-is, held-known m a t f));
     answer = answer-put;
   }
 
@@ -200,5 +205,5 @@ naming-end {bs} {fs} {top} {cells} {k} {c} s n l =
     record {
       listing = λ t w f. record { wf = w; few = few; inside = n .inside; short = n .short; known = n .known t w f };
       listed-is = λ t w f.
-          listed-end (namesOf bs) (frameOf t (getD fs top [])) k (listed bs t cells c) (entries (namesOf bs) (frameOf t (getD fs top []))) past (n .answer t w f);
+          listed-end (namesOf bs) (newest (framesOf t fs top)) k (listed bs t cells c) (entries (namesOf bs) (newest (framesOf t fs top))) past (n .answer t w f);
     }

@@ -1,11 +1,12 @@
 // The names of an accepted program.
 ghost use mathlib.Core.Path.{_≡_};
-ghost use Prim.Native.Nat.{_-_, _<_};
+ghost use Prim.Native.Nat.{_<_};
 ghost use lib.ListN.{length};
 ghost use Rattle.meaning.proofs.Faults.{Sound};
 ghost use Rattle.names.specs.Names.{PutName, Names};
-use frames::ABSENT;
 use frames::Frames;
+use frames::Held;
+use frames::held_in;
 use image::areas;
 use image::name_at;
 
@@ -19,15 +20,7 @@ fn put_name(names: &mut [u32; 384], c: usize, from: u32, len: u32, ty: u32)
     names[3 * c + 2] = ty;
 }
 
-// A row's cell is a type's number + 1. In a function of its own, since a cell read from a row is not known to fit its width.
-fn number_of(cell: u16) -> u32
-    requires { ⌜ 0 < cell ⌝ }
-    ensures { λ r. ⌜ r ≡ cell - 1 ⌝ }
-{
-    (cell - 1) as u32
-}
-
-// Lists the names that the row `top` holds, in order, with their types, and gives their number.
+// Lists the names that the newest frame holds, in order, with their types, and gives their number.
 pub fn list_names(image: &[u8], frames: &Frames, top: usize, names: &mut [u32; 384]) -> usize
     requires { ⌜ Sound (now image) ⌝ }
     requires { ⌜ (top < 8) × (length (now names) ≡ 384) ⌝ }
@@ -37,16 +30,9 @@ pub fn list_names(image: &[u8], frames: &Frames, top: usize, names: &mut [u32; 3
     let mut k = 0;
     let mut c = 0;
     while k < l.names {
-        let cell = frames[top][k];
-        if cell != ABSENT {
+        if let Held::OfType(ty) = held_in(frames, top, k) {
             let name = name_at(image, k);
-            put_name(
-                names,
-                c,
-                l.texts as u32 + name.start,
-                name.len,
-                number_of(cell),
-            );
+            put_name(names, c, l.texts as u32 + name.start, name.len, ty as u32);
             c += 1;
         }
         k += 1;
