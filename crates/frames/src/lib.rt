@@ -29,7 +29,8 @@ pub const NO_NAMES: Row = [ABSENT; MOST_NAMES];
 
 pub const EMPTY: Frames = [NO_NAMES; MOST_FRAMES];
 
-// What one frame holds for a name: nothing, or a type's number. The sheet tells an absent name from one of type Unknown.
+// What one frame holds for a name: nothing, or a type's number. The sheet tells an absent name from one of type
+// Unknown.
 pub enum Held {
     Absent,
     OfType(usize),

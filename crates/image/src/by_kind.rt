@@ -1,8 +1,23 @@
 // Limits of a node by its kind, from 0 on: most nodes are seen to stand by these alone.
 
-// An arg is below this. No arg is below 0: so stand the numbers of no kind, Block and Param, whose spans are to be looked at too, and
-// For, Def and Variable, whose limit is the number of names and is filled in.
-pub const BELOW: [u32; 33] = [
+// The numbers up to the last kind, Lambda.
+pub const KINDS: usize = 33;
+
+pub type ByKind = [u32; KINDS];
+
+// The kinds whose arg is a name.
+pub const FOR: usize = 10;
+
+pub const DEF: usize = 11;
+
+pub const VARIABLE: usize = 21;
+
+// As many as a word can say.
+const ANY: u32 = 4294967295;
+
+// An arg is below this. No arg is below 0: so stand the numbers of no kind, Block and Param, whose spans are to be
+// looked at too, and For, Def and Variable, whose limit is the number of names and is filled in.
+pub const BELOW: ByKind = [
     0, // no kind
     1, // Break
     1, // Continue
@@ -39,7 +54,7 @@ pub const BELOW: [u32; 33] = [
 ];
 
 // So many children at least.
-pub const FEWEST: [u32; 33] = [
+pub const FEWEST: ByKind = [
     0, // no kind
     0, // Break
     0, // Continue
@@ -76,7 +91,7 @@ pub const FEWEST: [u32; 33] = [
 ];
 
 // And so many at most; the number of a Dict's is even, so here it is 0.
-pub const MOST: [u32; 33] = [
+pub const MOST: ByKind = [
     0, // no kind
     0, // Break
     0, // Continue
@@ -85,11 +100,11 @@ pub const MOST: [u32; 33] = [
     2, // Assign
     1, // Expr
     1, // Return
-    4294967295, // If
+    ANY, // If
     2, // While
     2, // For
-    4294967295, // Def
-    4294967295, // Block
+    ANY, // Def
+    ANY, // Block
     0, // Param
     0, // no kind
     0, // no kind
@@ -101,13 +116,13 @@ pub const MOST: [u32; 33] = [
     0, // Variable
     1, // Unary
     2, // Binary
-    4294967295, // Call
+    ANY, // Call
     1, // Attribute
-    4294967295, // List
+    ANY, // List
     0, // Dict
-    4294967295, // Tuple
-    4294967295, // Set
-    4294967295, // TreeSet
+    ANY, // Tuple
+    ANY, // Set
+    ANY, // TreeSet
     2, // Index
     0, // Lambda
 ];

@@ -17,3 +17,6 @@ pub const TOTAL: usize = 28;
 
 // And where the areas start.
 pub const LENGTH: usize = 32;
+
+// "Version 1".
+pub const OURS: u32 = 1;

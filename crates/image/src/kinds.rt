@@ -1,13 +1,14 @@
-// The kinds of nodes, by document 01's numbers: all of them, also those that no code has to tell from their neighbours.
+// The kinds of nodes, by document 01's numbers: all of them. Those that no code tells from their neighbours are not
+// public.
 
 // ---- statements
 pub const BREAK: u32 = 1;
 
 pub const CONTINUE: u32 = 2;
 
-pub const PASS: u32 = 3;
+const PASS: u32 = 3;
 
-pub const CLASS: u32 = 4;
+const CLASS: u32 = 4;
 
 pub const ASSIGN: u32 = 5;
 
@@ -47,7 +48,7 @@ pub const DICT: u32 = 27;
 
 pub const TUPLE: u32 = 28;
 
-pub const SET: u32 = 29;
+const SET: u32 = 29;
 
 pub const TREE_SET: u32 = 30;
 

@@ -5,12 +5,18 @@ ghost use mathlib.Core.Option.{none};
 ghost use Prim.Native.Nat.{suc, _+_, _-_, _*_, _<_, _≤_};
 ghost use lib.Dec.{eqb, leb};
 ghost use lib.ListN.{length, take, drop};
-ghost use Rattle.meaning.specs.Image.{nameCount, nodeCount, nodesFrom, textsFrom, node, nodesOf, nodeOf, nameRecord, nameRecords, textsOf, namesOf, nameOf, printable, textStands, roleStands, roleOf, allows, safe, brokenName, unsafeName, isStatement, isSpanless, isExpression, argBelow, countStands, nodeStands, brokenNode, belongs, lands, nests, badlyNested, tooDeepNode, headStands, countsStand, offsetsStand, imageFault};
+ghost use Rattle.meaning.specs.Image.{nameCount, nodeCount, nodesFrom, textsFrom, node, nodesOf, nodeOf, nameRecord};
+ghost use Rattle.meaning.specs.Image.{nameRecords, textsOf, namesOf, nameOf, printable, textStands, roleStands};
+ghost use Rattle.meaning.specs.Image.{roleOf, allows, safe, brokenName, unsafeName, isStatement, isSpanless};
+ghost use Rattle.meaning.specs.Image.{isExpression, argBelow, countStands, nodeStands, brokenNode, belongs, lands};
+ghost use Rattle.meaning.specs.Image.{nests, badlyNested, tooDeepNode, headStands, countsStand, offsetsStand};
+ghost use Rattle.meaning.specs.Image.{imageFault};
 ghost use Rattle.meaning.specs.Base.{_and_, _or_, if_then_else_, all, isOneOf};
 ghost use Rattle.meaning.proofs.Faults.{Headed};
 ghost use Rattle.image.specs.Kinds.{recordStands, argLimits, fewestChildren, mostChildren, plain, rootStands};
 ghost use Rattle.image.specs.Outcome.{faultOf, placeOf};
-ghost use Rattle.image.specs.Parts.{Laid, nodeMeans, nameMeans, recordOf, nameStands, oneArgument, twoArguments, On, Moved};
+ghost use Rattle.image.specs.Parts.{Laid, nodeMeans, nameMeans, recordOf, nameStands};
+ghost use Rattle.image.specs.Parts.{oneArgument, twoArguments, On, Moved};
 
 mod by_kind;
 mod header;
@@ -19,7 +25,9 @@ pub mod literals;
 pub mod roles;
 
 use by_kind::BELOW;
+use by_kind::ByKind;
 use by_kind::FEWEST;
+use by_kind::KINDS;
 use by_kind::MOST;
 use limits::DEEPEST;
 use limits::LONGEST_NAME;
@@ -31,8 +39,27 @@ use words::get_word;
 use words::same;
 use words::text;
 
-// "Name record, 5 words", "node record, 6 words".
+// "Name record, 5 words: text start, text length 1..64, role, p, q": the bytes at which all but the first start.
+const LEN: usize = 4;
+
+const ROLE: usize = 8;
+
+const P: usize = 12;
+
+const Q: usize = 16;
+
 const NAME_RECORD: usize = 20;
+
+// "Node record, 6 words: kind, arg, child count, end, span start, span end".
+const ARG: usize = 4;
+
+const CHILDREN: usize = 8;
+
+const STOP: usize = 12;
+
+const BEGINS: usize = 16;
+
+const ENDS: usize = 20;
 
 const NODE_RECORD: usize = 24;
 
@@ -116,7 +143,7 @@ fn head_stands(image: &[u8]) -> bool
     if image.len() < header::LENGTH {
         return false;
     }
-    get_word(image, header::VERSION) == 1
+    get_word(image, header::VERSION) == header::OURS
 }
 
 // The largest sum, the total, stays far below 2^64 whatever the words are.
@@ -183,11 +210,11 @@ fn node_words(image: &[u8], at: usize) -> Node
     ensures { λ r. ⌜ nodeMeans r ≡ node (drop at (now (image .entry))) ⌝ }
 {
     let kind = get_word(image, at);
-    let arg = get_word(image, at + 4);
-    let children = get_word(image, at + 8);
-    let stop = get_word(image, at + 12);
-    let begins = get_word(image, at + 16);
-    let ends = get_word(image, at + 20);
+    let arg = get_word(image, at + ARG);
+    let children = get_word(image, at + CHILDREN);
+    let stop = get_word(image, at + STOP);
+    let begins = get_word(image, at + BEGINS);
+    let ends = get_word(image, at + ENDS);
     Node {
         kind,
         arg,
@@ -203,10 +230,10 @@ fn name_words(image: &[u8], at: usize) -> NameAt
     ensures { λ r. ⌜ nameMeans r ≡ nameRecord (drop at (now (image .entry))) ⌝ }
 {
     let start = get_word(image, at);
-    let len = get_word(image, at + 4);
-    let role = get_word(image, at + 8);
-    let p = get_word(image, at + 12);
-    let q = get_word(image, at + 16);
+    let len = get_word(image, at + LEN);
+    let role = get_word(image, at + ROLE);
+    let p = get_word(image, at + P);
+    let q = get_word(image, at + Q);
     NameAt {
         start,
         len,
@@ -297,7 +324,8 @@ fn role_stands(r: NameAt) -> bool
 // The texts lie end to end: the one before is texts[last..from], and before the first it is empty.
 fn name_stands(texts: &[u8], last: usize, from: usize, r: NameAt) -> bool
     requires { ⌜ (last ≤ from) × (from ≤ length (now texts)) ⌝ }
-    ensures { λ s. ⌜ s ≡ nameStands (now (texts .entry)) from (take (from - last) (drop last (now (texts .entry)))) (nameMeans r) ⌝ }
+    ensures { λ s. ⌜ s ≡ nameStands (now (texts .entry)) from
+        (take (from - last) (drop last (now (texts .entry)))) (nameMeans r) ⌝ }
 {
     if r.start as usize != from {
         return false;
@@ -401,7 +429,8 @@ fn lacks_one(t: &[u8], r: NameAt) -> bool
 }
 
 fn lacks_two(t: &[u8], r: NameAt) -> bool
-    ensures { λ s. ⌜ s ≡ (isOneOf (now (t .entry)) twoArguments and (allows (roleOf (nameMeans r)) 0 or allows (roleOf (nameMeans r)) 1)) ⌝ }
+    ensures { λ s. ⌜ s ≡ (isOneOf (now (t .entry)) twoArguments
+        and (allows (roleOf (nameMeans r)) 0 or allows (roleOf (nameMeans r)) 1)) ⌝ }
 {
     if !needs_two(t) {
         return false;
@@ -548,12 +577,13 @@ fn place_of(kind: u32) -> usize
     kind as usize
 }
 
-// Most nodes are seen to stand by three limits of their kind, read from tables. Where they do not, `record_stands` decides.
-fn plainly_stands(below: &[u32; 33], fewest: &[u32; 33], most: &[u32; 33], d: Node) -> bool
+// Most nodes are seen to stand by three limits of their kind, read from tables. Where they do not, `record_stands`
+// decides.
+fn plainly_stands(below: &ByKind, fewest: &ByKind, most: &ByKind, d: Node) -> bool
     ensures { λ r. ⌜ r ≡ plain (now (below .entry)) (now (fewest .entry)) (now (most .entry)) (nodeMeans d) ⌝ }
 {
     let k = place_of(d.kind);
-    if 33 <= k {
+    if KINDS <= k {
         return false;
     }
     if below[k] <= d.arg {
@@ -568,9 +598,9 @@ fn plainly_stands(below: &[u32; 33], fewest: &[u32; 33], most: &[u32; 33], d: No
 // The end is tested first, so that nothing is left to do where the limits hold.
 fn node_stands(
     image: &[u8],
-    below: &[u32; 33],
-    fewest: &[u32; 33],
-    most: &[u32; 33],
+    below: &ByKind,
+    fewest: &ByKind,
+    most: &ByKind,
     names: usize,
     nodes: usize,
     count: usize,
@@ -578,7 +608,8 @@ fn node_stands(
 ) -> bool
     requires { ⌜ Headed (now image) ⌝ }
     requires { ⌜ (nodes ≡ nodesFrom (now image)) × (i < nodeCount (now image)) ⌝ }
-    requires { ⌜ (now below ≡ argLimits names) × (now fewest ≡ fewestChildren) × (now most ≡ mostChildren) ⌝ }
+    requires { ⌜ (now below ≡ argLimits names) × (now fewest ≡ fewestChildren)
+        × (now most ≡ mostChildren) ⌝ }
     ensures { λ r. ⌜ r ≡ nodeStands names count i (nodeOf (nodesOf (now (image .entry))) i) ⌝ }
 {
     let d = node_at(image, nodes, i);
@@ -595,17 +626,19 @@ fn node_stands(
     record_stands(image, names, nodes, i)
 }
 
-// The tables are made once, here: a constant is made anew wherever it is named. The arg of a For, a Def or a Variable is a name.
+// The tables are made once, here: a constant is made anew wherever it is named. The arg of a For, a Def or a Variable
+// is a name.
 fn broken_node(image: &[u8], names: usize, nodes: usize, count: usize) -> Found
     requires { ⌜ Headed (now image) ⌝ }
-    requires { ⌜ (names ≡ nameCount (now image)) × (nodes ≡ nodesFrom (now image)) × (count ≡ nodeCount (now image)) ⌝ }
+    requires { ⌜ (names ≡ nameCount (now image)) × (nodes ≡ nodesFrom (now image))
+        × (count ≡ nodeCount (now image)) ⌝ }
     ensures { λ r. ⌜ placeOf r ≡ brokenNode (now (image .entry)) ⌝ }
 {
     let n = names as u32;
     let mut below = BELOW;
-    below[10] = n;
-    below[11] = n;
-    below[21] = n;
+    below[by_kind::FOR] = n;
+    below[by_kind::DEF] = n;
+    below[by_kind::VARIABLE] = n;
     let fewest = FEWEST;
     let most = MOST;
     let mut i = 0;
@@ -678,7 +711,8 @@ fn has_business(parent: u32, c: u32, j: u32, kind: u32) -> bool
 // Each child starts at the end of the one before. After 6 an end lies behind its node, so `at` only grows.
 fn lands_on_end(image: &[u8], nodes: usize, i: usize, d: Node) -> bool
     requires { ⌜ Headed (now image) ⌝ }
-    requires { ⌜ (nodes ≡ nodesFrom (now image)) × (i < nodeCount (now image)) × (d .stop ≤ nodeCount (now image)) ⌝ }
+    requires { ⌜ (nodes ≡ nodesFrom (now image)) × (i < nodeCount (now image))
+        × (d .stop ≤ nodeCount (now image)) ⌝ }
     ensures { λ r. ⌜ r ≡ lands (nodesOf (now (image .entry))) (nodeMeans d) (suc i) (d .children) ⌝ }
 {
     let mut at = i + 1;
@@ -710,8 +744,8 @@ fn root_stands(image: &[u8], nodes: usize, count: usize) -> bool
     d.stop as usize == count
 }
 
-// Linear in all: each parent walks its children once, and the children of parents that nest well are disjoint, so no node is
-// walked by two parents; the first parent that does not ends the search.
+// Linear in all: each parent walks its children once, and the children of parents that nest well are disjoint, so no
+// node is walked by two parents; the first parent that does not ends the search.
 fn badly_nested(image: &[u8], nodes: usize, count: usize) -> Found
     requires { ⌜ Headed (now image) ⌝ }
     requires { ⌜ brokenNode (now image) ≡ none ⌝ }
@@ -741,8 +775,9 @@ fn wide(n: u16) -> usize
     n as usize
 }
 
-// Linear: `around` nodes before node i end behind it, so it lies at depth around + 1. Of these and itself, those that end at i + 1
-// are around no more, and `ends` has how many they are, plus 1. After 6 this needs no nesting: it is counting alone.
+// Linear: `around` nodes before node i end behind it, so it lies at depth around + 1. Of these and itself, those that
+// end at i + 1 are around no more, and `ends` has how many they are, plus 1. After 6 this needs no nesting: it is
+// counting alone.
 // The counts start at 1: a fill with 0 is made byte by byte, one with 1 by 16 bytes at a time.
 fn deep_by_counting(image: &[u8], nodes: usize, count: usize) -> Found
     requires { ⌜ Headed (now image) ⌝ }
@@ -855,7 +890,8 @@ impl Cursor {
     pub fn over(self, image: &[u8]) -> Read
         requires { ⌜ Headed (now image) ⌝ }
         requires { ⌜ On (now image) self ⌝ }
-        ensures { λ r. ⌜ Moved (now (image .entry)) self r (nodeOf (nodesOf (now (image .entry))) (self .at) .stop) ⌝ }
+        ensures { λ r. ⌜ Moved (now (image .entry)) self r
+            (nodeOf (nodesOf (now (image .entry))) (self .at) .stop) ⌝ }
     {
         let at = self.at;
         let nodes = self.nodes;

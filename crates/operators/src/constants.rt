@@ -1,9 +1,18 @@
-// The operators' answers by kinds, written by tools/operator-table. An answer is a plain type's number (0 Unknown, 1 Int, 2 Bool,
-// 3 String, 4 Float), 8 for "compare the whole types", or a refusal's code. The kinds, in order:
+// The operators' answers by kinds, written by tools/operator-table. An answer is a plain type's number (0 Unknown, 1
+// Int, 2 Bool, 3 String, 4 Float), 8 for "compare the whole types", or a refusal's code. The kinds, in order:
 // Unknown, Int, Bool, String, Float, NoneType, Range, Function, List, Dict, Tuple, MapIter, FilterIter.
+pub const KINDS: usize = 13;
 
-// A row for each operator; in it by the kind of the left operand, then by that of the right one.
-pub const ANSWERS: [[u8; 169]; 14] = [
+const PAIRS: usize = KINDS * KINDS;
+
+// One operator's answers: by the kind of the left operand, then by that of the right one; or by the kind of its one
+// operand.
+pub type Row = [u8; PAIRS];
+
+pub type UnaryRow = [u8; KINDS];
+
+// A row for each of the 14 operators, in ast.rs order.
+pub const ANSWERS: [Row; 14] = [
     // `+` takes two numbers or two Strings, Unknown for either; else 29
     [
         0, // Unknown + Unknown
@@ -2414,8 +2423,8 @@ pub const ANSWERS: [[u8; 169]; 14] = [
     ],
 ];
 
-// A row for each operator; in it by the kind of the operand.
-pub const UNARY_ANSWERS: [[u8; 13]; 3] = [
+// A row for each of the 3 operators of one operand.
+pub const UNARY_ANSWERS: [UnaryRow; 3] = [
     // `not` takes Bool or Unknown; else 35
     [
         2, // not Unknown

@@ -6,13 +6,32 @@ ghost use Rattle.meaning.specs.Operators.{operatorAnswer, unaryAnswer};
 ghost use Rattle.meaning.specs.Decode.{binaryOf, unaryOf};
 ghost use Rattle.operators.specs.Numbers.{numeric, numbersAnswer};
 
+pub mod codes;
 mod constants;
 
 use constants::ANSWERS;
+use constants::KINDS;
+use constants::Row;
 use constants::UNARY_ANSWERS;
+use constants::UnaryRow;
 
 // An answer below this is a plain type's number, and one above it a code. This one says: compare the whole types.
 pub const COMPARE: u32 = 8;
+
+// The kinds of numbers and of truth values, and the operators that are told apart, by document 01's numbers: from `==`
+// on all operators give a Bool.
+const INT: u32 = 1;
+
+const BOOL: u32 = 2;
+
+const FLOAT: u32 = 4;
+
+const DIVIDE: u32 = 3;
+
+const EQUAL: u32 = 6;
+
+// A row has so many answers for each kind of the left operand.
+const WIDTH: u32 = KINDS as u32;
 
 // A function of its own: a cast of an array's element would ask for a proof that the element fits.
 fn wide(answer: u8) -> u32
@@ -21,9 +40,9 @@ fn wide(answer: u8) -> u32
     answer as u32
 }
 
-// An entry of one operator's row. The row is copied at a number that the code names, so that a use builds that row on the stack and
-// not the whole table.
-fn entry(row: [u8; 169], at: usize) -> u32
+// An entry of one operator's row. The row is copied at a number that the code names, so that a use builds that row on
+// the stack and not the whole table.
+fn entry(row: Row, at: usize) -> u32
     requires { ⌜ at < 169 ⌝ }
     ensures { λ r. ⌜ r ≡ getD row at 0 ⌝ }
 {
@@ -31,7 +50,7 @@ fn entry(row: [u8; 169], at: usize) -> u32
 }
 
 // As entry, for the operators of one operand.
-fn unary_entry(row: [u8; 13], at: usize) -> u32
+fn unary_entry(row: UnaryRow, at: usize) -> u32
     requires { ⌜ at < 13 ⌝ }
     ensures { λ r. ⌜ r ≡ getD row at 0 ⌝ }
 {
@@ -42,10 +61,10 @@ fn unary_entry(row: [u8; 13], at: usize) -> u32
 fn is_numeric(kind: u32) -> bool
     ensures { λ r. ⌜ r ≡ numeric kind ⌝ }
 {
-    if kind == 4 {
+    if kind == FLOAT {
         return true;
     }
-    kind <= 1
+    kind <= INT
 }
 
 fn larger(left: u32, right: u32) -> u32
@@ -61,16 +80,16 @@ fn larger(left: u32, right: u32) -> u32
 fn of_numbers(op: u32, left: u32, right: u32) -> u32
     ensures { λ r. ⌜ r ≡ numbersAnswer op left right ⌝ }
 {
-    if 6 <= op {
-        return 2;
+    if EQUAL <= op {
+        return BOOL;
     }
-    if op == 3 {
-        return 4;
+    if op == DIVIDE {
+        return FLOAT;
     }
     larger(left, right)
 }
 
-// The answer of a binary operator. All numbers are u32, as they stand in the image and in the type table.
+// The answer of a binary operator: row `op` of the table. All numbers are u32, as they stand in the image.
 pub fn answer_of(op: u32, left: u32, right: u32) -> u32
     requires { ⌜ (op < 14) × (left < 13) × (right < 13) ⌝ }
     ensures { λ r. ⌜ r ≡ operatorAnswer (binaryOf op) left right ⌝ }
@@ -81,7 +100,7 @@ pub fn answer_of(op: u32, left: u32, right: u32) -> u32
         }
     }
     let table = ANSWERS;
-    let at = (left * 13 + right) as usize;
+    let at = (left * WIDTH + right) as usize;
     match op {
         0 => entry(table[0], at),
         1 => entry(table[1], at),

@@ -1,17 +1,22 @@
-// The type table: types as numbers, equal numbers for equal types. The plain types are the numbers 0 to 7. One lent slice is the whole
-// table: record i at cells 4 * i (kind), 4 * i + 1 (p), 4 * i + 2 (q) and 4 * i + 3 (its link); behind the room for records, tuple elements,
-// and behind the room for these, the slots of the chains. Its length tells the room: as many elements and as many slots as records, CELLS
-// cells for the three.
-// A record is List(p), Dict(p, q), Tuple (q elements from element p on), MapIter(p) or FilterIter(p), and has 0 where it has no part.
-// A record's hash names its slot. The slot has the last number of its chain and a record's link the one before; a number below 8 ends it.
+// The type table: types as numbers, equal numbers for equal types. The plain types are the numbers 0 to 7. One lent
+// slice is the whole table: the records, RECORD cells each; behind the room for records, tuple elements, and behind
+// the room for these, the slots of the chains. Its length tells the room: as many elements and as many slots as
+// records, CELLS cells for the three.
+// A record is List(p), Dict(p, q), Tuple (q elements from element p on), MapIter(p) or FilterIter(p), and has 0 where
+// it has no part.
+// A record's hash names its slot. The slot has the last number of its chain and a record's link the one before; a
+// number below 8 ends it.
 ghost use mathlib.Core.Path.{_≡_};
 ghost use mathlib.Core.List.{map};
 ghost use lib.ListN.{length, getD, take, drop};
 ghost use Prim.Native.Nat.{ℕ, _+_, _*_, _≤_, _<_};
 ghost use Rattle.meaning.specs.Types.{tuple, tys};
-ghost use Rattle.types.specs.Table.{capacity, step, tupleHash, slotOf, Chains, Fresh, Wf, Made, tab, denote, built};
-ghost use Rattle.types.specs.Steps.{Asked, Listed, RecordAt, Equal, TupleAt, Told, Slot, Found, Written, Added, Copied};
-ghost use Rattle.types.specs.Reading.{KindOf, PartOf, IsNumber, IsTuple, IsElement, CountOf, ElementAt, CommonOf, ElementOf, shared, Agreement};
+ghost use Rattle.types.specs.Table.{capacity, step, tupleHash, slotOf, Chains};
+ghost use Rattle.types.specs.Table.{Fresh, Wf, Made, tab, denote, built};
+ghost use Rattle.types.specs.Steps.{Asked, Listed, RecordAt, Equal, TupleAt, Told};
+ghost use Rattle.types.specs.Steps.{Slot, Found, Written, Added, Copied};
+ghost use Rattle.types.specs.Reading.{KindOf, PartOf, IsNumber, IsTuple, IsElement};
+ghost use Rattle.types.specs.Reading.{CountOf, ElementAt, CommonOf, ElementOf, shared, Agreement};
 
 // The plain types, numbers 0 to 7: each is its own kind.
 pub const UNKNOWN: usize = 0;
@@ -47,17 +52,33 @@ pub const FILTER_ITER: usize = 12;
 // A Tuple's kind as a cell has it.
 const TUPLE_CELL: u16 = TUPLE as u16;
 
-// The cells of a table for each type that it has room for: four of its record, one for a tuple element, one for a slot.
-pub const CELLS: usize = 6;
+// The cells of a record: kind, p, q and its link. The kind is the first.
+pub const RECORD: usize = 4;
+
+pub const P: usize = 1;
+
+pub const Q: usize = 2;
+
+const LINK: usize = 3;
+
+// The slots stand behind the records and an element for each.
+const SLOTS: usize = RECORD + 1;
+
+// The cells of a table for each type that it has room for: its record, a tuple element and a slot.
+pub const CELLS: usize = SLOTS + 1;
 
 // What a record has where it has no part.
 pub const NO_PART: usize = 0;
 
-// What a fresh table is filled with: no chain, for 1 is a plain type. A fill with 0 is made byte by byte, one with 1 by 16 bytes at a time.
+// What a fresh table is filled with: no chain, for 1 is a plain type. A fill with 0 is made byte by byte, one with 1
+// by 16 bytes at a time.
 pub const FRESH: u16 = 1;
 
 // The hashes are below this prime, so that two that differ still do when the same numbers follow.
 const HASHES: usize = 4093;
+
+// And a hash moves by so much before the next number comes in.
+const SHIFT: usize = 8;
 
 // How many types and how many tuple elements a table has.
 pub struct Counts {
@@ -94,7 +115,7 @@ fn cell(table: &[u16], at: usize) -> usize
 fn base(table: &[u16]) -> usize
     ensures { λ r. ⌜ r ≡ 4 * capacity (now (table .entry)) ⌝ }
 {
-    4 * (table.len() / CELLS)
+    RECORD * (table.len() / CELLS)
 }
 
 // Writes record i.
@@ -102,12 +123,13 @@ fn put(table: &mut [u16], i: usize, k: u16, p: u16, q: u16)
     requires { ⌜ 4 * i + 2 < length (now table) ⌝ }
     ensures { λ _. ⌜ Written (now (table .entry)) (now (table .exit)) i k p q ⌝ }
 {
-    table[4 * i] = k;
-    table[4 * i + 1] = p;
-    table[4 * i + 2] = q;
+    table[RECORD * i] = k;
+    table[RECORD * i + P] = p;
+    table[RECORD * i + Q] = q;
 }
 
-// The table with the plain types alone: 8 numbers and no element. The chains are not emptied here: cells filled with 1 have none.
+// The table with the plain types alone: 8 numbers and no element. The chains are not emptied here: cells filled with 1
+// have none.
 pub fn start(table: &mut [u16])
     requires { ⌜ Fresh (now table) ⌝ }
     ensures { λ _. ⌜ Wf (tab (now (table .exit)) 8 0) ⌝ }
@@ -124,13 +146,13 @@ fn holds(table: &[u16], i: usize, k: u16, p: u16, q: u16) -> bool
     requires { ⌜ 4 * i + 2 < length (now table) ⌝ }
     ensures { λ r. ⌜ Told (RecordAt (now (table .entry)) k p q i) r ⌝ }
 {
-    if table[4 * i] != k {
+    if table[RECORD * i] != k {
         return false;
     }
-    if table[4 * i + 1] != p {
+    if table[RECORD * i + P] != p {
         return false;
     }
-    if table[4 * i + 2] != q {
+    if table[RECORD * i + Q] != q {
         return false;
     }
     true
@@ -141,7 +163,7 @@ fn mixed(h: usize, e: usize) -> usize
     requires { ⌜ (h < 4093) × (e < 65536) ⌝ }
     ensures { λ r. ⌜ (r ≡ step h e) × (r < 4093) ⌝ }
 {
-    (8 * h + e) % HASHES
+    (SHIFT * h + e) % HASHES
 }
 
 // The slot of a hash.
@@ -150,7 +172,7 @@ fn slot_of(table: &[u16], h: usize) -> usize
     ensures { λ r. ⌜ r ≡ slotOf (now (table .entry)) h ⌝ }
 {
     let n = table.len() / CELLS;
-    5 * n + h % n
+    SLOTS * n + h % n
 }
 
 // The number in the slot's chain whose record is (k, p, q), or `types` where there is none.
@@ -165,7 +187,7 @@ fn find(table: &[u16], slot: usize, types: usize, k: u16, p: u16, q: u16) -> usi
         if holds(table, i, k, p, q) {
             return i;
         }
-        i = cell(table, 4 * i + 3);
+        i = cell(table, RECORD * i + LINK);
     }
     types
 }
@@ -176,7 +198,7 @@ fn add(table: &mut [u16], slot: usize, i: usize, k: u16, p: u16, q: u16)
     ensures { λ _. ⌜ Added (now (table .entry)) (now (table .exit)) slot i k p q ⌝ }
 {
     put(table, i, k, p, q);
-    table[4 * i + 3] = table[slot];
+    table[RECORD * i + LINK] = table[slot];
     table[slot] = i as u16;
 }
 
@@ -222,21 +244,21 @@ fn alike(table: &[u16], at: usize, stack: &[u16], from: usize, n: usize) -> bool
     true
 }
 
-// Whether record i is the Tuple of the n numbers of the stack from `from` on. `elements`, the cell of the first element, is handed in so
-// that a search works it out once.
+// Whether record i is the Tuple of the n numbers of the stack from `from` on. `elements`, the cell of the first
+// element, is handed in so that a search works it out once.
 fn matches(table: &[u16], elements: usize, i: usize, stack: &[u16], from: usize, n: usize) -> bool
     requires { ⌜ elements ≡ 4 * capacity (now table) ⌝ }
     requires { ⌜ IsNumber (now table) i ⌝ }
     requires { ⌜ from + n ≤ length (now stack) ⌝ }
     ensures { λ r. ⌜ Told (TupleAt (now (table .entry)) (now (stack .entry)) from n i) r ⌝ }
 {
-    if table[4 * i] != TUPLE_CELL {
+    if table[RECORD * i] != TUPLE_CELL {
         return false;
     }
-    if cell(table, 4 * i + 2) != n {
+    if cell(table, RECORD * i + Q) != n {
         return false;
     }
-    let p = cell(table, 4 * i + 1);
+    let p = cell(table, RECORD * i + P);
     alike(table, elements + p, stack, from, n)
 }
 
@@ -280,7 +302,7 @@ fn find_tuple(
         if matches(table, elements, i, stack, from, n) {
             return i;
         }
-        i = cell(table, 4 * i + 3);
+        i = cell(table, RECORD * i + LINK);
     }
     counts.types
 }
@@ -331,7 +353,7 @@ pub fn kind_of(table: &[u16], i: usize) -> usize
     requires { ⌜ i < capacity (now table) ⌝ }
     ensures { λ r. ⌜ KindOf (now (table .entry)) i r ⌝ }
 {
-    cell(table, 4 * i)
+    cell(table, RECORD * i)
 }
 
 // The first part of type i, if that is no Tuple: 0, Unknown, if it has none.
@@ -339,7 +361,7 @@ pub fn part_of(table: &[u16], i: usize) -> usize
     requires { ⌜ i < capacity (now table) ⌝ }
     ensures { λ r. ⌜ PartOf (now (table .entry)) 0 i r ⌝ }
 {
-    cell(table, 4 * i + 1)
+    cell(table, RECORD * i + P)
 }
 
 // The second part of type i, if that is no Tuple: 0, Unknown, if it has none.
@@ -347,7 +369,7 @@ pub fn second_of(table: &[u16], i: usize) -> usize
     requires { ⌜ i < capacity (now table) ⌝ }
     ensures { λ r. ⌜ PartOf (now (table .entry)) 1 i r ⌝ }
 {
-    cell(table, 4 * i + 2)
+    cell(table, RECORD * i + Q)
 }
 
 // How many elements the Tuple i has.
@@ -355,7 +377,7 @@ pub fn count_of(table: &[u16], i: usize) -> usize
     requires { ⌜ i < capacity (now table) ⌝ }
     ensures { λ r. ⌜ CountOf (now (table .entry)) i r ⌝ }
 {
-    cell(table, 4 * i + 2)
+    cell(table, RECORD * i + Q)
 }
 
 // The element j of the Tuple i.
@@ -363,7 +385,7 @@ pub fn element_at(table: &[u16], i: usize, j: usize) -> usize
     requires { ⌜ IsElement (now table) i j ⌝ }
     ensures { λ r. ⌜ ElementAt (now (table .entry)) i j r ⌝ }
 {
-    let p = cell(table, 4 * i + 1);
+    let p = cell(table, RECORD * i + P);
     cell(table, base(table) + p + j)
 }
 
@@ -390,8 +412,8 @@ pub fn common_of(table: &[u16], i: usize) -> usize
     requires { ⌜ IsTuple (now table) i ⌝ }
     ensures { λ r. ⌜ CommonOf (now (table .entry)) i r ⌝ }
 {
-    let p = cell(table, 4 * i + 1);
-    let q = cell(table, 4 * i + 2);
+    let p = cell(table, RECORD * i + P);
+    let q = cell(table, RECORD * i + Q);
     shared_of(table, base(table) + p, q)
 }
 
@@ -400,7 +422,7 @@ pub fn element_of(table: &[u16], i: usize) -> Perhaps
     requires { ⌜ IsNumber (now table) i ⌝ }
     ensures { λ r. ⌜ ElementOf (now (table .entry)) i (r .there) (r .number) ⌝ }
 {
-    let kind = cell(table, 4 * i);
+    let kind = cell(table, RECORD * i);
     if kind == TUPLE {
         return Perhaps {
             there: true,

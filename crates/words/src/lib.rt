@@ -1,4 +1,5 @@
-// Bytes and words: read, written, compared, copied, and numbers in decimal. Everything stands in a slice that the caller lends.
+// Bytes and words: read, written, compared, copied, and numbers in decimal. Everything stands in a slice that the
+// caller lends.
 ghost use mathlib.Core.Path.{_≡_};
 ghost use mathlib.Core.List.{[], _∷_};
 ghost use Prim.Native.Nat.{_+_, _<_, _≤_};
@@ -7,6 +8,13 @@ ghost use Rattle.meaning.specs.Base.{word, words, sameText, before as comesBefo
 ghost use Rattle.words.specs.Words.{putAt};
 
 // ---- words of four bytes, the lowest byte first
+
+// A byte has 256 values, so a byte of a word counts 256 times the one before.
+const BYTE: u32 = 256;
+
+const THIRD: u32 = BYTE * BYTE;
+
+const FOURTH: u32 = BYTE * BYTE * BYTE;
 
 // As a call of its own, a byte asks no proof that it fits a word.
 fn wide(b: u8) -> u32
@@ -23,19 +31,19 @@ pub fn get_word(s: &[u8], at: usize) -> u32
     let b1 = wide(s[at + 1]);
     let b2 = wide(s[at + 2]);
     let b3 = wide(s[at + 3]);
-    b0 + 256 * b1 + 65536 * b2 + 16777216 * b3
+    b0 + BYTE * b1 + THIRD * b2 + FOURTH * b3
 }
 
-// The last `% 256` changes nothing: with it each byte is what `words` says.
+// The last `% BYTE` changes nothing: with it each byte is what `words` says.
 pub fn put_word(buf: &mut [u8], at: usize, w: u32)
     requires { ⌜ at + 4 ≤ length (now buf) ⌝ }
     ensures { λ _. ⌜ now (buf .exit) ≡ putAt (now (buf .entry)) at (words (w ∷ [])) ⌝ }
     ensures { λ _. ⌜ length (now (buf .exit)) ≡ length (now (buf .entry)) ⌝ }
 {
-    buf[at] = (w % 256) as u8;
-    buf[at + 1] = (w / 256 % 256) as u8;
-    buf[at + 2] = (w / 256 / 256 % 256) as u8;
-    buf[at + 3] = (w / 256 / 256 / 256 % 256) as u8;
+    buf[at] = (w % BYTE) as u8;
+    buf[at + 1] = (w / BYTE % BYTE) as u8;
+    buf[at + 2] = (w / BYTE / BYTE % BYTE) as u8;
+    buf[at + 3] = (w / BYTE / BYTE / BYTE % BYTE) as u8;
 }
 
 // ---- texts
@@ -48,7 +56,8 @@ pub fn text(s: &[u8], start: usize, len: usize) -> &[u8]
     &s[start..start + len]
 }
 
-// b may be a byte string: under `unfolding bytes`, what a caller has of `same(t, b"print")` is `sameText (now t) (bytes "print")`.
+// b may be a byte string: under `unfolding bytes`, what a caller has of `same(t, b"print")` is
+// `sameText (now t) (bytes "print")`.
 pub fn same(a: &[u8], b: &[u8]) -> bool
     ensures { λ r. ⌜ r ≡ sameText (now (a .entry)) (now (b .entry)) ⌝ }
 {
@@ -99,14 +108,16 @@ pub fn put(buf: &mut [u8], at: usize, s: &[u8]) -> usize
 
 // ---- numbers in decimal
 
+const BASE: u32 = 10;
+
 pub fn decimal_length(n: u32) -> usize
     ensures { λ r. ⌜ r ≡ length (decimal n) ⌝ }
     ensures { λ r. ⌜ (1 ≤ r) × (r ≤ 10) ⌝ }
 {
     let mut len = 1;
     let mut rest = n;
-    while 10 <= rest {
-        rest /= 10;
+    while BASE <= rest {
+        rest /= BASE;
         len += 1;
     }
     len
@@ -119,7 +130,8 @@ fn digit(d: u32) -> u8
     b'0' + d as u8
 }
 
-// Division gives the last digit first, so the digits are written from the last to the first. Returns where they end in buf.
+// Division gives the last digit first, so the digits are written from the last to the first. Returns where they end in
+// buf.
 pub fn put_decimal(buf: &mut [u8], at: usize, n: u32) -> usize
     requires { ⌜ at + length (decimal n) ≤ length (now buf) ⌝ }
     ensures { λ _. ⌜ now (buf .exit) ≡ putAt (now (buf .entry)) at (decimal n) ⌝ }
@@ -128,10 +140,10 @@ pub fn put_decimal(buf: &mut [u8], at: usize, n: u32) -> usize
     let len = decimal_length(n);
     let mut left = len;
     let mut rest = n;
-    while 10 <= rest {
+    while BASE <= rest {
         left -= 1;
-        buf[at + left] = digit(rest % 10);
-        rest /= 10;
+        buf[at + left] = digit(rest % BASE);
+        rest /= BASE;
     }
     buf[at] = digit(rest);
     at + len
