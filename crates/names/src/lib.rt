@@ -3,27 +3,33 @@ ghost use mathlib.Core.Path.{_≡_};
 ghost use Prim.Native.Nat.{_<_};
 ghost use lib.ListN.{length};
 ghost use Rattle.meaning.proofs.Faults.{Sound};
+ghost use Rattle.meaning.specs.Limits.{mostNames, mostFrames};
+ghost use Rattle.sheet.specs.Listing.{nameCells};
 ghost use Rattle.names.specs.Names.{PutName, Names};
 use frames::Frames;
 use frames::Held;
 use frames::held_in;
 use image::areas;
 use image::name_at;
+use sheet::NAME_CELLS;
+use sheet::NAME_LENGTH;
+use sheet::NAME_TYPE;
+use sheet::NameList;
 
 // Name c of the list: where its text starts, how long it is, and its type.
-fn put_name(names: &mut [u32; 384], c: usize, from: u32, len: u32, ty: u32)
-    requires { ⌜ (c < 128) × (length (now names) ≡ 384) ⌝ }
+fn put_name(names: &mut NameList, c: usize, from: u32, len: u32, ty: u32)
+    requires { ⌜ (c < mostNames) × (length (now names) ≡ nameCells) ⌝ }
     ensures { λ _. ⌜ PutName (now (names .entry)) (now (names .exit)) c from len ty ⌝ }
 {
-    names[3 * c] = from;
-    names[3 * c + 1] = len;
-    names[3 * c + 2] = ty;
+    names[NAME_CELLS * c] = from;
+    names[NAME_CELLS * c + NAME_LENGTH] = len;
+    names[NAME_CELLS * c + NAME_TYPE] = ty;
 }
 
 // Lists the names that the newest frame holds, in order, with their types, and gives their number.
-pub fn list_names(image: &[u8], frames: &Frames, top: usize, names: &mut [u32; 384]) -> usize
+pub fn list_names(image: &[u8], frames: &Frames, top: usize, names: &mut NameList) -> usize
     requires { ⌜ Sound (now image) ⌝ }
-    requires { ⌜ (top < 8) × (length (now names) ≡ 384) ⌝ }
+    requires { ⌜ (top < mostFrames) × (length (now names) ≡ nameCells) ⌝ }
     ensures { λ r. ⌜ Names (now (image .entry)) (now (frames .entry)) top (now (names .exit)) r ⌝ }
 {
     let l = areas(image);

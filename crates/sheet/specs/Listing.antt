@@ -6,10 +6,14 @@ use mathlib.Core.List.{List, map}
 use Prim.Native.Nat.{ℕ, _+_, _*_, _≤_, _<_}
 use lib.Dec.{leb}
 use lib.ListN.{length, getD, take, drop}
+use Rattle.meaning.specs.Limits.{mostNames}
 use Rattle.meaning.specs.Base.{count}
 use Rattle.meaning.specs.Sheet.{Entry, sheetOf}
 use Rattle.meaning.specs.Answer.{written, overlaid}
 use Rattle.types.specs.Table.{Tab, Wf, denote}
+
+abbrev pub nameCells : ℕ
+nameCells = 3 * mostNames
 
 abbrev pub startAt : List ℕ → ℕ → ℕ
 startAt cells k = getD cells (3 * k) 0

@@ -6,11 +6,19 @@ use Prim.Native.Nat.{ℕ, _+_, _*_, _≤_, _<_}
 use lib.Dec.{eqb}
 use lib.ListN.{length, getD, set, take, drop}
 use Rattle.meaning.specs.Base.{if_then_else_}
+use Rattle.meaning.specs.Limits.{mostTypes}
 use Rattle.meaning.specs.Types.{Ty, kind, parts, part}
 use Rattle.meaning.specs.Sheet.{met, position}
 use Rattle.meaning.proofs.SheetTypes.{Ordered}
-use Rattle.types.specs.Table.{Tab, tab, capacity, Wf, Means, denote}
+use Rattle.types.specs.Table.{Tab, tab, mostNumbers, capacity, Wf, Means, denote}
 use Rattle.types.specs.Reading.{IsElement}
+
+abbrev pub markCells : ℕ
+markCells = mostNumbers + mostTypes + 8
+
+-- no type has more elements than there are numbers, so a sheet's types have no more than this
+abbrev pub mostWritten : ℕ
+mostWritten = mostTypes * mostNumbers
 
 -- ---- the parts of type i, whatever the counts of the table that the cells cs hold
 
@@ -38,6 +46,10 @@ orderIn ms = take (countIn ms) (drop 2056 ms)
 -- the table that the marks are made for
 abbrev pub tabOf : List ℕ → List ℕ → Tab
 tabOf cs ms = tab cs (getD ms 4105 0) (getD ms 4106 0)
+
+-- the marks of a table with these counts, before the walk
+abbrev pub begun : List ℕ → ℕ → ℕ → List ℕ
+begun ms n m = set (set (set ms 4104 0) 4105 n) 4106 m
 
 -- the types met so far
 unfoldable pub typesIn : Tab → List ℕ → List Ty

@@ -52,6 +52,10 @@ pub record Short (cells : List ℕ) (n : ℕ) : Type 0 where
   pub few : n ≤ 128
   pub short : (k : ℕ) → k < n → lengthAt cells k ≤ 64
 
+-- the elements of the types met
+abbrev pub elementsMet : List ℕ → List ℕ → List Ty
+elementsMet cs ms = elementsOf (typesIn (tabOf cs ms) ms)
+
 -- ---- what is written
 
 -- the number in the sheet of a type that is plain or was met

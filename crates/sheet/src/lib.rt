@@ -6,16 +6,42 @@ ghost use lib.Dec.{eqb};
 ghost use lib.ListN.{length, getD, set, take};
 ghost use Prim.Native.Nat.{ℕ, _+_, _*_, _≤_, _<_};
 ghost use Rattle.meaning.specs.Base.{word, words, if_then_else_};
+ghost use Rattle.meaning.specs.Limits.{mostNames, mostText, mostTypes};
 ghost use Rattle.meaning.specs.Read.{typeFrom};
 ghost use Rattle.meaning.specs.Sheet.{elementsIn, elementsOf, sheetOf};
-ghost use Rattle.types.specs.Table.{capacity, Fresh, tab, denote, Wf, Made};
-ghost use Rattle.sheet.specs.Listing.{Listing, listed, Wrote};
-ghost use Rattle.sheet.specs.Marks.{PartsOf, PartAt, HasPart, Completing, completed, Visiting, Visited, Marked, tabOf, typesIn};
-ghost use Rattle.sheet.specs.Writing.{Meeting, MetAll, ElementsIn, Short, listedSize, NumberOf, Put, Met, recordBytes, elementBytes, typesBytes, elementsBytes, NamesFit, NamesPut, TextsFit, listedTexts, Blank, headerBytes, Filling};
-ghost use Rattle.sheet.specs.Reading.{Bounds, Told, numberIn, Gathering, Gathered, Tupling, tupleAt, Forming, elementsIn as elementsRead, Typing, Typed as TypeRead, TypesRead, NameStep, NamesRead, Naming, TextsInside, TextsTold, Compared, Reads, namesAt, textsAt};
+ghost use Rattle.types.specs.Table.{mostNumbers, capacity, Fresh, tab, denote, Wf, Made};
+ghost use Rattle.sheet.specs.Listing.{nameCells, Listing, listed, Wrote};
+ghost use Rattle.sheet.specs.Marks.{markCells, mostWritten, countIn, begun, PartsOf, PartAt};
+ghost use Rattle.sheet.specs.Marks.{HasPart, Completing, completed, Visiting, Visited, Marked, tabOf, typesIn};
+ghost use Rattle.sheet.specs.Writing.{elementsMet, Meeting, MetAll, ElementsIn, Short, listedSize, NumberOf};
+ghost use Rattle.sheet.specs.Writing.{Put, Met, recordBytes, elementBytes, typesBytes, elementsBytes, NamesFit};
+ghost use Rattle.sheet.specs.Writing.{NamesPut, TextsFit, listedTexts, Blank, headerBytes, Filling};
+ghost use Rattle.sheet.specs.Reading.{Bounds, Told, numberIn, Gathering, Gathered, Tupling, tupleAt, Forming};
+ghost use Rattle.sheet.specs.Reading.{elementsIn as elementsRead, Typing, Typed as TypeRead, TypesRead};
+ghost use Rattle.sheet.specs.Reading.{NameStep, NamesRead, Naming, TextsInside, TextsTold, Compared, Reads};
+ghost use Rattle.sheet.specs.Reading.{namesAt, textsAt};
+
+pub mod header;
+
 use image::text_stands;
+use limits::LARGEST_SHEET;
+use limits::LONGEST_NAME;
+use limits::MOST_ELEMENTS;
+use limits::MOST_NAMES;
+use limits::MOST_TYPES;
 use types::Counts;
+use types::DICT;
+use types::FILTER_ITER;
+use types::FRESH;
 use types::Formed;
+use types::LIST;
+use types::NO_PART;
+use types::P;
+use types::Q;
+use types::RECORD;
+use types::STRUCTURED;
+use types::TUPLE;
+use types::UNKNOWN;
 use types::element_at;
 use types::form;
 use types::part_of;
@@ -27,6 +53,60 @@ use words::put;
 use words::put_word;
 use words::same;
 use words::text;
+
+// "Type records (kind, p, q)", elements, "name records: text start, length, type": the bytes of each.
+const TYPE_RECORD: usize = 12;
+
+const ELEMENT: usize = 4;
+
+const NAME_RECORD: usize = 12;
+
+// The bytes at which the second and the third word of a record start; and those of the first type record.
+const SECOND_WORD: usize = 4;
+
+const THIRD_WORD: usize = 8;
+
+const FIRST_KIND: usize = header::LENGTH;
+
+const FIRST_P: usize = header::LENGTH + SECOND_WORD;
+
+const FIRST_Q: usize = header::LENGTH + THIRD_WORD;
+
+// The names of a sheet, three words each: where the text starts in the bytes that it lies in, how long it is, and the
+// type's number in the table. The start is the first.
+pub const NAME_CELLS: usize = 3;
+
+pub const NAME_LENGTH: usize = 1;
+
+pub const NAME_TYPE: usize = 2;
+
+const ALL_CELLS: usize = NAME_CELLS * MOST_NAMES;
+
+pub type NameList = [u32; ALL_CELLS];
+
+// A list before a name is written to it.
+pub const NO_ENTRIES: NameList = [0u32; ALL_CELLS];
+
+// The marks of the walk over the types: for each number of the table the type's number in the sheet; then the table's
+// numbers in the sheet's order; then how many these are, and the table's counts. Their length is a multiple of 16
+// bytes.
+const ORDER: usize = STRUCTURED + MOST_TYPES;
+
+const MET: usize = ORDER + MOST_TYPES;
+
+const TYPE_COUNT: usize = MET + 1;
+
+const ELEMENT_COUNT: usize = MET + 2;
+
+const MARK_CELLS: usize = MET + 8;
+
+type Marks = [u16; MARK_CELLS];
+
+// A mark of a type that has no number yet: no structured type has this one. It is what the marks are filled with.
+const UNMET: u16 = FRESH;
+
+// The table's numbers of the types that were read, and those of one Tuple's elements.
+type Numbers = [u16; MOST_TYPES];
 
 // Whether the sheet fits, and its length: 0 if it does not fit.
 pub struct Written {
@@ -57,8 +137,8 @@ fn cell(table: &[u16], at: usize) -> usize
     broad(table[at])
 }
 
-fn mark(marks: &[u16; 4112], at: usize) -> usize
-    requires { ⌜ at < 4112 ⌝ }
+fn mark(marks: &Marks, at: usize) -> usize
+    requires { ⌜ at < markCells ⌝ }
     ensures { λ r. ⌜ r ≡ getD (now (marks .entry)) at 0 ⌝ }
     ensures { λ r. ⌜ r < 65536 ⌝ }
 {
@@ -72,57 +152,57 @@ fn parts_of(table: &[u16], i: usize) -> usize
     requires { ⌜ i < capacity (now table) ⌝ }
     ensures { λ r. ⌜ PartsOf (now (table .entry)) i r ⌝ }
 {
-    let kind = cell(table, 4 * i);
-    if kind == 10 {
-        return cell(table, 4 * i + 2);
+    let kind = cell(table, RECORD * i);
+    if kind == TUPLE {
+        return cell(table, RECORD * i + Q);
     }
-    if kind == 9 {
+    if kind == DICT {
         return 2;
     }
     1
 }
 
-// The part j of the structured type i. One that is no Tuple has at most two; the test that j is below 2 would cost `visit` 16 bytes of stack for
-// each level.
+// The part j of the structured type i. One that is no Tuple has at most two; the test that j is below 2 would cost
+// `visit` 16 bytes of stack for each level.
 fn part_at(table: &[u16], i: usize, j: usize) -> usize
     requires { ⌜ HasPart (now table) i j ⌝ }
     ensures { λ r. ⌜ PartAt (now (table .entry)) i j r ⌝ }
 {
-    if cell(table, 4 * i) == 10 {
+    if cell(table, RECORD * i) == TUPLE {
         return element_at(table, i, j);
     }
-    cell(table, 4 * i + 1 + j % 2)
+    cell(table, RECORD * i + P + j % 2)
 }
 
 // Gives i the next number of the sheet, unless it has one.
-fn complete(marks: &mut [u16; 4112], i: usize)
+fn complete(marks: &mut Marks, i: usize)
     requires { ⌜ Completing (now marks) i ⌝ }
     ensures { λ _. ⌜ now (marks .exit) ≡ completed (now (marks .entry)) i ⌝ }
 {
-    if marks[i] == 1 {
-        let k = mark(marks, 4104);
-        marks[i] = (8 + k) as u16;
-        marks[2056 + k] = i as u16;
-        marks[4104] = (k + 1) as u16;
+    if marks[i] == UNMET {
+        let k = mark(marks, MET);
+        marks[i] = (STRUCTURED + k) as u16;
+        marks[ORDER + k] = i as u16;
+        marks[MET] = (k + 1) as u16;
     }
 }
 
 // The frame is kept small: types nest up to 2,048 deep. Most parts are plain types, for which no call is made.
-fn visit(table: &[u16], i: usize, marks: &mut [u16; 4112])
+fn visit(table: &[u16], i: usize, marks: &mut Marks)
     requires { ⌜ Visiting (now table) (now marks) i ⌝ }
     ensures { λ _. ⌜ Visited (now (table .entry)) (now (marks .entry)) (now (marks .exit)) i ⌝ }
 {
-    if i < 8 {
+    if i < STRUCTURED {
         return;
     }
-    if marks[i] != 1 {
+    if marks[i] != UNMET {
         return;
     }
     let n = parts_of(table, i);
     let mut j = 0;
     while j < n {
         let p = part_at(table, i, j);
-        if 8 <= p {
+        if STRUCTURED <= p {
             visit(table, p, marks);
         }
         j += 1;
@@ -130,21 +210,22 @@ fn visit(table: &[u16], i: usize, marks: &mut [u16; 4112])
     complete(marks, i);
 }
 
-fn name_cell(names: &[u32; 384], at: usize) -> usize
-    requires { ⌜ at < 384 ⌝ }
+fn name_cell(names: &NameList, at: usize) -> usize
+    requires { ⌜ at < nameCells ⌝ }
     ensures { λ r. ⌜ r ≡ getD (now (names .entry)) at 0 ⌝ }
 {
     wide(names[at])
 }
 
 // Visits the types of the names, in their order.
-fn meet_all(table: &[u16], names: &[u32; 384], count: usize, marks: &mut [u16; 4112])
+fn meet_all(table: &[u16], names: &NameList, count: usize, marks: &mut Marks)
     requires { ⌜ Meeting (now table) (now marks) (now names) count ⌝ }
-    ensures { λ _. ⌜ MetAll (now (table .entry)) (now (marks .entry)) (now (marks .exit)) (now (names .entry)) count ⌝ }
+    ensures { λ _. ⌜ MetAll (now (table .entry)) (now (marks .entry)) (now (marks .exit))
+        (now (names .entry)) count ⌝ }
 {
     let mut k = 0;
     while k < count {
-        visit(table, name_cell(names, 3 * k + 2), marks);
+        visit(table, name_cell(names, NAME_CELLS * k + NAME_TYPE), marks);
         k += 1;
     }
 }
@@ -156,37 +237,37 @@ fn elements_in(table: &[u16], i: usize) -> usize
     requires { ⌜ i < capacity (now table) ⌝ }
     ensures { λ r. ⌜ ElementsIn (now (table .entry)) i r ⌝ }
 {
-    if cell(table, 4 * i) == 10 {
-        return cell(table, 4 * i + 2);
+    if cell(table, RECORD * i) == TUPLE {
+        return cell(table, RECORD * i + Q);
     }
     0
 }
 
 // How many elements the types of the sheet have.
-fn elements_of(table: &[u16], marks: &[u16; 4112]) -> usize
+fn elements_of(table: &[u16], marks: &Marks) -> usize
     requires { ⌜ Marked (tabOf (now table) (now marks)) (now marks) ⌝ }
-    ensures { λ r. ⌜ r ≡ length (elementsOf (typesIn (tabOf (now (table .entry)) (now (marks .entry))) (now (marks .entry)))) ⌝ }
-    ensures { λ r. ⌜ r ≤ 4210688 ⌝ }
+    ensures { λ r. ⌜ r ≡ length (elementsMet (now (table .entry)) (now (marks .entry))) ⌝ }
+    ensures { λ r. ⌜ r ≤ mostWritten ⌝ }
 {
-    let n = mark(marks, 4104);
+    let n = mark(marks, MET);
     let mut k = 0;
     let mut sum = 0;
     while k < n {
-        sum += elements_in(table, mark(marks, 2056 + k));
+        sum += elements_in(table, mark(marks, ORDER + k));
         k += 1;
     }
     sum
 }
 
 // How many bytes the names' texts have.
-fn size_of(names: &[u32; 384], count: usize) -> usize
+fn size_of(names: &NameList, count: usize) -> usize
     requires { ⌜ Short (now names) count ⌝ }
-    ensures { λ r. ⌜ (r ≡ listedSize (now (names .entry)) 0 count) × (r ≤ 8192) ⌝ }
+    ensures { λ r. ⌜ (r ≡ listedSize (now (names .entry)) 0 count) × (r ≤ mostText) ⌝ }
 {
     let mut k = 0;
     let mut sum = 0;
     while k < count {
-        sum += name_cell(names, 3 * k + 1);
+        sum += name_cell(names, NAME_CELLS * k + NAME_LENGTH);
         k += 1;
     }
     sum
@@ -195,12 +276,12 @@ fn size_of(names: &[u32; 384], count: usize) -> usize
 // ---- areas
 
 // The number in the sheet of type i, which is plain or was met.
-fn number_of(marks: &[u16; 4112], i: usize) -> usize
-    requires { ⌜ i < 2056 ⌝ }
+fn number_of(marks: &Marks, i: usize) -> usize
+    requires { ⌜ i < mostNumbers ⌝ }
     ensures { λ r. ⌜ NumberOf (now (marks .entry)) i r ⌝ }
     ensures { λ r. ⌜ r < 65536 ⌝ }
 {
-    if i < 8 {
+    if i < STRUCTURED {
         return i;
     }
     mark(marks, i)
@@ -212,19 +293,20 @@ fn put_three(out: &mut [u8], at: usize, a: usize, b: usize, c: usize)
     ensures { λ _. ⌜ Put (now (out .entry)) (now (out .exit)) at (words (a ∷ b ∷ c ∷ [])) ⌝ }
 {
     put_word(out, at, a as u32);
-    put_word(out, at + 4, b as u32);
-    put_word(out, at + 8, c as u32);
+    put_word(out, at + SECOND_WORD, b as u32);
+    put_word(out, at + THIRD_WORD, c as u32);
 }
 
 // The record of type i of the table, `from` elements after the first.
-fn write_type(table: &[u16], marks: &[u16; 4112], i: usize, from: usize, out: &mut [u8], at: usize)
+fn write_type(table: &[u16], marks: &Marks, i: usize, from: usize, out: &mut [u8], at: usize)
     requires { ⌜ Met (now table) (now marks) i ⌝ }
-    requires { ⌜ (from ≤ 4210688) × (at + 12 ≤ length (now out)) ⌝ }
-    ensures { λ _. ⌜ Put (now (out .entry)) (now (out .exit)) at (recordBytes (tabOf (now (table .entry)) (now (marks .entry))) (now (marks .entry)) from i) ⌝ }
+    requires { ⌜ (from ≤ mostWritten) × (at + 12 ≤ length (now out)) ⌝ }
+    ensures { λ _. ⌜ Put (now (out .entry)) (now (out .exit)) at
+        (recordBytes (tabOf (now (table .entry)) (now (marks .entry))) (now (marks .entry)) from i) ⌝ }
 {
-    let kind = cell(table, 4 * i);
-    if kind == 10 {
-        put_three(out, at, 10, from, cell(table, 4 * i + 2));
+    let kind = cell(table, RECORD * i);
+    if kind == TUPLE {
+        put_three(out, at, TUPLE, from, cell(table, RECORD * i + Q));
     } else {
         let p = number_of(marks, part_of(table, i));
         let q = number_of(marks, second_of(table, i));
@@ -232,77 +314,83 @@ fn write_type(table: &[u16], marks: &[u16; 4112], i: usize, from: usize, out: &m
     }
 }
 
-fn write_types(table: &[u16], marks: &[u16; 4112], out: &mut [u8])
+fn write_types(table: &[u16], marks: &Marks, out: &mut [u8])
     requires { ⌜ Marked (tabOf (now table) (now marks)) (now marks) ⌝ }
-    requires { ⌜ 40 + 12 * getD (now marks) 4104 0 ≤ length (now out) ⌝ }
-    ensures { λ _. ⌜ Put (now (out .entry)) (now (out .exit)) 40 (typesBytes (tabOf (now (table .entry)) (now (marks .entry))) (now (marks .entry))) ⌝ }
+    requires { ⌜ 40 + 12 * countIn (now marks) ≤ length (now out) ⌝ }
+    ensures { λ _. ⌜ Put (now (out .entry)) (now (out .exit)) 40
+        (typesBytes (tabOf (now (table .entry)) (now (marks .entry))) (now (marks .entry))) ⌝ }
 {
-    let n = mark(marks, 4104);
+    let n = mark(marks, MET);
     let mut k = 0;
     let mut from = 0;
     while k < n {
-        let i = mark(marks, 2056 + k);
-        write_type(table, marks, i, from, out, 40 + 12 * k);
+        let i = mark(marks, ORDER + k);
+        write_type(table, marks, i, from, out, header::LENGTH + TYPE_RECORD * k);
         from += elements_in(table, i);
         k += 1;
     }
 }
 
 // The elements of type i of the table. Returns where they end.
-fn write_parts(table: &[u16], marks: &[u16; 4112], i: usize, out: &mut [u8], at: usize) -> usize
+fn write_parts(table: &[u16], marks: &Marks, i: usize, out: &mut [u8], at: usize) -> usize
     requires { ⌜ Met (now table) (now marks) i ⌝ }
     requires { ⌜ at + 4 * length (elementsIn (denote (tabOf (now table) (now marks)) i)) ≤ length (now out) ⌝ }
-    ensures { λ _. ⌜ Put (now (out .entry)) (now (out .exit)) at (elementBytes (tabOf (now (table .entry)) (now (marks .entry))) (now (marks .entry)) i) ⌝ }
-    ensures { λ r. ⌜ r ≡ at + 4 * length (elementsIn (denote (tabOf (now (table .entry)) (now (marks .entry))) i)) ⌝ }
+    ensures { λ _. ⌜ Put (now (out .entry)) (now (out .exit)) at
+        (elementBytes (tabOf (now (table .entry)) (now (marks .entry))) (now (marks .entry)) i) ⌝ }
+    ensures { λ r. ⌜ r ≡ at
+        + 4 * length (elementsIn (denote (tabOf (now (table .entry)) (now (marks .entry))) i)) ⌝ }
 {
     let n = elements_in(table, i);
     let mut j = 0;
     while j < n {
         let w = number_of(marks, part_at(table, i, j));
-        put_word(out, at + 4 * j, w as u32);
+        put_word(out, at + ELEMENT * j, w as u32);
         j += 1;
     }
-    at + 4 * n
+    at + ELEMENT * n
 }
 
-fn write_elements(table: &[u16], marks: &[u16; 4112], out: &mut [u8], from: usize)
+fn write_elements(table: &[u16], marks: &Marks, out: &mut [u8], from: usize)
     requires { ⌜ Marked (tabOf (now table) (now marks)) (now marks) ⌝ }
-    requires { ⌜ from + 4 * length (elementsOf (typesIn (tabOf (now table) (now marks)) (now marks))) ≤ length (now out) ⌝ }
-    ensures { λ _. ⌜ Put (now (out .entry)) (now (out .exit)) from (elementsBytes (tabOf (now (table .entry)) (now (marks .entry))) (now (marks .entry))) ⌝ }
+    requires { ⌜ from + 4 * length (elementsMet (now table) (now marks)) ≤ length (now out) ⌝ }
+    ensures { λ _. ⌜ Put (now (out .entry)) (now (out .exit)) from
+        (elementsBytes (tabOf (now (table .entry)) (now (marks .entry))) (now (marks .entry))) ⌝ }
 {
-    let n = mark(marks, 4104);
+    let n = mark(marks, MET);
     let mut k = 0;
     let mut at = from;
     while k < n {
-        at = write_parts(table, marks, mark(marks, 2056 + k), out, at);
+        at = write_parts(table, marks, mark(marks, ORDER + k), out, at);
         k += 1;
     }
 }
 
-fn write_names(marks: &[u16; 4112], names: &[u32; 384], count: usize, out: &mut [u8], at: usize)
+fn write_names(marks: &Marks, names: &NameList, count: usize, out: &mut [u8], at: usize)
     requires { ⌜ NamesFit (now names) count (now out) at ⌝ }
-    ensures { λ _. ⌜ NamesPut (now (marks .entry)) (now (names .entry)) count (now (out .entry)) (now (out .exit)) at ⌝ }
+    ensures { λ _. ⌜ NamesPut (now (marks .entry)) (now (names .entry)) count
+        (now (out .entry)) (now (out .exit)) at ⌝ }
 {
     let mut k = 0;
     let mut from = 0;
     while k < count {
-        let len = name_cell(names, 3 * k + 1);
-        let ty = number_of(marks, name_cell(names, 3 * k + 2));
-        put_three(out, at + 12 * k, from, len, ty);
+        let len = name_cell(names, NAME_CELLS * k + NAME_LENGTH);
+        let ty = number_of(marks, name_cell(names, NAME_CELLS * k + NAME_TYPE));
+        put_three(out, at + NAME_RECORD * k, from, len, ty);
         from += len;
         k += 1;
     }
 }
 
-fn write_texts(source: &[u8], names: &[u32; 384], count: usize, out: &mut [u8], from: usize)
+fn write_texts(source: &[u8], names: &NameList, count: usize, out: &mut [u8], from: usize)
     requires { ⌜ TextsFit (now source) (now names) count (now out) from ⌝ }
-    ensures { λ _. ⌜ Put (now (out .entry)) (now (out .exit)) from (listedTexts (now (source .entry)) (now (names .entry)) 0 count) ⌝ }
+    ensures { λ _. ⌜ Put (now (out .entry)) (now (out .exit)) from
+        (listedTexts (now (source .entry)) (now (names .entry)) 0 count) ⌝ }
 {
     let mut k = 0;
     let mut at = from;
     while k < count {
-        let start = name_cell(names, 3 * k);
-        let len = name_cell(names, 3 * k + 1);
+        let start = name_cell(names, NAME_CELLS * k);
+        let len = name_cell(names, NAME_CELLS * k + NAME_LENGTH);
         at = put(out, at, text(source, start, len));
         k += 1;
     }
@@ -311,23 +399,24 @@ fn write_texts(source: &[u8], names: &[u32; 384], count: usize, out: &mut [u8], 
 // ---- the whole
 
 fn write_header(out: &mut [u8], types: usize, elements: usize, names: usize, size: usize)
-    requires { ⌜ (types ≤ 2048) × (elements ≤ 4210688) × (names ≤ 128) × (size ≤ 8192) × (40 ≤ length (now out)) ⌝ }
+    requires { ⌜ (types ≤ mostTypes) × (elements ≤ mostWritten) × (names ≤ mostNames) × (size ≤ mostText)
+        × (40 ≤ length (now out)) ⌝ }
     ensures { λ _. ⌜ Put (now (out .entry)) (now (out .exit)) 0 (headerBytes types elements names size) ⌝ }
 {
-    let a = 40 + 12 * types;
-    let b = a + 4 * elements;
-    let c = b + 12 * names;
-    put_three(out, 0, 1, types, 40);
-    put_three(out, 12, elements, a, names);
-    put_three(out, 24, b, size, c);
-    put_word(out, 36, (c + size) as u32);
+    let a = header::LENGTH + TYPE_RECORD * types;
+    let b = a + ELEMENT * elements;
+    let c = b + NAME_RECORD * names;
+    put_three(out, header::VERSION, header::OURS, types, header::LENGTH);
+    put_three(out, header::ELEMENT_COUNT, elements, a, names);
+    put_three(out, header::NAMES, b, size, c);
+    put_word(out, header::TOTAL, (c + size) as u32);
 }
 
 fn fill(
     source: &[u8],
     table: &[u16],
-    marks: &[u16; 4112],
-    names: &[u32; 384],
+    marks: &Marks,
+    names: &NameList,
     count: usize,
     elements: usize,
     size: usize,
@@ -335,12 +424,13 @@ fn fill(
 )
     requires { ⌜ Filling (now source) (now table) (now marks) (now names) count elements size (now out) ⌝ }
     ensures { λ _. ⌜ Put (now (out .entry)) (now (out .exit)) 0
-        (sheetOf (listed (now (source .entry)) (tabOf (now (table .entry)) (now (marks .entry))) (now (names .entry)) count)) ⌝ }
+        (sheetOf (listed (now (source .entry)) (tabOf (now (table .entry)) (now (marks .entry)))
+        (now (names .entry)) count)) ⌝ }
 {
-    let types = mark(marks, 4104);
-    let a = 40 + 12 * types;
-    let b = a + 4 * elements;
-    let c = b + 12 * count;
+    let types = mark(marks, MET);
+    let a = header::LENGTH + TYPE_RECORD * types;
+    let b = a + ELEMENT * elements;
+    let c = b + NAME_RECORD * count;
     write_header(out, types, elements, count, size);
     write_types(table, marks, out);
     write_elements(table, marks, out, a);
@@ -348,13 +438,13 @@ fn fill(
     write_texts(source, names, count, out, c);
 }
 
-fn begin(marks: &mut [u16; 4112], counts: Counts)
-    requires { ⌜ (counts .types ≤ 2056) × (counts .elements ≤ 2056) ⌝ }
-    ensures { λ _. ⌜ now (marks .exit) ≡ set (set (set (now (marks .entry)) 4104 0) 4105 (counts .types)) 4106 (counts .elements) ⌝ }
+fn begin(marks: &mut Marks, counts: Counts)
+    requires { ⌜ (counts .types ≤ mostNumbers) × (counts .elements ≤ mostNumbers) ⌝ }
+    ensures { λ _. ⌜ now (marks .exit) ≡ begun (now (marks .entry)) (counts .types) (counts .elements) ⌝ }
 {
-    marks[4104] = 0;
-    marks[4105] = counts.types as u16;
-    marks[4106] = counts.elements as u16;
+    marks[MET] = 0;
+    marks[TYPE_COUNT] = counts.types as u16;
+    marks[ELEMENT_COUNT] = counts.elements as u16;
 }
 
 // Writes the sheet of the names to the front of `out` if it fits: if not, no byte changes.
@@ -362,20 +452,24 @@ pub fn write(
     source: &[u8],
     table: &[u16],
     counts: Counts,
-    names: &[u32; 384],
+    names: &NameList,
     count: usize,
     out: &mut [u8],
 ) -> Written
     requires { ⌜ Listing (now source) (tab (now table) (counts .types) (counts .elements)) (now names) count ⌝ }
-    ensures { λ r. ⌜ Wrote (listed (now (source .entry)) (tab (now (table .entry)) (counts .types) (counts .elements)) (now (names .entry)) count)
-        (r .fits) (r .length) (now (out .entry)) (now (out .exit)) ⌝ }
+    ensures { λ r. ⌜ Wrote (listed (now (source .entry)) (tab (now (table .entry)) (counts .types) (counts .elements))
+        (now (names .entry)) count) (r .fits) (r .length) (now (out .entry)) (now (out .exit)) ⌝ }
 {
-    let mut marks = [1u16; 4112];
+    let mut marks = [UNMET; MARK_CELLS];
     begin(&mut marks, counts);
     meet_all(table, names, count, &mut marks);
     let elements = elements_of(table, &marks);
     let size = size_of(names, count);
-    let total = 40 + 12 * mark(&marks, 4104) + 4 * elements + 12 * count + size;
+    let total = header::LENGTH
+        + TYPE_RECORD * mark(&marks, MET)
+        + ELEMENT * elements
+        + NAME_RECORD * count
+        + size;
     if out.len() < total {
         return Written {
             fits: false,
@@ -424,57 +518,50 @@ fn word_at(sheet: &[u8], at: usize) -> usize
 fn bounded(sheet: &[u8]) -> bool
     ensures { λ r. ⌜ Told (Bounds (now (sheet .entry))) (now (sheet .entry)) r ⌝ }
 {
-    if sheet.len() < 40 {
+    if sheet.len() < header::LENGTH {
         return false;
     }
-    if 42532 < sheet.len() {
+    if LARGEST_SHEET < sheet.len() {
         return false;
     }
-    let types = word_at(sheet, 4);
-    if 2048 < types {
+    let types = word_at(sheet, header::TYPE_COUNT);
+    if MOST_TYPES < types {
         return false;
     }
-    let elements = word_at(sheet, 12);
-    if 2047 < elements {
+    let elements = word_at(sheet, header::ELEMENT_COUNT);
+    if MOST_ELEMENTS < elements {
         return false;
     }
-    let names = word_at(sheet, 20);
-    if 128 < names {
+    let names = word_at(sheet, header::NAME_COUNT);
+    if MOST_NAMES < names {
         return false;
     }
-    40 + 12 * types + 4 * elements + 12 * names <= sheet.len()
+    header::LENGTH + TYPE_RECORD * types + ELEMENT * elements + NAME_RECORD * names <= sheet.len()
 }
 
 // The table's number of the sheet's number n: the first k types of the sheet have a number.
-fn number_in(numbers: &[u16; 2048], k: usize, n: usize) -> usize
-    requires { ⌜ k ≤ 2048 ⌝ }
+fn number_in(numbers: &Numbers, k: usize, n: usize) -> usize
+    requires { ⌜ k ≤ mostTypes ⌝ }
     ensures { λ r. ⌜ r ≡ numberIn (take k (now (numbers .entry))) n ⌝ }
     ensures { λ r. ⌜ r < 65536 ⌝ }
 {
-    if n < 8 {
+    if n < STRUCTURED {
         return n;
     }
-    if n - 8 < k {
-        return broad(numbers[n - 8]);
+    if n - STRUCTURED < k {
+        return broad(numbers[n - STRUCTURED]);
     }
-    0
+    UNKNOWN
 }
 
 // The table's numbers of the q words at a place.
-fn gather(
-    sheet: &[u8],
-    at: usize,
-    numbers: &[u16; 2048],
-    k: usize,
-    q: usize,
-    stack: &mut [u16; 2048],
-)
+fn gather(sheet: &[u8], at: usize, numbers: &Numbers, k: usize, q: usize, stack: &mut Numbers)
     requires { ⌜ Gathering (now sheet) at k q (now stack) ⌝ }
     ensures { λ _. ⌜ Gathered (now (sheet .entry)) at (take k (now (numbers .entry))) q (now (stack .exit)) ⌝ }
 {
     let mut j = 0;
     while j < q {
-        stack[j] = number_in(numbers, k, word_at(sheet, at + 4 * j)) as u16;
+        stack[j] = number_in(numbers, k, word_at(sheet, at + ELEMENT * j)) as u16;
         j += 1;
     }
 }
@@ -482,7 +569,7 @@ fn gather(
 fn form_tuple(
     sheet: &[u8],
     at: usize,
-    numbers: &[u16; 2048],
+    numbers: &Numbers,
     k: usize,
     q: usize,
     table: &mut [u16],
@@ -492,27 +579,28 @@ fn form_tuple(
     ensures { λ r. ⌜ Made (tab (now (table .entry)) (counts .types) (counts .elements))
         (tab (now (table .exit)) (r .counts .types) (r .counts .elements))
         (r .number)
-        (tupleAt (now (sheet .entry)) at (take k (now (numbers .entry))) q (tab (now (table .entry)) (counts .types) (counts .elements)))
+        (tupleAt (now (sheet .entry)) at (take k (now (numbers .entry))) q
+        (tab (now (table .entry)) (counts .types) (counts .elements)))
         q ⌝ }
 {
-    let mut stack = [1u16; 2048];
+    let mut stack = [FRESH; MOST_TYPES];
     gather(sheet, at, numbers, k, q, &mut stack);
     tuple_of(table, counts, &stack, 0, q)
 }
 
-fn second_in(numbers: &[u16; 2048], k: usize, kind: usize, q: usize) -> usize
-    requires { ⌜ k ≤ 2048 ⌝ }
+fn second_in(numbers: &Numbers, k: usize, kind: usize, q: usize) -> usize
+    requires { ⌜ k ≤ mostTypes ⌝ }
     ensures { λ r. ⌜ r ≡ (if eqb kind 9 then numberIn (take k (now (numbers .entry))) q else 0) ⌝ }
 {
-    if kind == 9 {
+    if kind == DICT {
         return number_in(numbers, k, q);
     }
-    0
+    NO_PART
 }
 
 // A kind that is none is read as Unknown.
 fn form_other(
-    numbers: &[u16; 2048],
+    numbers: &Numbers,
     k: usize,
     kind: usize,
     p: usize,
@@ -524,26 +612,34 @@ fn form_other(
     ensures { λ r. ⌜ Made (tab (now (table .entry)) (counts .types) (counts .elements))
         (tab (now (table .exit)) (r .counts .types) (r .counts .elements))
         (r .number)
-        (typeFrom [] (map (denote (tab (now (table .entry)) (counts .types) (counts .elements))) (take k (now (numbers .entry)))) (kind, p, q))
+        (typeFrom [] (map (denote (tab (now (table .entry)) (counts .types) (counts .elements)))
+        (take k (now (numbers .entry)))) (kind, p, q))
         0 ⌝ }
 {
-    if kind < 8 {
-        return Formed { number: 0, counts };
+    if kind < LIST {
+        return Formed {
+            number: UNKNOWN,
+            counts,
+        };
     }
-    if 12 < kind {
-        return Formed { number: 0, counts };
+    if FILTER_ITER < kind {
+        return Formed {
+            number: UNKNOWN,
+            counts,
+        };
     }
     let a = number_in(numbers, k, p);
     let b = second_in(numbers, k, kind, q);
     form(table, counts, kind, a, b)
 }
 
-// The type of record k. A Tuple's elements must be among those of the sheet, and all Tuples together may not have more of them.
+// The type of record k. A Tuple's elements must be among those of the sheet, and all Tuples together may not have more
+// of them.
 fn read_type(
     sheet: &[u8],
     k: usize,
     used: usize,
-    numbers: &[u16; 2048],
+    numbers: &Numbers,
     table: &mut [u16],
     counts: Counts,
 ) -> Typed
@@ -554,10 +650,10 @@ fn read_type(
         (r .used) (r .number))
         (now (sheet .entry)) (r .stands) ⌝ }
 {
-    let kind = word_at(sheet, 40 + 12 * k);
-    let p = word_at(sheet, 44 + 12 * k);
-    let q = word_at(sheet, 48 + 12 * k);
-    if kind != 10 {
+    let kind = word_at(sheet, FIRST_KIND + TYPE_RECORD * k);
+    let p = word_at(sheet, FIRST_P + TYPE_RECORD * k);
+    let q = word_at(sheet, FIRST_Q + TYPE_RECORD * k);
+    if kind != TUPLE {
         let f = form_other(numbers, k, kind, p, q, table, counts);
         let grown = f.counts;
         return Typed {
@@ -567,7 +663,7 @@ fn read_type(
             counts: grown,
         };
     }
-    let elements = word_at(sheet, 12);
+    let elements = word_at(sheet, header::ELEMENT_COUNT);
     if elements < p + q {
         return Typed {
             stands: false,
@@ -584,7 +680,7 @@ fn read_type(
             counts,
         };
     }
-    let at = 40 + 12 * word_at(sheet, 4) + 4 * p;
+    let at = header::LENGTH + TYPE_RECORD * word_at(sheet, header::TYPE_COUNT) + ELEMENT * p;
     let f = form_tuple(sheet, at, numbers, k, q, table, counts);
     let grown = f.counts;
     Typed {
@@ -596,18 +692,18 @@ fn read_type(
 }
 
 // The types of all records; the table holds the plain types alone before.
-fn read_types(sheet: &[u8], table: &mut [u16], numbers: &mut [u16; 2048]) -> Types
+fn read_types(sheet: &[u8], table: &mut [u16], numbers: &mut Numbers) -> Types
     requires { ⌜ Bounds (now sheet) ⌝ }
     requires { ⌜ Wf (tab (now table) 8 0) ⌝ }
-    requires { ⌜ (2056 ≤ capacity (now table)) × (length (now numbers) ≡ 2048) ⌝ }
+    requires { ⌜ (mostNumbers ≤ capacity (now table)) × (length (now numbers) ≡ mostTypes) ⌝ }
     ensures { λ r. ⌜ Told (TypesRead (now (sheet .entry)) (now (numbers .exit))
         (tab (now (table .exit)) (r .counts .types) (r .counts .elements)))
         (now (sheet .entry)) (r .stands) ⌝ }
 {
-    let n = word_at(sheet, 4);
+    let n = word_at(sheet, header::TYPE_COUNT);
     let mut k: usize = 0;
     let mut used: usize = 0;
-    let mut types: usize = 8;
+    let mut types: usize = STRUCTURED;
     let mut elements: usize = 0;
     while k < n {
         let r = read_type(sheet, k, used, numbers, table, Counts { types, elements });
@@ -631,35 +727,39 @@ fn read_types(sheet: &[u8], table: &mut [u16], numbers: &mut [u16; 2048]) -> Typ
 }
 
 // Name k: its text must lie in the bytes and be short enough.
-fn read_name(sheet: &[u8], k: usize, numbers: &[u16; 2048], names: &mut [u32; 384]) -> bool
+fn read_name(sheet: &[u8], k: usize, numbers: &Numbers, names: &mut NameList) -> bool
     requires { ⌜ Naming (now sheet) k (now names) ⌝ }
-    ensures { λ r. ⌜ Told (NameStep (now (sheet .entry)) (now (numbers .entry)) (now (names .entry)) (now (names .exit)) k) (now (sheet .entry)) r ⌝ }
+    ensures { λ r. ⌜ Told (NameStep (now (sheet .entry)) (now (numbers .entry))
+        (now (names .entry)) (now (names .exit)) k) (now (sheet .entry)) r ⌝ }
 {
-    let types = word_at(sheet, 4);
-    let from = 40 + 12 * types + 4 * word_at(sheet, 12);
-    let texts = from + 12 * word_at(sheet, 20);
-    let at = from + 12 * k;
+    let types = word_at(sheet, header::TYPE_COUNT);
+    let from = header::LENGTH
+        + TYPE_RECORD * types
+        + ELEMENT * word_at(sheet, header::ELEMENT_COUNT);
+    let texts = from + NAME_RECORD * word_at(sheet, header::NAME_COUNT);
+    let at = from + NAME_RECORD * k;
     let start = word_at(sheet, at);
-    let len = word_at(sheet, at + 4);
-    let ty = number_in(numbers, types, word_at(sheet, at + 8));
-    if 64 < len {
+    let len = word_at(sheet, at + SECOND_WORD);
+    let ty = number_in(numbers, types, word_at(sheet, at + THIRD_WORD));
+    if LONGEST_NAME < len {
         return false;
     }
     if sheet.len() < texts + start + len {
         return false;
     }
-    names[3 * k] = (texts + start) as u32;
-    names[3 * k + 1] = len as u32;
-    names[3 * k + 2] = ty as u32;
+    names[NAME_CELLS * k] = (texts + start) as u32;
+    names[NAME_CELLS * k + NAME_LENGTH] = len as u32;
+    names[NAME_CELLS * k + NAME_TYPE] = ty as u32;
     true
 }
 
-fn read_names(sheet: &[u8], numbers: &[u16; 2048], names: &mut [u32; 384]) -> bool
+fn read_names(sheet: &[u8], numbers: &Numbers, names: &mut NameList) -> bool
     requires { ⌜ Bounds (now sheet) ⌝ }
-    requires { ⌜ length (now names) ≡ 384 ⌝ }
-    ensures { λ r. ⌜ Told (NamesRead (now (sheet .entry)) (take (word (now (sheet .entry)) 4) (now (numbers .entry))) (now (names .exit)) (word (now (sheet .entry)) 20)) (now (sheet .entry)) r ⌝ }
+    requires { ⌜ length (now names) ≡ nameCells ⌝ }
+    ensures { λ r. ⌜ Told (NamesRead (now (sheet .entry)) (take (word (now (sheet .entry)) 4) (now (numbers .entry)))
+        (now (names .exit)) (word (now (sheet .entry)) 20)) (now (sheet .entry)) r ⌝ }
 {
-    let n = word_at(sheet, 20);
+    let n = word_at(sheet, header::NAME_COUNT);
     let mut k = 0;
     while k < n {
         if !read_name(sheet, k, numbers, names) {
@@ -670,7 +770,7 @@ fn read_names(sheet: &[u8], numbers: &[u16; 2048], names: &mut [u32; 384]) -> bo
     true
 }
 
-fn texts_stand(sheet: &[u8], names: &[u32; 384], count: usize) -> bool
+fn texts_stand(sheet: &[u8], names: &NameList, count: usize) -> bool
     requires { ⌜ TextsInside (now sheet) (now names) count ⌝ }
     ensures { λ r. ⌜ TextsTold (now (sheet .entry)) (now (names .entry)) count r ⌝ }
 {
@@ -678,8 +778,8 @@ fn texts_stand(sheet: &[u8], names: &[u32; 384], count: usize) -> bool
     let mut last: usize = 0;
     let mut size: usize = 0;
     while k < count {
-        let start = name_cell(names, 3 * k);
-        let len = name_cell(names, 3 * k + 1);
+        let start = name_cell(names, NAME_CELLS * k);
+        let len = name_cell(names, NAME_CELLS * k + NAME_LENGTH);
         if !text_stands(text(sheet, last, size), text(sheet, start, len)) {
             return false;
         }
@@ -691,11 +791,12 @@ fn texts_stand(sheet: &[u8], names: &[u32; 384], count: usize) -> bool
 }
 
 // Whether writing the names gives the bytes again: no sheet is longer than 42,532 bytes.
-fn rewrites(sheet: &[u8], table: &[u16], counts: Counts, names: &[u32; 384], count: usize) -> bool
+fn rewrites(sheet: &[u8], table: &[u16], counts: Counts, names: &NameList, count: usize) -> bool
     requires { ⌜ Listing (now sheet) (tab (now table) (counts .types) (counts .elements)) (now names) count ⌝ }
-    ensures { λ r. ⌜ Compared (now (sheet .entry)) (listed (now (sheet .entry)) (tab (now (table .entry)) (counts .types) (counts .elements)) (now (names .entry)) count) r ⌝ }
+    ensures { λ r. ⌜ Compared (now (sheet .entry)) (listed (now (sheet .entry))
+        (tab (now (table .entry)) (counts .types) (counts .elements)) (now (names .entry)) count) r ⌝ }
 {
-    let mut out = [0u8; 42532];
+    let mut out = [0u8; LARGEST_SHEET];
     let w = write(sheet, table, counts, names, count, &mut out);
     if !w.fits {
         return false;
@@ -709,7 +810,7 @@ fn refused() -> ReadSheet
     ReadSheet {
         stands: false,
         counts: Counts {
-            types: 8,
+            types: STRUCTURED,
             elements: 0,
         },
         names: 0,
@@ -724,17 +825,18 @@ fn begin_table(table: &mut [u16])
     start(table);
 }
 
-// Reads a sheet into a table of its types and a list of its names: whatever the bytes, it says whether they are one. The table has room
-// for whatever a sheet may hold.
-pub fn read(sheet: &[u8], table: &mut [u16], names: &mut [u32; 384]) -> ReadSheet
-    requires { ⌜ (capacity (now table) ≡ 2056) × (length (now names) ≡ 384) × Fresh (now table) ⌝ }
-    ensures { λ r. ⌜ Reads (now (sheet .entry)) (r .stands) (tab (now (table .exit)) (r .counts .types) (r .counts .elements)) (now (names .exit)) (r .names) ⌝ }
+// Reads a sheet into a table of its types and a list of its names: whatever the bytes, it says whether they are one.
+// The table has room for whatever a sheet may hold.
+pub fn read(sheet: &[u8], table: &mut [u16], names: &mut NameList) -> ReadSheet
+    requires { ⌜ (capacity (now table) ≡ mostNumbers) × (length (now names) ≡ nameCells) × Fresh (now table) ⌝ }
+    ensures { λ r. ⌜ Reads (now (sheet .entry)) (r .stands)
+        (tab (now (table .exit)) (r .counts .types) (r .counts .elements)) (now (names .exit)) (r .names) ⌝ }
 {
     if !bounded(sheet) {
         return refused();
     }
     begin_table(table);
-    let mut numbers = [1u16; 2048];
+    let mut numbers = [FRESH; MOST_TYPES];
     let types = read_types(sheet, table, &mut numbers);
     if !types.stands {
         return refused();
@@ -743,7 +845,7 @@ pub fn read(sheet: &[u8], table: &mut [u16], names: &mut [u32; 384]) -> ReadShee
         return refused();
     }
     let counts = types.counts;
-    let n = word_at(sheet, 20);
+    let n = word_at(sheet, header::NAME_COUNT);
     if !texts_stand(sheet, names, n) {
         return refused();
     }
