@@ -2,6 +2,7 @@
 use mathlib.Core.Path.{_≡_}
 use mathlib.Core.List.{List}
 use Prim.Native.Nat.{ℕ, _<_, _≤_}
+use lib.ListN.{length}
 use Rattle.meaning.specs.Answer.{fitting}
 use Rattle.meaning.specs.Image.{namesOf}
 use Rattle.meaning.specs.Base.{bytes}
@@ -10,6 +11,14 @@ use Rattle.types.specs.Table.{Tab, Wf}
 use Rattle.rules.specs.Outcome.{typesNamed, pieces}
 use Rattle.message.specs.Pieces.{Ready, gaps, put-in}
 use Rattle.message.specs.declared.Pieces.{Pieces}
+
+-- T's format string of a code
+abbrev pub formatOf : ℕ → List ℕ
+formatOf code = bytes (template code)
+
+-- what a format string with its pieces put in leaves in the buffer `out`: nothing, if it does not fit
+abbrev pub laidOut : List ℕ → List ℕ → Pieces → List ℕ → List ℕ → List ℕ
+laidOut bs cs ps format out = fitting (length out) (put-in bs cs ps format)
 
 -- a message does not look at the refusal's node
 unfoldable pub told : List ℕ → Tab → ℕ → ℕ → ℕ → ℕ → List ℕ

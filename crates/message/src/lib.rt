@@ -4,7 +4,7 @@ ghost use mathlib.Core.List.{[], _∷_, _++_};
 ghost use Prim.Native.Nat.{_+_, _<_, _≤_, max};
 ghost use lib.ListN.{length, getD, drop};
 ghost use mathlib.Core.Option.{none};
-ghost use Rattle.meaning.specs.Answer.{fitting, overlaid};
+ghost use Rattle.meaning.specs.Answer.{overlaid};
 ghost use Rattle.meaning.specs.Base.{decimal, bytes};
 ghost use Rattle.meaning.specs.Image.{brokenName, nameRecords, namesOf, nameOf, roleOf, textCount, textsFrom};
 ghost use Rattle.meaning.specs.Rules.{described};
@@ -12,13 +12,14 @@ ghost use Rattle.meaning.specs.Types.{text, parts};
 ghost use Rattle.meaning.proofs.Faults.{Headed};
 ghost use Rattle.image.specs.Parts.{nameMeans, recordOf};
 ghost use Rattle.rules.specs.Outcome.{taken};
-ghost use Rattle.types.specs.Table.{tab};
-ghost use Rattle.meaning.specs.Message.{template};
-ghost use Rattle.message.specs.Told.{told, Tells, Chosen};
+ghost use Rattle.types.specs.Table.{mostNumbers, tab};
+ghost use Rattle.message.specs.Told.{told, Tells, Chosen, laidOut, formatOf};
 ghost use Rattle.words.specs.Words.{putAt};
 ghost use Rattle.message.specs.declared.Piece.the-variants.{Nothing, OfNumber};
-ghost use Rattle.message.specs.Texts.{typeAt, Known, PartAt, opening, closing, comma, clipped, sizeAt, Sized, AllKnown};
-ghost use Rattle.message.specs.Pieces.{meant, Small, CountsPiece, Shown, Says, GivenAll, nth, Ready, noTypes, oneType, twoTypes, gaps, run, put-in};
+ghost use Rattle.message.specs.Texts.{typeAt, Known, PartAt, opening, closing, comma, clipped, sizeAt, Sized};
+ghost use Rattle.message.specs.Texts.{AllKnown};
+ghost use Rattle.message.specs.Pieces.{meant, Small, CountsPiece, Shown, Says, GivenAll, nth, Ready, noTypes};
+ghost use Rattle.message.specs.Pieces.{oneType, twoTypes, gaps, run, put-in};
 
 mod formats;
 
@@ -56,6 +57,11 @@ use formats::WRONG_VALUE;
 use image::NameAt;
 use image::areas;
 use image::name_at;
+use image::roles;
+use limits::MOST_NODES;
+use operators::codes as operator_codes;
+use rules::codes;
+use types;
 use types::Counts;
 use types::count_of;
 use types::element_at;
@@ -77,7 +83,8 @@ enum Piece {
     OfAny,
 }
 
-// What a message names, in order, and how many they are; `types` is how many of the first types must be measured for it.
+// What a message names, in order, and how many they are; `types` is how many of the first types must be measured for
+// it.
 struct Pieces {
     first: Piece,
     second: Piece,
@@ -94,12 +101,12 @@ fn parts_of(table: &[u16], i: usize) -> usize
     ensures { λ r. ⌜ r ≡ length (parts (typeAt (now (table .entry)) i)) ⌝ }
 {
     let kind = kind_of(table, i);
-    if kind < 8 {
+    if kind < types::STRUCTURED {
         return 0;
     }
     match kind {
-        9 => 2,
-        10 => count_of(table, i),
+        types::DICT => 2,
+        types::TUPLE => count_of(table, i),
         _ => 1,
     }
 }
@@ -110,7 +117,7 @@ fn part_at(table: &[u16], i: usize, j: usize) -> usize
     requires { ⌜ j < length (parts (typeAt (now table) i)) ⌝ }
     ensures { λ r. ⌜ PartAt (now (table .entry)) i j r ⌝ }
 {
-    if kind_of(table, i) == 10 {
+    if kind_of(table, i) == types::TUPLE {
         return element_at(table, i, j);
     }
     if j == 0 {
@@ -121,23 +128,24 @@ fn part_at(table: &[u16], i: usize, j: usize) -> usize
 
 // ---- what stands around the parts of a type, and between them
 
+// How many bytes `put_opening` writes.
 fn opening_size(kind: usize) -> usize
     ensures { λ r. ⌜ r ≡ length (opening kind) ⌝ }
 {
     match kind {
-        0 => 7,
-        1 => 3,
-        2 => 4,
-        3 => 6,
-        4 => 5,
-        5 => 8,
-        6 => 5,
-        7 => 8,
-        8 => 5,
-        9 => 5,
-        10 => 7,
-        11 => 8,
-        12 => 11,
+        types::UNKNOWN => 7,
+        types::INT => 3,
+        types::BOOL => 4,
+        types::STRING => 6,
+        types::FLOAT => 5,
+        types::NONE_TYPE => 8,
+        types::RANGE => 5,
+        types::FUNCTION => 8,
+        types::LIST => 5,
+        types::DICT => 5,
+        types::TUPLE => 7,
+        types::MAP_ITER => 8,
+        types::FILTER_ITER => 11,
         _ => 0,
     }
 }
@@ -148,30 +156,31 @@ fn put_opening(kind: usize, out: &mut [u8], at: usize) -> usize
     ensures { λ r. ⌜ r ≡ at + length (opening kind) ⌝ }
 {
     match kind {
-        0 => put(out, at, b"Unknown"),
-        1 => put(out, at, b"Int"),
-        2 => put(out, at, b"Bool"),
-        3 => put(out, at, b"String"),
-        4 => put(out, at, b"Float"),
-        5 => put(out, at, b"NoneType"),
-        6 => put(out, at, b"Range"),
-        7 => put(out, at, b"Function"),
-        8 => put(out, at, b"List("),
-        9 => put(out, at, b"Dict("),
-        10 => put(out, at, b"Tuple(["),
-        11 => put(out, at, b"MapIter("),
-        12 => put(out, at, b"FilterIter("),
+        types::UNKNOWN => put(out, at, b"Unknown"),
+        types::INT => put(out, at, b"Int"),
+        types::BOOL => put(out, at, b"Bool"),
+        types::STRING => put(out, at, b"String"),
+        types::FLOAT => put(out, at, b"Float"),
+        types::NONE_TYPE => put(out, at, b"NoneType"),
+        types::RANGE => put(out, at, b"Range"),
+        types::FUNCTION => put(out, at, b"Function"),
+        types::LIST => put(out, at, b"List("),
+        types::DICT => put(out, at, b"Dict("),
+        types::TUPLE => put(out, at, b"Tuple(["),
+        types::MAP_ITER => put(out, at, b"MapIter("),
+        types::FILTER_ITER => put(out, at, b"FilterIter("),
         _ => at,
     }
 }
 
+// How many bytes `put_closing` writes.
 fn closing_size(kind: usize) -> usize
     ensures { λ r. ⌜ r ≡ length (closing kind) ⌝ }
 {
-    if kind < 8 {
+    if kind < types::STRUCTURED {
         return 0;
     }
-    if kind == 10 {
+    if kind == types::TUPLE {
         return 2;
     }
     1
@@ -182,15 +191,16 @@ fn put_closing(kind: usize, out: &mut [u8], at: usize) -> usize
     ensures { λ _. ⌜ now (out .exit) ≡ putAt (now (out .entry)) at (closing kind) ⌝ }
     ensures { λ r. ⌜ r ≡ at + length (closing kind) ⌝ }
 {
-    if kind < 8 {
+    if kind < types::STRUCTURED {
         return at;
     }
-    if kind == 10 {
+    if kind == types::TUPLE {
         return put(out, at, b"])");
     }
     put(out, at, b")")
 }
 
+// How many bytes `put_comma` writes.
 fn comma_size(j: usize) -> usize
     ensures { λ r. ⌜ r ≡ length (comma j) ⌝ }
 {
@@ -279,7 +289,7 @@ fn put_type(table: &[u16], i: usize, out: &mut [u8], at: usize) -> usize
 // ---- what a message names
 
 fn one_type(a: usize) -> Pieces
-    requires { ⌜ a < 2056 ⌝ }
+    requires { ⌜ a < mostNumbers ⌝ }
     ensures { λ r. ⌜ r ≡ oneType a ⌝ }
 {
     Pieces {
@@ -301,7 +311,7 @@ fn larger(a: usize, b: usize) -> usize
 }
 
 fn two_types(a: usize, b: usize) -> Pieces
-    requires { ⌜ (a < 2056) × (b < 2056) ⌝ }
+    requires { ⌜ (a < mostNumbers) × (b < mostNumbers) ⌝ }
     ensures { λ r. ⌜ r ≡ twoTypes a b ⌝ }
 {
     let most = larger(a, b);
@@ -337,7 +347,7 @@ fn record_of(image: &[u8], a: usize) -> NameAt
     NameAt {
         start: 0,
         len: 0,
-        role: 0,
+        role: roles::PLAIN,
         p: 0,
         q: 0,
     }
@@ -361,15 +371,14 @@ fn arity(image: &[u8], a: usize) -> Piece
     let r = record_of(image, a);
     let role = r.role;
     match role {
-        1 => Piece::OfNumber(r.p),
-        2 => {
+        roles::EXACTLY | roles::FUNCTION => Piece::OfNumber(r.p),
+        roles::BETWEEN => {
             if r.p == r.q {
                 return Piece::OfNumber(r.p);
             }
             Piece::OfRange(r.p, r.q)
         }
-        3 => Piece::OfAny,
-        4 => Piece::OfNumber(r.p),
+        roles::ANY => Piece::OfAny,
         _ => Piece::Nothing,
     }
 }
@@ -377,10 +386,11 @@ fn arity(image: &[u8], a: usize) -> Piece
 // How many arguments a function takes, and 0 for what is none.
 fn taken_by(image: &[u8], a: usize) -> Piece
     requires { ⌜ Headed (now image) ⌝ }
-    ensures { λ r. ⌜ Says (now (image .entry)) (decimal (taken (nameOf (namesOf (now (image .entry))) a .role))) r ⌝ }
+    ensures { λ r. ⌜ Says (now (image .entry))
+        (decimal (taken (nameOf (namesOf (now (image .entry))) a .role))) r ⌝ }
 {
     let r = record_of(image, a);
-    if r.role == 4 {
+    if r.role == roles::FUNCTION {
         return Piece::OfNumber(r.p);
     }
     Piece::OfNumber(0)
@@ -455,40 +465,41 @@ fn pieces_of(image: &[u8], table: &[u16], counts: Counts, code: u32, a: usize, b
     requires { ⌜ Headed (now image) ⌝ }
     requires { ⌜ brokenName (now image) ≡ none ⌝ }
     requires { ⌜ Tells (tab (now table) (counts .types) (counts .elements)) code a b ⌝ }
-    ensures { λ r. ⌜ Chosen (now (image .entry)) (tab (now (table .entry)) (counts .types) (counts .elements)) code a b r ⌝ }
+    ensures { λ r. ⌜ Chosen (now (image .entry)) (tab (now (table .entry)) (counts .types) (counts .elements))
+        code a b r ⌝ }
 {
     match code {
-        20 => nothing(),
-        21 => nothing(),
-        22 => two_types(a, b),
-        23 => named(image, a),
-        24 => one_type(a),
-        25 => two_types(a, b),
-        26 => counted(a, b),
-        27 => one_type(a),
-        28 => nothing(),
-        29 => two_types(a, b),
-        30 => two_types(a, b),
-        31 => two_types(a, b),
-        32 => two_types(a, b),
-        33 => two_types(a, b),
-        34 => one_type(a),
-        35 => one_type(a),
-        36 => nothing(),
-        37 => called(image, a, b),
-        38 => passed(image, a, b),
-        39 => one_type(a),
-        40 => one_type(a),
-        41 => one_type(a),
-        42 => one_type(a),
-        43 => one_type(a),
-        44 => one_type(a),
-        45 => one_type(a),
-        46 => one_type(a),
-        47 => two_types(a, b),
-        48 => one_type(a),
-        49 => one_type(a),
-        50 => one_type(a),
+        codes::BREAK => nothing(),
+        codes::CONTINUE => nothing(),
+        codes::INCONSISTENT_RETURN => two_types(a, b),
+        codes::INCOMPATIBLE_BRANCHES => named(image, a),
+        codes::NOT_ITERABLE => one_type(a),
+        codes::CANNOT_ASSIGN => two_types(a, b),
+        codes::UNPACK_LENGTH => counted(a, b),
+        codes::UNPACK_NON_ITERABLE => one_type(a),
+        codes::INVALID_TARGET => nothing(),
+        operator_codes::PLUS => two_types(a, b),
+        operator_codes::TIMES => two_types(a, b),
+        operator_codes::COMPARE => two_types(a, b),
+        codes::EQUALITY => two_types(a, b),
+        operator_codes::NUMERIC_PAIR => two_types(a, b),
+        operator_codes::INT_OR_FLOAT => one_type(a),
+        operator_codes::EXPECTED_BOOL => one_type(a),
+        codes::CONDITION => nothing(),
+        codes::BUILTIN_ARITY => called(image, a, b),
+        codes::FUNCTION_ARITY => passed(image, a, b),
+        codes::INPUT => one_type(a),
+        codes::LEN => one_type(a),
+        codes::RANGE => one_type(a),
+        codes::MAP_FIRST => one_type(a),
+        codes::MAP_SECOND => one_type(a),
+        codes::FILTER_FIRST => one_type(a),
+        codes::FILTER_SECOND => one_type(a),
+        codes::LIST_INDEX => one_type(a),
+        codes::DICT_KEY => two_types(a, b),
+        codes::TUPLE_INDEX => one_type(a),
+        codes::STRING_INDEX => one_type(a),
+        codes::NOT_SUBSCRIPTABLE => one_type(a),
         _ => nothing(),
     }
 }
@@ -509,7 +520,7 @@ fn nth_of(pieces: Pieces, k: usize) -> Piece
 
 const GAP: u8 = b'_';
 
-// Not clipped: only a type's text can be long, and that length is.
+// Not clipped: only a type's text can be long, and that length is. The dash of a range has one byte, `any` three.
 fn piece_size(piece: Piece, lens: &[usize]) -> usize
     requires { ⌜ Small (length (now lens)) piece ⌝ }
     ensures { λ r. ⌜ CountsPiece (now (lens .entry)) piece r ⌝ }
@@ -536,7 +547,8 @@ fn total(
     requires { ⌜ Ready (now image) (now table) pieces ⌝ }
     requires { ⌜ gaps (now format) ≡ pieces .many ⌝ }
     requires { ⌜ Sized (now table) cap (now lens) (pieces .types) ⌝ }
-    ensures { λ r. ⌜ r ≡ clipped cap (length (put-in (now (image .entry)) (now (table .entry)) pieces (now (format .entry)))) ⌝ }
+    ensures { λ r. ⌜ r ≡ clipped cap (length
+        (put-in (now (image .entry)) (now (table .entry)) pieces (now (format .entry)))) ⌝ }
 {
     let many = pieces.many;
     let mut size = clip(0, format.len() - many, cap);
@@ -548,14 +560,20 @@ fn total(
     size
 }
 
-// A function of its own for each size of the array: a small one is soon filled.
+// A function of its own for each size of the array: a small one is soon filled. A fill with 1 is faster than one with
+// 0.
+const FEW: usize = 64;
+
+const MANY: usize = types::STRUCTURED + MOST_NODES;
+
 fn measured_few(image: &[u8], table: &[u16], format: &[u8], pieces: Pieces, cap: usize) -> usize
     requires { ⌜ Ready (now image) (now table) pieces ⌝ }
     requires { ⌜ gaps (now format) ≡ pieces .many ⌝ }
     requires { ⌜ pieces .types ≤ 64 ⌝ }
-    ensures { λ r. ⌜ r ≡ clipped cap (length (put-in (now (image .entry)) (now (table .entry)) pieces (now (format .entry)))) ⌝ }
+    ensures { λ r. ⌜ r ≡ clipped cap (length
+        (put-in (now (image .entry)) (now (table .entry)) pieces (now (format .entry)))) ⌝ }
 {
-    let mut lens = [1usize; 64];
+    let mut lens = [1usize; FEW];
     measure(table, pieces.types, cap, &mut lens);
     total(image, table, format, pieces, &lens, cap)
 }
@@ -563,9 +581,10 @@ fn measured_few(image: &[u8], table: &[u16], format: &[u8], pieces: Pieces, cap:
 fn measured_many(image: &[u8], table: &[u16], format: &[u8], pieces: Pieces, cap: usize) -> usize
     requires { ⌜ Ready (now image) (now table) pieces ⌝ }
     requires { ⌜ gaps (now format) ≡ pieces .many ⌝ }
-    ensures { λ r. ⌜ r ≡ clipped cap (length (put-in (now (image .entry)) (now (table .entry)) pieces (now (format .entry)))) ⌝ }
+    ensures { λ r. ⌜ r ≡ clipped cap (length
+        (put-in (now (image .entry)) (now (table .entry)) pieces (now (format .entry)))) ⌝ }
 {
-    let mut lens = [1usize; 2056];
+    let mut lens = [1usize; MANY];
     measure(table, pieces.types, cap, &mut lens);
     total(image, table, format, pieces, &lens, cap)
 }
@@ -573,9 +592,10 @@ fn measured_many(image: &[u8], table: &[u16], format: &[u8], pieces: Pieces, cap
 fn measured(image: &[u8], table: &[u16], format: &[u8], pieces: Pieces, cap: usize) -> usize
     requires { ⌜ Ready (now image) (now table) pieces ⌝ }
     requires { ⌜ gaps (now format) ≡ pieces .many ⌝ }
-    ensures { λ r. ⌜ r ≡ clipped cap (length (put-in (now (image .entry)) (now (table .entry)) pieces (now (format .entry)))) ⌝ }
+    ensures { λ r. ⌜ r ≡ clipped cap (length
+        (put-in (now (image .entry)) (now (table .entry)) pieces (now (format .entry)))) ⌝ }
 {
-    if pieces.types <= 64 {
+    if pieces.types <= FEW {
         return measured_few(image, table, format, pieces, cap);
     }
     measured_many(image, table, format, pieces, cap)
@@ -594,7 +614,8 @@ fn put_range(p: u32, q: u32, out: &mut [u8], at: usize) -> usize
 fn put_piece(image: &[u8], table: &[u16], piece: Piece, out: &mut [u8], at: usize) -> usize
     requires { ⌜ Shown (now image) (now table) piece ⌝ }
     requires { ⌜ at + length (meant (now image) (now table) piece) ≤ length (now out) ⌝ }
-    ensures { λ _. ⌜ now (out .exit) ≡ putAt (now (out .entry)) at (meant (now (image .entry)) (now (table .entry)) piece) ⌝ }
+    ensures { λ _. ⌜ now (out .exit) ≡ putAt (now (out .entry)) at
+        (meant (now (image .entry)) (now (table .entry)) piece) ⌝ }
     ensures { λ r. ⌜ r ≡ at + length (meant (now (image .entry)) (now (table .entry)) piece) ⌝ }
 {
     match piece {
@@ -630,8 +651,10 @@ fn fill_in(image: &[u8], table: &[u16], format: &[u8], pieces: Pieces, out: &mut
     requires { ⌜ Ready (now image) (now table) pieces ⌝ }
     requires { ⌜ gaps (now format) ≡ pieces .many ⌝ }
     requires { ⌜ length (put-in (now image) (now table) pieces (now format)) ≤ length (now out) ⌝ }
-    ensures { λ _. ⌜ now (out .exit) ≡ putAt (now (out .entry)) 0 (put-in (now (image .entry)) (now (table .entry)) pieces (now (format .entry))) ⌝ }
-    ensures { λ r. ⌜ r ≡ length (put-in (now (image .entry)) (now (table .entry)) pieces (now (format .entry))) ⌝ }
+    ensures { λ _. ⌜ now (out .exit) ≡ putAt (now (out .entry)) 0
+        (put-in (now (image .entry)) (now (table .entry)) pieces (now (format .entry))) ⌝ }
+    ensures { λ r. ⌜ r ≡ length
+        (put-in (now (image .entry)) (now (table .entry)) pieces (now (format .entry))) ⌝ }
 {
     let many = pieces.many;
     let mut at = 0;
@@ -651,8 +674,10 @@ fn fill_in(image: &[u8], table: &[u16], format: &[u8], pieces: Pieces, out: &mut
 fn deliver(image: &[u8], table: &[u16], format: &[u8], pieces: Pieces, out: &mut [u8]) -> usize
     requires { ⌜ Ready (now image) (now table) pieces ⌝ }
     requires { ⌜ gaps (now format) ≡ pieces .many ⌝ }
-    ensures { λ r. ⌜ r ≡ length (fitting (length (now (out .entry))) (put-in (now (image .entry)) (now (table .entry)) pieces (now (format .entry)))) ⌝ }
-    ensures { λ _. ⌜ now (out .exit) ≡ overlaid (fitting (length (now (out .entry))) (put-in (now (image .entry)) (now (table .entry)) pieces (now (format .entry)))) (now (out .entry)) ⌝ }
+    ensures { λ r. ⌜ r ≡ length (laidOut (now (image .entry)) (now (table .entry)) pieces
+        (now (format .entry)) (now (out .entry))) ⌝ }
+    ensures { λ _. ⌜ now (out .exit) ≡ overlaid (laidOut (now (image .entry)) (now (table .entry)) pieces
+        (now (format .entry)) (now (out .entry))) (now (out .entry)) ⌝ }
 {
     let room = out.len();
     if room < measured(image, table, format, pieces, room + 1) {
@@ -664,20 +689,22 @@ fn deliver(image: &[u8], table: &[u16], format: &[u8], pieces: Pieces, out: &mut
 // 20 to 28: statements.
 fn tell_statement(image: &[u8], table: &[u16], code: u32, pieces: Pieces, out: &mut [u8]) -> usize
     requires { ⌜ Ready (now image) (now table) pieces ⌝ }
-    requires { ⌜ gaps (bytes (template code)) ≡ pieces .many ⌝ }
+    requires { ⌜ gaps (formatOf code) ≡ pieces .many ⌝ }
     requires { ⌜ (20 ≤ code) × (code ≤ 28) ⌝ }
-    ensures { λ r. ⌜ r ≡ length (fitting (length (now (out .entry))) (put-in (now (image .entry)) (now (table .entry)) pieces (bytes (template code)))) ⌝ }
-    ensures { λ _. ⌜ now (out .exit) ≡ overlaid (fitting (length (now (out .entry))) (put-in (now (image .entry)) (now (table .entry)) pieces (bytes (template code)))) (now (out .entry)) ⌝ }
+    ensures { λ r. ⌜ r ≡ length (laidOut (now (image .entry)) (now (table .entry)) pieces
+        (formatOf code) (now (out .entry))) ⌝ }
+    ensures { λ _. ⌜ now (out .exit) ≡ overlaid (laidOut (now (image .entry)) (now (table .entry)) pieces
+        (formatOf code) (now (out .entry))) (now (out .entry)) ⌝ }
 {
     match code {
-        20 => deliver(image, table, &STRAY_BREAK, pieces, out),
-        21 => deliver(image, table, &STRAY_CONTINUE, pieces, out),
-        22 => deliver(image, table, &RETURNS_DIFFER, pieces, out),
-        23 => deliver(image, table, &BRANCHES_DIFFER, pieces, out),
-        24 => deliver(image, table, &NOT_ITERABLE, pieces, out),
-        25 => deliver(image, table, &WRONG_VALUE, pieces, out),
-        26 => deliver(image, table, &WRONG_COUNT, pieces, out),
-        27 => deliver(image, table, &NOT_UNPACKABLE, pieces, out),
+        codes::BREAK => deliver(image, table, &STRAY_BREAK, pieces, out),
+        codes::CONTINUE => deliver(image, table, &STRAY_CONTINUE, pieces, out),
+        codes::INCONSISTENT_RETURN => deliver(image, table, &RETURNS_DIFFER, pieces, out),
+        codes::INCOMPATIBLE_BRANCHES => deliver(image, table, &BRANCHES_DIFFER, pieces, out),
+        codes::NOT_ITERABLE => deliver(image, table, &NOT_ITERABLE, pieces, out),
+        codes::CANNOT_ASSIGN => deliver(image, table, &WRONG_VALUE, pieces, out),
+        codes::UNPACK_LENGTH => deliver(image, table, &WRONG_COUNT, pieces, out),
+        codes::UNPACK_NON_ITERABLE => deliver(image, table, &NOT_UNPACKABLE, pieces, out),
         _ => deliver(image, table, &NO_TARGET, pieces, out),
     }
 }
@@ -685,19 +712,21 @@ fn tell_statement(image: &[u8], table: &[u16], code: u32, pieces: Pieces, out: &
 // 29 to 36: operators and conditions.
 fn tell_operator(image: &[u8], table: &[u16], code: u32, pieces: Pieces, out: &mut [u8]) -> usize
     requires { ⌜ Ready (now image) (now table) pieces ⌝ }
-    requires { ⌜ gaps (bytes (template code)) ≡ pieces .many ⌝ }
+    requires { ⌜ gaps (formatOf code) ≡ pieces .many ⌝ }
     requires { ⌜ (29 ≤ code) × (code ≤ 36) ⌝ }
-    ensures { λ r. ⌜ r ≡ length (fitting (length (now (out .entry))) (put-in (now (image .entry)) (now (table .entry)) pieces (bytes (template code)))) ⌝ }
-    ensures { λ _. ⌜ now (out .exit) ≡ overlaid (fitting (length (now (out .entry))) (put-in (now (image .entry)) (now (table .entry)) pieces (bytes (template code)))) (now (out .entry)) ⌝ }
+    ensures { λ r. ⌜ r ≡ length (laidOut (now (image .entry)) (now (table .entry)) pieces
+        (formatOf code) (now (out .entry))) ⌝ }
+    ensures { λ _. ⌜ now (out .exit) ≡ overlaid (laidOut (now (image .entry)) (now (table .entry)) pieces
+        (formatOf code) (now (out .entry))) (now (out .entry)) ⌝ }
 {
     match code {
-        29 => deliver(image, table, &NO_SUM, pieces, out),
-        30 => deliver(image, table, &NO_PRODUCT, pieces, out),
-        31 => deliver(image, table, &NO_ORDER, pieces, out),
-        32 => deliver(image, table, &NO_EQUALITY, pieces, out),
-        33 => deliver(image, table, &NOT_NUMBERS, pieces, out),
-        34 => deliver(image, table, &NOT_NUMBER, pieces, out),
-        35 => deliver(image, table, &NOT_BOOL, pieces, out),
+        operator_codes::PLUS => deliver(image, table, &NO_SUM, pieces, out),
+        operator_codes::TIMES => deliver(image, table, &NO_PRODUCT, pieces, out),
+        operator_codes::COMPARE => deliver(image, table, &NO_ORDER, pieces, out),
+        codes::EQUALITY => deliver(image, table, &NO_EQUALITY, pieces, out),
+        operator_codes::NUMERIC_PAIR => deliver(image, table, &NOT_NUMBERS, pieces, out),
+        operator_codes::INT_OR_FLOAT => deliver(image, table, &NOT_NUMBER, pieces, out),
+        operator_codes::EXPECTED_BOOL => deliver(image, table, &NOT_BOOL, pieces, out),
         _ => deliver(image, table, &NO_CONDITION, pieces, out),
     }
 }
@@ -705,20 +734,22 @@ fn tell_operator(image: &[u8], table: &[u16], code: u32, pieces: Pieces, out: &m
 // 37 to 45: calls.
 fn tell_call(image: &[u8], table: &[u16], code: u32, pieces: Pieces, out: &mut [u8]) -> usize
     requires { ⌜ Ready (now image) (now table) pieces ⌝ }
-    requires { ⌜ gaps (bytes (template code)) ≡ pieces .many ⌝ }
+    requires { ⌜ gaps (formatOf code) ≡ pieces .many ⌝ }
     requires { ⌜ (37 ≤ code) × (code ≤ 45) ⌝ }
-    ensures { λ r. ⌜ r ≡ length (fitting (length (now (out .entry))) (put-in (now (image .entry)) (now (table .entry)) pieces (bytes (template code)))) ⌝ }
-    ensures { λ _. ⌜ now (out .exit) ≡ overlaid (fitting (length (now (out .entry))) (put-in (now (image .entry)) (now (table .entry)) pieces (bytes (template code)))) (now (out .entry)) ⌝ }
+    ensures { λ r. ⌜ r ≡ length (laidOut (now (image .entry)) (now (table .entry)) pieces
+        (formatOf code) (now (out .entry))) ⌝ }
+    ensures { λ _. ⌜ now (out .exit) ≡ overlaid (laidOut (now (image .entry)) (now (table .entry)) pieces
+        (formatOf code) (now (out .entry))) (now (out .entry)) ⌝ }
 {
     match code {
-        37 => deliver(image, table, &BUILTIN_ARITY, pieces, out),
-        38 => deliver(image, table, &FUNCTION_ARITY, pieces, out),
-        39 => deliver(image, table, &PROMPT, pieces, out),
-        40 => deliver(image, table, &NO_LENGTH, pieces, out),
-        41 => deliver(image, table, &RANGE_BOUND, pieces, out),
-        42 => deliver(image, table, &MAP_FIRST, pieces, out),
-        43 => deliver(image, table, &MAP_SECOND, pieces, out),
-        44 => deliver(image, table, &FILTER_FIRST, pieces, out),
+        codes::BUILTIN_ARITY => deliver(image, table, &BUILTIN_ARITY, pieces, out),
+        codes::FUNCTION_ARITY => deliver(image, table, &FUNCTION_ARITY, pieces, out),
+        codes::INPUT => deliver(image, table, &PROMPT, pieces, out),
+        codes::LEN => deliver(image, table, &NO_LENGTH, pieces, out),
+        codes::RANGE => deliver(image, table, &RANGE_BOUND, pieces, out),
+        codes::MAP_FIRST => deliver(image, table, &MAP_FIRST, pieces, out),
+        codes::MAP_SECOND => deliver(image, table, &MAP_SECOND, pieces, out),
+        codes::FILTER_FIRST => deliver(image, table, &FILTER_FIRST, pieces, out),
         _ => deliver(image, table, &FILTER_SECOND, pieces, out),
     }
 }
@@ -726,16 +757,18 @@ fn tell_call(image: &[u8], table: &[u16], code: u32, pieces: Pieces, out: &mut [
 // 46 to 50: indexes.
 fn tell_index(image: &[u8], table: &[u16], code: u32, pieces: Pieces, out: &mut [u8]) -> usize
     requires { ⌜ Ready (now image) (now table) pieces ⌝ }
-    requires { ⌜ gaps (bytes (template code)) ≡ pieces .many ⌝ }
+    requires { ⌜ gaps (formatOf code) ≡ pieces .many ⌝ }
     requires { ⌜ (46 ≤ code) × (code ≤ 50) ⌝ }
-    ensures { λ r. ⌜ r ≡ length (fitting (length (now (out .entry))) (put-in (now (image .entry)) (now (table .entry)) pieces (bytes (template code)))) ⌝ }
-    ensures { λ _. ⌜ now (out .exit) ≡ overlaid (fitting (length (now (out .entry))) (put-in (now (image .entry)) (now (table .entry)) pieces (bytes (template code)))) (now (out .entry)) ⌝ }
+    ensures { λ r. ⌜ r ≡ length (laidOut (now (image .entry)) (now (table .entry)) pieces
+        (formatOf code) (now (out .entry))) ⌝ }
+    ensures { λ _. ⌜ now (out .exit) ≡ overlaid (laidOut (now (image .entry)) (now (table .entry)) pieces
+        (formatOf code) (now (out .entry))) (now (out .entry)) ⌝ }
 {
     match code {
-        46 => deliver(image, table, &LIST_INDEX, pieces, out),
-        47 => deliver(image, table, &DICT_KEY, pieces, out),
-        48 => deliver(image, table, &TUPLE_INDEX, pieces, out),
-        49 => deliver(image, table, &STRING_INDEX, pieces, out),
+        codes::LIST_INDEX => deliver(image, table, &LIST_INDEX, pieces, out),
+        codes::DICT_KEY => deliver(image, table, &DICT_KEY, pieces, out),
+        codes::TUPLE_INDEX => deliver(image, table, &TUPLE_INDEX, pieces, out),
+        codes::STRING_INDEX => deliver(image, table, &STRING_INDEX, pieces, out),
         _ => deliver(image, table, &NO_SUBSCRIPT, pieces, out),
     }
 }
@@ -743,21 +776,23 @@ fn tell_index(image: &[u8], table: &[u16], code: u32, pieces: Pieces, out: &mut 
 // By T's format string of the code: nothing for a number that is no code of a message.
 fn tell(image: &[u8], table: &[u16], code: u32, pieces: Pieces, out: &mut [u8]) -> usize
     requires { ⌜ Ready (now image) (now table) pieces ⌝ }
-    requires { ⌜ gaps (bytes (template code)) ≡ pieces .many ⌝ }
-    ensures { λ r. ⌜ r ≡ length (fitting (length (now (out .entry))) (put-in (now (image .entry)) (now (table .entry)) pieces (bytes (template code)))) ⌝ }
-    ensures { λ _. ⌜ now (out .exit) ≡ overlaid (fitting (length (now (out .entry))) (put-in (now (image .entry)) (now (table .entry)) pieces (bytes (template code)))) (now (out .entry)) ⌝ }
+    requires { ⌜ gaps (formatOf code) ≡ pieces .many ⌝ }
+    ensures { λ r. ⌜ r ≡ length (laidOut (now (image .entry)) (now (table .entry)) pieces
+        (formatOf code) (now (out .entry))) ⌝ }
+    ensures { λ _. ⌜ now (out .exit) ≡ overlaid (laidOut (now (image .entry)) (now (table .entry)) pieces
+        (formatOf code) (now (out .entry))) (now (out .entry)) ⌝ }
 {
     match code {
-        20..=28 => tell_statement(image, table, code, pieces, out),
-        29..=36 => tell_operator(image, table, code, pieces, out),
-        37..=45 => tell_call(image, table, code, pieces, out),
-        46..=50 => tell_index(image, table, code, pieces, out),
+        codes::BREAK..=codes::INVALID_TARGET => tell_statement(image, table, code, pieces, out),
+        operator_codes::PLUS..=codes::CONDITION => tell_operator(image, table, code, pieces, out),
+        codes::BUILTIN_ARITY..=codes::FILTER_SECOND => tell_call(image, table, code, pieces, out),
+        codes::LIST_INDEX..=codes::NOT_SUBSCRIPTABLE => tell_index(image, table, code, pieces, out),
         _ => 0,
     }
 }
 
-// The message of a refusal, at the front of `out` if it fits: returns its length, or 0 and changes nothing. `a` and `b` are the
-// numbers of the types that it names; for 26 its two counts; for 23, 37 and 38 a name's number and a count.
+// The message of a refusal, at the front of `out` if it fits: returns its length, or 0 and changes nothing. `a` and
+// `b` are the numbers of the types that it names; for 26 its two counts; for 23, 37 and 38 a name's number and a count.
 pub fn write(
     image: &[u8],
     table: &[u16],
@@ -770,10 +805,11 @@ pub fn write(
     requires { ⌜ Headed (now image) ⌝ }
     requires { ⌜ brokenName (now image) ≡ none ⌝ }
     requires { ⌜ Tells (tab (now table) (counts .types) (counts .elements)) code a b ⌝ }
-    ensures { λ r. ⌜ r ≡ length (told (now (image .entry)) (tab (now (table .entry)) (counts .types) (counts .elements)) code a b
-        (length (now (out .entry)))) ⌝ }
-    ensures { λ _. ⌜ now (out .exit) ≡ overlaid (told (now (image .entry)) (tab (now (table .entry)) (counts .types) (counts .elements))
-        code a b (length (now (out .entry)))) (now (out .entry)) ⌝ }
+    ensures { λ r. ⌜ r ≡ length (told (now (image .entry))
+        (tab (now (table .entry)) (counts .types) (counts .elements)) code a b (length (now (out .entry)))) ⌝ }
+    ensures { λ _. ⌜ now (out .exit) ≡ overlaid (told (now (image .entry))
+        (tab (now (table .entry)) (counts .types) (counts .elements)) code a b (length (now (out .entry))))
+        (now (out .entry)) ⌝ }
 {
     let pieces = pieces_of(image, table, counts, code, a, b);
     tell(image, table, code, pieces, out)

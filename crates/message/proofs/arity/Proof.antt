@@ -1,5 +1,6 @@
 -- `message::arity` meets its contract: each role is one law of Naming.
 use Rattle.message.proofs.Naming.{arity-number, arity-equal, arity-range, arity-any, arity-function, arity-none}
+use mathlib.Core.Logic.{⊎-elim, inl, inr}
 use borrow.Author.Needs.{needs}
 use Rattle.message.proofs.arity.Statement.{statement}
 use Rattle.message.proofs.arity.Tie as tie
@@ -13,7 +14,7 @@ returns c =
 
 returns-2 : tie.Need-returns-2
 returns-2 c =
-    arity-number _ _ (c .before .record-of .ensures) (c .match .keys1)
+    ⊎-elim (arity-number _ _ (c .before .record-of .ensures)) (arity-function _ _ (c .before .record-of .ensures)) (c .match .keys1)
 
 returns-3 : tie.Need-returns-3
 returns-3 c =
@@ -25,13 +26,9 @@ returns-4 c =
 
 returns-5 : tie.Need-returns-5
 returns-5 c =
-    arity-function _ _ (c .before .record-of .ensures) (c .match .keys4)
-
-returns-6 : tie.Need-returns-6
-returns-6 c =
-    arity-none _ _ (c .before .record-of .ensures) (c .match .rest .0 .0 .0 .1) (c .match .rest .0 .0 .1) (c .match .rest .0 .1) (c .match .rest .1)
+    arity-none _ _ (c .before .record-of .ensures) (λ e. c .match .rest .0 .0 .1 (inl e)) (c .match .rest .0 .1) (c .match .rest .1) (λ e. c .match .rest .0 .0 .1 (inr e))
 
 pub arity-spec : {M : Type 1} → statement M
 arity-spec =
     tie.close
-    (tie.spec record-of-requires returns returns-2 returns-3 returns-4 returns-5 returns-6)
+    (tie.spec record-of-requires returns returns-2 returns-3 returns-4 returns-5)
