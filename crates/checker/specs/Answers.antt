@@ -1,12 +1,14 @@
 -- The answers of the public functions in the document's numbers, and what they leave of the lent bytes.
 use mathlib.Core.Path.{_≡_}
+use mathlib.Core.Bool.{Bool}
 use mathlib.Core.List.{List}
 use Prim.Native.Nat.{ℕ, _≤_, _<_}
 use lib.ListN.{length}
 use Rattle.meaning.specs.Base.{ifSome}
 use Rattle.meaning.specs.Read.{readSheet}
-use Rattle.meaning.specs.Answer.{overlaid, bare, writeAnswer}
+use Rattle.meaning.specs.Answer.{overlaid, bare, writeAnswer, answerUnder}
 use Rattle.meaning.specs.Answer.{Answer as Meant}
+use Rattle.stmt.specs.Contract.{settingIf}
 use Rattle.checker.specs.declared.Refusal.{Refusal}
 use Rattle.checker.specs.declared.Reply.{Reply}
 use Rattle.checker.specs.declared.Reading.{Reading}
@@ -82,6 +84,11 @@ pub record Answers (a : Meant) (r : Answer) (oldSheet newSheet oldMessage newMes
   pub short : length (a .sheet) < 4294967296
   pub sheet : newSheet ≡ overlaid (a .sheet) oldSheet
   pub message : newMessage ≡ overlaid (a .message) oldMessage
+
+-- what comes of an image under one of the two settings
+abbrev pub AnswersUnder : Bool → List ℕ → Answer → List ℕ → List ℕ → List ℕ → List ℕ → Type 0
+AnswersUnder plain bs r oldSheet newSheet oldMessage newMessage =
+    Answers (answerUnder (settingIf plain) bs (length oldSheet) (length oldMessage)) r oldSheet newSheet oldMessage newMessage
 
 -- the same where only the sheet's buffer is lent, or only the message's
 pub record Wrote (a : Meant) (r : Answer) (old new : List ℕ) : Type 0 where

@@ -1,16 +1,18 @@
-// The public face: an image checked, a sheet read, a sheet written again. Nothing is asked of the caller, and each answer is one of an enum
-// whose numbers `specs/Answers.antt` gives.
+// The public face: an image checked, a sheet read, a sheet written again. Nothing is asked of the caller, and each
+// answer is one of an enum whose numbers `specs/Answers.antt` gives.
 ghost use mathlib.Core.Path.{_≡_};
 ghost use lib.ListN.{length};
+ghost use Rattle.meaning.specs.Limits.{mostNodes};
 ghost use Rattle.meaning.specs.Image.{namesOf};
 ghost use Rattle.meaning.specs.Frames.{newest};
 ghost use Rattle.meaning.specs.Sheet.{entries, sheetOf};
-ghost use Rattle.meaning.specs.Answer.{answerUnder, answer, written, readAnswer};
+ghost use Rattle.meaning.specs.Answer.{answer, written, readAnswer};
 ghost use Rattle.meaning.proofs.Faults.{Sound};
 ghost use Rattle.types.specs.Table.{tab};
 ghost use Rattle.frames.specs.Env.{framesOf};
-ghost use Rattle.stmt.specs.Contract.{settingIf};
-ghost use Rattle.checker.specs.Answers.{Answers, Wrote, Told, numbersOf, numbersIn, bareNumbers, readingNumbers, rewritingNumbers, rewritten, Rewrote, replyMeans, Replies, Relaid};
+ghost use Rattle.checker.specs.Answers.{Answers, AnswersUnder, Wrote, Told, numbersOf, numbersIn, bareNumbers};
+ghost use Rattle.checker.specs.Answers.{readingNumbers, rewritingNumbers, rewritten, Rewrote, replyMeans};
+ghost use Rattle.checker.specs.Answers.{Replies, Relaid};
 ghost use Rattle.checker.specs.Steps.{Sized, Lent, Accepting, Refusing, refusedAs};
 use frames::EMPTY;
 use frames::Frames;
@@ -21,6 +23,7 @@ use image::node_at;
 use limits::MOST_NODES;
 use names::list_names;
 use rules::codes;
+use sheet::NO_ENTRIES;
 use sheet::read;
 use stmt::program;
 use types::CELLS;
@@ -29,7 +32,8 @@ use types::FRESH;
 use types::STRUCTURED;
 use types::start;
 
-// The two settings (document 02). On a race weekend no typing error in a body of an If or a While may pass: strict returns what plain drops.
+// The two settings (document 02). On a race weekend no typing error in a body of an If or a While may pass: strict
+// returns what plain drops.
 pub const PLAIN: u32 = 0;
 
 pub const STRICT: u32 = 1;
@@ -43,7 +47,8 @@ pub struct Refusal {
     pub message: usize,
 }
 
-// Code 0 with the sheet's length; 1 to 8, those of a name or a node with its number; 9 with the Def; 10; 13; or a typing refusal.
+// Code 0 with the sheet's length; 1 to 8, those of a name or a node with its number; 9 with the Def; 10; 13; or a
+// typing refusal.
 pub enum Answer {
     Accepted(usize),
     BadHead,
@@ -76,7 +81,7 @@ fn accept(
         (newest (framesOf (tab (now (table .entry)) (counts .types) (counts .elements)) (now (frames .entry)) top)))))
         r (now (sheet .entry)) (now (sheet .exit)) ⌝ }
 {
-    let mut names = [0u32; 384];
+    let mut names = NO_ENTRIES;
     let count = list_names(image, frames, top, &mut names);
     let w = sheet::write(image, table, counts, &names, count, sheet);
     if w.fits {
@@ -99,7 +104,8 @@ fn refuse(
     message: &mut [u8],
 ) -> Answer
     requires { ⌜ Refusing (now image) nodes (tab (now table) (counts .types) (counts .elements)) code place a b ⌝ }
-    ensures { λ r. ⌜ Told (refusedAs (now (image .entry)) (tab (now (table .entry)) (counts .types) (counts .elements)) code place a b (length (now (message .entry))))
+    ensures { λ r. ⌜ Told (refusedAs (now (image .entry)) (tab (now (table .entry)) (counts .types) (counts .elements))
+        code place a b (length (now (message .entry))))
         r (now (message .entry)) (now (message .exit)) ⌝ }
 {
     let node = node_at(image, nodes, place);
@@ -125,8 +131,8 @@ fn walk_in(
     plain: bool,
 ) -> Answer
     requires { ⌜ Lent (now image) nodes (now table) ⌝ }
-    ensures { λ r. ⌜ Answers (answerUnder (settingIf plain) (now (image .entry)) (length (now (sheet .entry))) (length (now (message .entry))))
-        r (now (sheet .entry)) (now (sheet .exit)) (now (message .entry)) (now (message .exit)) ⌝ }
+    ensures { λ r. ⌜ AnswersUnder plain (now (image .entry)) r
+        (now (sheet .entry)) (now (sheet .exit)) (now (message .entry)) (now (message .exit)) ⌝ }
 {
     start(table);
     let mut frames = EMPTY;
@@ -152,7 +158,8 @@ fn walk_in(
     )
 }
 
-// A filled array costs a store for each few cells, so that few nodes get a small table: room for the plain types and one for each node.
+// A filled array costs a store for each few cells, so that few nodes get a small table: room for the plain types and
+// one for each node.
 const FEW: usize = 64;
 
 const SOME: usize = 512;
@@ -166,8 +173,8 @@ const MANY_CELLS: usize = CELLS * (STRUCTURED + MOST_NODES);
 // Each size has its own function, and so its own frame.
 fn walk_few(image: &[u8], nodes: usize, sheet: &mut [u8], message: &mut [u8], plain: bool) -> Answer
     requires { ⌜ Sized (now image) nodes 64 ⌝ }
-    ensures { λ r. ⌜ Answers (answerUnder (settingIf plain) (now (image .entry)) (length (now (sheet .entry))) (length (now (message .entry))))
-        r (now (sheet .entry)) (now (sheet .exit)) (now (message .entry)) (now (message .exit)) ⌝ }
+    ensures { λ r. ⌜ AnswersUnder plain (now (image .entry)) r
+        (now (sheet .entry)) (now (sheet .exit)) (now (message .entry)) (now (message .exit)) ⌝ }
 {
     let mut table = [FRESH; FEW_CELLS];
     walk_in(image, nodes, &mut table, sheet, message, plain)
@@ -181,8 +188,8 @@ fn walk_some(
     plain: bool,
 ) -> Answer
     requires { ⌜ Sized (now image) nodes 512 ⌝ }
-    ensures { λ r. ⌜ Answers (answerUnder (settingIf plain) (now (image .entry)) (length (now (sheet .entry))) (length (now (message .entry))))
-        r (now (sheet .entry)) (now (sheet .exit)) (now (message .entry)) (now (message .exit)) ⌝ }
+    ensures { λ r. ⌜ AnswersUnder plain (now (image .entry)) r
+        (now (sheet .entry)) (now (sheet .exit)) (now (message .entry)) (now (message .exit)) ⌝ }
 {
     let mut table = [FRESH; SOME_CELLS];
     walk_in(image, nodes, &mut table, sheet, message, plain)
@@ -195,9 +202,9 @@ fn walk_many(
     message: &mut [u8],
     plain: bool,
 ) -> Answer
-    requires { ⌜ Sized (now image) nodes 2048 ⌝ }
-    ensures { λ r. ⌜ Answers (answerUnder (settingIf plain) (now (image .entry)) (length (now (sheet .entry))) (length (now (message .entry))))
-        r (now (sheet .entry)) (now (sheet .exit)) (now (message .entry)) (now (message .exit)) ⌝ }
+    requires { ⌜ Sized (now image) nodes mostNodes ⌝ }
+    ensures { λ r. ⌜ AnswersUnder plain (now (image .entry)) r
+        (now (sheet .entry)) (now (sheet .exit)) (now (message .entry)) (now (message .exit)) ⌝ }
 {
     let mut table = [FRESH; MANY_CELLS];
     walk_in(image, nodes, &mut table, sheet, message, plain)
@@ -206,8 +213,8 @@ fn walk_many(
 // The answer for a well-formed image.
 fn walk_image(image: &[u8], sheet: &mut [u8], message: &mut [u8], plain: bool) -> Answer
     requires { ⌜ Sound (now image) ⌝ }
-    ensures { λ r. ⌜ Answers (answerUnder (settingIf plain) (now (image .entry)) (length (now (sheet .entry))) (length (now (message .entry))))
-        r (now (sheet .entry)) (now (sheet .exit)) (now (message .entry)) (now (message .exit)) ⌝ }
+    ensures { λ r. ⌜ AnswersUnder plain (now (image .entry)) r
+        (now (sheet .entry)) (now (sheet .exit)) (now (message .entry)) (now (message .exit)) ⌝ }
 {
     let l = areas(image);
     if l.count <= FEW {
@@ -221,8 +228,8 @@ fn walk_image(image: &[u8], sheet: &mut [u8], message: &mut [u8], plain: bool) -
 
 // The answer for any bytes, under a setting that is one of the two.
 fn answer_under(image: &[u8], sheet: &mut [u8], message: &mut [u8], plain: bool) -> Answer
-    ensures { λ r. ⌜ Answers (answerUnder (settingIf plain) (now (image .entry)) (length (now (sheet .entry))) (length (now (message .entry))))
-        r (now (sheet .entry)) (now (sheet .exit)) (now (message .entry)) (now (message .exit)) ⌝ }
+    ensures { λ r. ⌜ AnswersUnder plain (now (image .entry)) r
+        (now (sheet .entry)) (now (sheet .exit)) (now (message .entry)) (now (message .exit)) ⌝ }
 {
     match judge(image) {
         Judged::WellFormed => walk_image(image, sheet, message, plain),
@@ -237,10 +244,12 @@ fn answer_under(image: &[u8], sheet: &mut [u8], message: &mut [u8], plain: bool)
     }
 }
 
-// Checks an image under a setting: the one answer, the sheet at the front of its buffer if the program is accepted and the sheet fits, the
-// message at the front of its buffer if there is a typing refusal and the message fits, and no other byte changed.
+// Checks an image under a setting: the one answer, the sheet at the front of its buffer if the program is accepted and
+// the sheet fits, the message at the front of its buffer if there is a typing refusal and the message fits, and no
+// other byte changed.
 pub fn check(setting: u32, image: &[u8], sheet: &mut [u8], message: &mut [u8]) -> Answer
-    ensures { λ r. ⌜ Answers (answer setting (now (image .entry)) (length (now (sheet .entry))) (length (now (message .entry))))
+    ensures { λ r. ⌜ Answers
+        (answer setting (now (image .entry)) (length (now (sheet .entry))) (length (now (message .entry))))
         r (now (sheet .entry)) (now (sheet .exit)) (now (message .entry)) (now (message .exit)) ⌝ }
 {
     match setting {
@@ -263,7 +272,7 @@ pub fn read_sheet(sheet: &[u8]) -> Reading
     ensures { λ r. ⌜ readingNumbers r ≡ numbersIn (readAnswer (now (sheet .entry))) ⌝ }
 {
     let mut table = [FRESH; MANY_CELLS];
-    let mut names = [0u32; 384];
+    let mut names = NO_ENTRIES;
     let r = read(sheet, &mut table, &mut names);
     if r.stands {
         return Reading::Sheet;
@@ -280,10 +289,11 @@ pub enum Rewriting {
 
 // Reads a sheet and writes what was read with the check's own writer: the same bytes, if they fit.
 pub fn write_sheet(sheet: &[u8], out: &mut [u8]) -> Rewriting
-    ensures { λ r. ⌜ Rewrote (rewritten (now (sheet .entry)) (length (now (out .entry)))) r (now (out .entry)) (now (out .exit)) ⌝ }
+    ensures { λ r. ⌜ Rewrote (rewritten (now (sheet .entry)) (length (now (out .entry))))
+        r (now (out .entry)) (now (out .exit)) ⌝ }
 {
     let mut table = [FRESH; MANY_CELLS];
-    let mut names = [0u32; 384];
+    let mut names = NO_ENTRIES;
     let r = read(sheet, &mut table, &mut names);
     if !r.stands {
         return Rewriting::NotRead;
@@ -322,6 +332,7 @@ fn bare(code: u32, place: usize) -> Reply
     }
 }
 
+// By document 01's codes; 13 is document 02's.
 fn replied(a: Answer) -> Reply
     ensures { λ r. ⌜ replyMeans r ≡ numbersOf a ⌝ }
 {
@@ -342,7 +353,7 @@ fn replied(a: Answer) -> Reply
         Answer::BadNode(i) => bare(6, i),
         Answer::BadNesting(i) => bare(7, i),
         Answer::TooDeep(i) => bare(8, i),
-        Answer::NinthFrame(i) => bare(9, i),
+        Answer::NinthFrame(i) => bare(codes::NINTH_FRAME, i),
         Answer::ShortBuffer => bare(10, 0),
         Answer::NoSetting => bare(13, 0),
         Answer::Typing(r) => Reply {
@@ -364,7 +375,8 @@ pub extern "C" fn cablebirch_check(
     sheet: &mut [u8],
     message: &mut [u8],
 ) -> Reply
-    ensures { λ r. ⌜ Replies (answer setting (now (image .entry)) (length (now (sheet .entry))) (length (now (message .entry))))
+    ensures { λ r. ⌜ Replies
+        (answer setting (now (image .entry)) (length (now (sheet .entry))) (length (now (message .entry))))
         (replyMeans r) (now (sheet .entry)) (now (sheet .exit)) (now (message .entry)) (now (message .exit)) ⌝ }
 {
     replied(check(setting, image, sheet, message))
@@ -401,7 +413,8 @@ fn relaid(r: Rewriting) -> Reply
 // `write_sheet` for other languages: 0, 10 or 12.
 #[no_mangle]
 pub extern "C" fn cablebirch_write_sheet(sheet: &[u8], out: &mut [u8]) -> Reply
-    ensures { λ r. ⌜ Relaid (rewritten (now (sheet .entry)) (length (now (out .entry)))) (replyMeans r) (now (out .entry)) (now (out .exit)) ⌝ }
+    ensures { λ r. ⌜ Relaid (rewritten (now (sheet .entry)) (length (now (out .entry))))
+        (replyMeans r) (now (out .entry)) (now (out .exit)) ⌝ }
 {
     relaid(write_sheet(sheet, out))
 }

@@ -7,6 +7,7 @@ ghost use Rattle.meaning.specs.Answer.{answer, overlaid};
 ghost use Rattle.meaning.specs.Line.{spaced, acceptedLine, refusedLine, lineOf};
 ghost use Rattle.line.specs.Printing.{Printable, answered, orDash, Wrote, Lined};
 use checker::cablebirch_check;
+use sheet::header;
 use words::get_word;
 use words::put;
 use words::put_decimal;
@@ -52,8 +53,8 @@ fn accepted_line(sheet: &[u8], out: &mut [u8]) -> usize
     requires { ⌜ 64 ≤ length (now out) ⌝ }
     ensures { λ r. ⌜ Wrote (now (out .entry)) 0 (acceptedLine (now (sheet .entry))) (now (out .exit)) r ⌝ }
 {
-    let names = get_word(sheet, 20);
-    let types = get_word(sheet, 4);
+    let names = get_word(sheet, header::NAME_COUNT);
+    let types = get_word(sheet, header::TYPE_COUNT);
     let numbers = put(out, 0, b"accepted");
     let end = put_three(out, numbers, names, types, sheet.len() as u32);
     put(out, end, b"\n")
@@ -68,7 +69,8 @@ fn refused_line(
     out: &mut [u8],
 ) -> usize
     requires { ⌜ 64 + length (now message) ≤ length (now out) ⌝ }
-    ensures { λ r. ⌜ Wrote (now (out .entry)) 0 (refusedLine (answered code place begins ends [] (now (message .entry)))) (now (out .exit)) r ⌝ }
+    ensures { λ r. ⌜ Wrote (now (out .entry)) 0
+        (refusedLine (answered code place begins ends [] (now (message .entry)))) (now (out .exit)) r ⌝ }
 {
     let numbers = put(out, 0, b"refused");
     let others = put_spaced(out, numbers, code);
@@ -89,9 +91,10 @@ pub fn write(
     out: &mut [u8],
 ) -> usize
     requires { ⌜ Printable code (now sheet) (now message) (now out) ⌝ }
-    ensures { λ _. ⌜ now (out .exit)
-        ≡ overlaid (lineOf (answered code place begins ends (now (sheet .entry)) (now (message .entry)))) (now (out .entry)) ⌝ }
-    ensures { λ r. ⌜ r ≡ length (lineOf (answered code place begins ends (now (sheet .entry)) (now (message .entry)))) ⌝ }
+    ensures { λ _. ⌜ now (out .exit) ≡ overlaid
+        (lineOf (answered code place begins ends (now (sheet .entry)) (now (message .entry)))) (now (out .entry)) ⌝ }
+    ensures { λ r. ⌜ r ≡ length
+        (lineOf (answered code place begins ends (now (sheet .entry)) (now (message .entry)))) ⌝ }
 {
     if code == 0 {
         return accepted_line(sheet, out);
@@ -116,7 +119,8 @@ fn word(n: usize) -> u32
     n as u32
 }
 
-// Checks an image under a setting with the two buffers for its sheet and its message, and puts the line for it at the front of `out`.
+// Checks an image under a setting with the two buffers for its sheet and its message, and puts the line for it at the
+// front of `out`.
 pub fn of_image(
     setting: u32,
     image: &[u8],
@@ -126,8 +130,10 @@ pub fn of_image(
 ) -> Printed
     requires { ⌜ length (now sheet) < 4294967296 ⌝ }
     requires { ⌜ 64 + length (now message) ≤ length (now out) ⌝ }
-    ensures { λ r. ⌜ Lined (answer setting (now (image .entry)) (length (now (sheet .entry))) (length (now (message .entry))))
-        (now (out .entry)) (now (out .exit)) (now (sheet .entry)) (now (sheet .exit)) (r .length) (r .code) (r .sheet) ⌝ }
+    ensures { λ r. ⌜ Lined
+        (answer setting (now (image .entry)) (length (now (sheet .entry))) (length (now (message .entry))))
+        (now (out .entry)) (now (out .exit)) (now (sheet .entry)) (now (sheet .exit))
+        (r .length) (r .code) (r .sheet) ⌝ }
 {
     let a = cablebirch_check(setting, image, sheet, message);
     let length = write(

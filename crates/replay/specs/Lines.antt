@@ -2,7 +2,7 @@
 -- not tell sheets of one size apart".
 use mathlib.Core.Path.{_≡_}
 use mathlib.Core.List.{List, [], _∷_, _++_}
-use Prim.Native.Nat.{ℕ, _-_, _*_, _%_, _^_, _≤_}
+use Prim.Native.Nat.{ℕ, _+_, _-_, _*_, _%_, _^_, _≤_}
 use lib.Bits.{bitXor}
 use lib.Dec.{eqb}
 use lib.ListN.{length, take}
@@ -37,6 +37,10 @@ hexOf n = digits 16 16 n
 
 unfoldable pub checksum : List ℕ → List ℕ
 checksum sheet = bytes " #" ++ hexOf (fnvOf sheet) ++ bytes "\n"
+
+-- what stands around a message has fewer than 128 bytes
+abbrev pub lineRoom : ℕ
+lineRoom = messageBuffer + 128
 
 -- ---- the line of an image: the checksum takes the place of the line's end
 

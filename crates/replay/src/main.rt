@@ -1,26 +1,57 @@
-// Runs the stored list of T's answers against the checker, and speaks the oracle's batch form, so that any other list goes through the
-// same proved code. `replay stored` reads the list beside it and prints what differs and how many agree. `replay` prints the line of each
-// image of a batch on standard input, `replay strict` the same in strict, `replay tight` in the rooms of the tight list, and `replay
-// sheets` the line of each sheet.
+// Runs the stored list of T's answers against the checker, and speaks the oracle's batch form, so that any other list
+// goes through the same proved code. `replay stored` reads the list beside it and prints what differs and how many
+// agree. `replay` prints the line of each image of a batch on standard input, `replay strict` the same in strict,
+// `replay tight` in the rooms of the tight list, and `replay sheets` the line of each sheet.
 ghost use mathlib.Core.Path.{_≡_};
 ghost use mathlib.Core.Bool.{true};
 ghost use Prim.Native.Nat.{_+_, _*_, _%_, _^_, _<_, _≤_, min};
 ghost use lib.ListN.{length};
 ghost use Rattle.line.specs.Printing.{Wrote};
-ghost use Rattle.replay.specs.Lines.{fnvOf, hexOf, checksum, checkedLine, readLine, sheetLine, lineFor, Fronted};
+ghost use Rattle.meaning.specs.Limits.{sheetBuffer, messageBuffer};
+ghost use Rattle.replay.specs.Lines.{lineRoom, fnvOf, hexOf, checksum, checkedLine};
+ghost use Rattle.replay.specs.Lines.{readLine, sheetLine, lineFor, Fronted};
 use checker::PLAIN;
 use checker::STRICT;
 use checker::cablebirch_write_sheet;
 use libc::STDIN_FILENO;
 use libc::STDOUT_FILENO;
+use limits::LARGEST_SHEET;
+use limits::MESSAGE_BUFFER;
+use limits::READ_AT_MOST;
+use limits::SHEET_BUFFER;
 use line::put_spaced;
+use sheet::header;
 use std::num::wrapping_add_u64;
 use words::get_word;
 use words::put;
 use words::same;
 use words::text;
 
+// Room for a line: what stands around its message has fewer than 128 bytes.
+const LINE: usize = MESSAGE_BUFFER + 128;
+
+// The rooms of the tight list.
+const TIGHT_SHEET: usize = 98;
+
+const TIGHT_MESSAGE: usize = 69;
+
 // ---- the checksum
+
+// FNV-1a 64 starts with this.
+const OFFSET_BASIS: u64 = 14695981039346656037;
+
+// FNV's prime is HIGH, 2^40, and LOW.
+const HIGH: u64 = 1099511627776;
+
+const LOW: u64 = 435;
+
+// 2^32, and 2^24: what of a number HIGH leaves below 2^64.
+const HALF: u64 = 4294967296;
+
+const KEPT: u64 = 16777216;
+
+// The digits of a checksum.
+const DIGITS: usize = 16;
 
 // As a call of its own, a byte asks no proof that it fits.
 fn wide(b: u8) -> u64
@@ -29,20 +60,20 @@ fn wide(b: u8) -> u64
     b as u64
 }
 
-// The product by FNV's prime, 2^40 + 435, modulo 2^64: the numbers that wrap are sums alone.
+// The product by FNV's prime modulo 2^64: the numbers that wrap are sums alone.
 fn times_prime(h: u64) -> u64
     ensures { λ r. ⌜ r ≡ h * 1099511628211 % 2 ^ 64 ⌝ }
 {
-    let high = h % 16777216 * 1099511627776;
-    let middle = h / 4294967296 * 435 % 4294967296 * 4294967296;
-    let low = h % 4294967296 * 435;
+    let high = h % KEPT * HIGH;
+    let middle = h / HALF * LOW % HALF * HALF;
+    let low = h % HALF * LOW;
     wrapping_add_u64(wrapping_add_u64(high, middle), low)
 }
 
 fn fnv(s: &[u8]) -> u64
     ensures { λ r. ⌜ r ≡ fnvOf (now (s .entry)) ⌝ }
 {
-    let mut h = 14695981039346656037;
+    let mut h = OFFSET_BASIS;
     let mut i = 0;
     while i < s.len() {
         h = times_prime(h ^ wide(s[i]));
@@ -56,8 +87,8 @@ fn put_hex(out: &mut [u8], at: usize, n: u64) -> usize
     ensures { λ r. ⌜ Wrote (now (out .entry)) at (hexOf n) (now (out .exit)) r ⌝ }
     ensures { λ r. ⌜ r ≡ at + 16 ⌝ }
 {
-    let mut digits = [0u8; 16];
-    let count = io::hex(n, 16, &mut digits);
+    let mut digits = [0u8; DIGITS];
+    let count = io::hex(n, DIGITS, &mut digits);
     put(out, at, &digits[..count])
 }
 
@@ -81,9 +112,10 @@ fn summed_line(
     message: &mut [u8],
     out: &mut [u8],
 ) -> usize
-    requires { ⌜ (length (now sheet) ≤ 42532) × (length (now message) ≤ 1024) ⌝ }
-    requires { ⌜ 1152 ≤ length (now out) ⌝ }
-    ensures { λ r. ⌜ Fronted (checkedLine setting (now (image .entry)) (length (now (sheet .entry))) (length (now (message .entry))))
+    requires { ⌜ (length (now sheet) ≤ sheetBuffer) × (length (now message) ≤ messageBuffer) ⌝ }
+    requires { ⌜ lineRoom ≤ length (now out) ⌝ }
+    ensures { λ r. ⌜ Fronted
+        (checkedLine setting (now (image .entry)) (length (now (sheet .entry))) (length (now (message .entry))))
         (now (out .entry)) (now (out .exit)) r ⌝ }
 {
     let p = line::of_image(setting, image, sheet, message, out);
@@ -101,12 +133,13 @@ fn image_line(
     message_room: usize,
     out: &mut [u8],
 ) -> usize
-    requires { ⌜ («sheet_room» ≤ 42532) × («message_room» ≤ 1024) ⌝ }
-    requires { ⌜ 1152 ≤ length (now out) ⌝ }
-    ensures { λ r. ⌜ Fronted (checkedLine setting (now (image .entry)) «sheet_room» «message_room») (now (out .entry)) (now (out .exit)) r ⌝ }
+    requires { ⌜ («sheet_room» ≤ sheetBuffer) × («message_room» ≤ messageBuffer) ⌝ }
+    requires { ⌜ lineRoom ≤ length (now out) ⌝ }
+    ensures { λ r. ⌜ Fronted (checkedLine setting (now (image .entry)) «sheet_room» «message_room»)
+        (now (out .entry)) (now (out .exit)) r ⌝ }
 {
-    let mut sheet = [0u8; 42532];
-    let mut message = [0u8; 1024];
+    let mut sheet = [0u8; SHEET_BUFFER];
+    let mut message = [0u8; MESSAGE_BUFFER];
     summed_line(
         setting,
         image,
@@ -121,8 +154,8 @@ fn read_line(sheet: &[u8], out: &mut [u8]) -> usize
     requires { ⌜ 64 ≤ length (now out) ⌝ }
     ensures { λ r. ⌜ Wrote (now (out .entry)) 0 (readLine (now (sheet .entry))) (now (out .exit)) r ⌝ }
 {
-    let names = get_word(sheet, 20);
-    let types = get_word(sheet, 4);
+    let names = get_word(sheet, header::NAME_COUNT);
+    let types = get_word(sheet, header::TYPE_COUNT);
     let numbers = put(out, 0, b"read");
     let second = put_spaced(out, numbers, names);
     let end = put_spaced(out, second, types);
@@ -131,10 +164,10 @@ fn read_line(sheet: &[u8], out: &mut [u8]) -> usize
 
 // The line is that of what was written again from what was read, so it speaks of the reader and of the writer.
 fn sheet_line(sheet: &[u8], out: &mut [u8]) -> usize
-    requires { ⌜ 1152 ≤ length (now out) ⌝ }
+    requires { ⌜ lineRoom ≤ length (now out) ⌝ }
     ensures { λ r. ⌜ Fronted (sheetLine (now (sheet .entry))) (now (out .entry)) (now (out .exit)) r ⌝ }
 {
-    let mut again = [0u8; 42532];
+    let mut again = [0u8; LARGEST_SHEET];
     let p = cablebirch_write_sheet(sheet, &mut again);
     let code = p.code;
     if code == 0 {
@@ -152,26 +185,32 @@ pub enum Task {
 }
 
 fn line_of(task: Task, bytes: &[u8], out: &mut [u8]) -> usize
-    requires { ⌜ 1152 ≤ length (now out) ⌝ }
+    requires { ⌜ lineRoom ≤ length (now out) ⌝ }
     ensures { λ r. ⌜ Fronted (lineFor task (now (bytes .entry))) (now (out .entry)) (now (out .exit)) r ⌝ }
     ensures { λ r. ⌜ r ≤ length (now (out .exit)) ⌝ }
 {
     match task {
-        Task::Images => image_line(PLAIN, bytes, 42532, 1024, out),
-        Task::Strict => image_line(STRICT, bytes, 42532, 1024, out),
-        Task::Tight => image_line(PLAIN, bytes, 98, 69, out),
+        Task::Images => image_line(PLAIN, bytes, SHEET_BUFFER, MESSAGE_BUFFER, out),
+        Task::Strict => image_line(STRICT, bytes, SHEET_BUFFER, MESSAGE_BUFFER, out),
+        Task::Tight => image_line(PLAIN, bytes, TIGHT_SHEET, TIGHT_MESSAGE, out),
         Task::Sheets => sheet_line(bytes, out),
     }
 }
 
 // Two lines agree exactly if they are the same bytes.
 fn agrees(ours: &[u8], theirs: &[u8]) -> bool
-    ensures { λ r. ⌜ (r ≡ true → now (ours .entry) ≡ now (theirs .entry)) × (now (ours .entry) ≡ now (theirs .entry) → r ≡ true) ⌝ }
+    ensures { λ r. ⌜ (r ≡ true → now (ours .entry) ≡ now (theirs .entry))
+        × (now (ours .entry) ≡ now (theirs .entry) → r ≡ true) ⌝ }
 {
     same(ours, theirs)
 }
 
 // ---- a batch: each record behind its length, a word
+
+const HEAD: usize = 4;
+
+// What `io::buffer` has room for.
+const BLOCK: usize = 4096;
 
 // Whether there is a record, whether it is whole, and how much of it stands in the buffer.
 struct Got {
@@ -198,7 +237,7 @@ fn skip_some(fd: i32, wanted: usize) -> bool
 fn skip(fd: i32, from: usize, to: usize) -> bool {
     let mut at = from;
     while at < to {
-        let wanted = least(to - at, 4096);
+        let wanted = least(to - at, BLOCK);
         if !skip_some(fd, wanted) {
             return false;
         }
@@ -211,15 +250,15 @@ fn signed(n: u32) -> isize {
     n as isize
 }
 
-// A record that is longer than the buffer is cut. The answer is the same, if the buffer has 59,937 bytes: 1 and 2 are decided by the
-// first 32 bytes, and where those stand "an image has at most 59,936 bytes", so that either length gives 3; a sheet has at most 42,532,
-// so that either length gives 12.
+// A record that is longer than the buffer is cut. The answer is the same, if the buffer has 59,937 bytes: 1 and 2 are
+// decided by the first 32 bytes, and where those stand "an image has at most 59,936 bytes", so that either length
+// gives 3; a sheet has at most 42,532, so that either length gives 12.
 fn next(fd: i32, buf: &mut [u8]) -> Got
     ensures { λ r. ⌜ r .length ≤ length (now (buf .exit)) ⌝ }
 {
-    let mut head = [0u8; 4];
+    let mut head = [0u8; HEAD];
     let n = io::read_full(fd, &mut head);
-    if n < 4 {
+    if n < HEAD {
         return Got {
             is_there: 0 < n,
             is_whole: false,
@@ -243,7 +282,7 @@ fn say(text: &[u8]) {
 
 // The line of the next record of standard input; whether to go on.
 fn print_next(task: Task, buf: &mut [u8], out: &mut [u8]) -> bool
-    requires { ⌜ 1152 ≤ length (now out) ⌝ }
+    requires { ⌜ lineRoom ≤ length (now out) ⌝ }
 {
     let got = next(STDIN_FILENO, buf);
     if !got.is_there {
@@ -258,10 +297,11 @@ fn print_next(task: Task, buf: &mut [u8], out: &mut [u8]) -> bool
     io::write_all(STDOUT_FILENO, text(out, 0, n))
 }
 
-// A proved loop has to end, and nothing says that the input does: it counts its turns down from a number that no batch uses up.
+// A proved loop has to end, and nothing says that the input does: it counts its turns down from a number that no batch
+// uses up.
 fn print_lines(task: Task) {
-    let mut buf = [0u8; 59937];
-    let mut out = [0u8; 1152];
+    let mut buf = [0u8; READ_AT_MOST];
+    let mut out = [0u8; LINE];
     let mut turns = u64::MAX;
     while turns > 0 && print_next(task, &mut buf, &mut out) {
         turns -= 1;
@@ -332,7 +372,8 @@ fn say_record(task: Task) {
     }
 }
 
-// Of sheets T knows nothing: there the oracle's reader is the judge. In strict it is T with its dropped errors handed on.
+// Of sheets T knows nothing: there the oracle's reader is the judge. In strict it is T with its dropped errors handed
+// on.
 fn say_judge(task: Task) {
     match task {
         Task::Sheets => say(b" / reader "),
@@ -360,11 +401,11 @@ struct Step {
 }
 
 fn replay_next(task: Task, records: i32, answers: i32, number: u32, at: u32, buf: &mut [u8]) -> Step
-    requires { ⌜ at + 1152 < 4294967296 ⌝ }
-    ensures { λ r. ⌜ r .at ≤ at + 1152 ⌝ }
+    requires { ⌜ at + lineRoom < 4294967296 ⌝ }
+    ensures { λ r. ⌜ r .at ≤ at + lineRoom ⌝ }
 {
-    let mut ours = [0u8; 1152];
-    let mut theirs = [0u8; 1152];
+    let mut ours = [0u8; LINE];
+    let mut theirs = [0u8; LINE];
     let got = next(records, buf);
     let line = line_at(answers, at, &mut theirs);
     if !are_there(got, line) {
@@ -396,14 +437,16 @@ struct Tally {
 }
 
 // A proved loop has to end: the list has some thousands of entries, far from this limit.
+const MOST_ENTRIES: u32 = 1000000;
+
 fn replay_all(task: Task, records: i32, answers: i32) -> Tally
     ensures { λ r. ⌜ (r .agreed ≤ 1000000) × (r .differ ≤ 1000000) ⌝ }
 {
-    let mut buf = [0u8; 59937];
+    let mut buf = [0u8; READ_AT_MOST];
     let mut number = 0;
     let mut agreed = 0;
     let mut at = 0;
-    while number < 1000000 {
+    while number < MOST_ENTRIES {
         let step = replay_next(task, records, answers, number, at, &mut buf);
         if !step.goes_on {
             break;

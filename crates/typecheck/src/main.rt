@@ -1,18 +1,29 @@
-// Reads a program image on standard input and prints the one line of its answer. The word behind the program's name is the setting: none
-// or `plain`, or `strict`; anything else gets code 13.
+// Reads a program image on standard input and prints the one line of its answer. The word behind the program's name is
+// the setting: none or `plain`, or `strict`; anything else gets code 13.
 ghost use mathlib.Core.Path.{_≡_};
-ghost use Prim.Native.Nat.{_≤_};
+ghost use Prim.Native.Nat.{_+_, _≤_};
 ghost use lib.ListN.{length};
 ghost use Rattle.meaning.specs.Answer.{answer, overlaid};
 ghost use Rattle.meaning.specs.Line.{lineOf};
+ghost use Rattle.meaning.specs.Limits.{sheetBuffer, messageBuffer};
 ghost use Rattle.typecheck.specs.Words.{Told};
 use checker::PLAIN;
 use checker::STRICT;
+use limits::MESSAGE_BUFFER;
+use limits::READ_AT_MOST;
+use limits::SHEET_BUFFER;
 use words::same;
 use words::text;
 
 // A number that is none of the two settings.
 const NO_SETTING: u32 = 2;
+
+// Room for the line: what stands around its message has fewer than 64 bytes.
+const LINE: usize = 64 + MESSAGE_BUFFER;
+
+const STDIN: i32 = 0;
+
+const STDOUT: i32 = 1;
 
 // The setting's number, by how many arguments there are, the program's name among them, and the first word behind it.
 fn setting_told(arguments: usize, word: &[u8]) -> u32
@@ -35,13 +46,14 @@ fn setting_told(arguments: usize, word: &[u8]) -> u32
 
 // The line for an image, at the front of `out`: "Its message buffer has 1,024 bytes, its sheet buffer 42,532."
 fn print_line(setting: u32, image: &[u8], out: &mut [u8]) -> usize
-    requires { ⌜ 1088 ≤ length (now out) ⌝ }
-    ensures { λ _. ⌜ now (out .exit) ≡ overlaid (lineOf (answer setting (now (image .entry)) 42532 1024)) (now (out .entry)) ⌝ }
-    ensures { λ r. ⌜ r ≡ length (lineOf (answer setting (now (image .entry)) 42532 1024)) ⌝ }
+    requires { ⌜ 64 + messageBuffer ≤ length (now out) ⌝ }
+    ensures { λ _. ⌜ now (out .exit) ≡ overlaid
+        (lineOf (answer setting (now (image .entry)) sheetBuffer messageBuffer)) (now (out .entry)) ⌝ }
+    ensures { λ r. ⌜ r ≡ length (lineOf (answer setting (now (image .entry)) sheetBuffer messageBuffer)) ⌝ }
     ensures { λ r. ⌜ r ≤ length (now (out .entry)) ⌝ }
 {
-    let mut sheet = [0u8; 42532];
-    let mut message = [0u8; 1024];
+    let mut sheet = [0u8; SHEET_BUFFER];
+    let mut message = [0u8; MESSAGE_BUFFER];
     let p = line::of_image(setting, image, &mut sheet, &mut message, out);
     p.length
 }
@@ -50,9 +62,9 @@ fn main() {
     let mut word = io::buffer();
     let w = os::arg(1, &mut word);
     let setting = setting_told(os::arg_count(), &word[..w]);
-    let mut input = [0u8; 59937];
-    let n = io::read_full(0, &mut input);
-    let mut out = [0u8; 1088];
+    let mut input = [0u8; READ_AT_MOST];
+    let n = io::read_full(STDIN, &mut input);
+    let mut out = [0u8; LINE];
     let length = print_line(setting, &input[..n], &mut out);
-    io::write_all(1, text(&out, 0, length));
+    io::write_all(STDOUT, text(&out, 0, length));
 }
