@@ -25,7 +25,7 @@ use names::list_names;
 use rules::codes;
 use sheet::NO_ENTRIES;
 use sheet::read;
-use stmt::program;
+use stmt::typecheck_program;
 use types::CELLS;
 use types::Counts;
 use types::FRESH;
@@ -137,7 +137,7 @@ fn walk_in(
     start(table);
     let mut frames = EMPTY;
     let mut stack = [FRESH; MOST_NODES];
-    let w = program(image, &mut frames, table, &mut stack, plain);
+    let w = typecheck_program(image, &mut frames, table, &mut stack, plain);
     let code = w.code;
     if code == 0 {
         return accept(image, table, w.counts, &frames, w.top, sheet);

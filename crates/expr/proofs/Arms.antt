@@ -1,10 +1,10 @@
 -- The arms of `expr`.
-use mathlib.Core.Path.{_≡_, refl, sym, ap, _∙_}
-use mathlib.Core.List.{List, [], _∷_}
+use mathlib.Core.Path.{_≡_, sym, ap, _∙_}
+use mathlib.Core.List.{List}
 use mathlib.Core.Bool.{false}
-use mathlib.Core.Logic.{_⊎_, inl, inr, ⊎-elim}
+use mathlib.Core.Logic.{_⊎_, ⊎-elim}
 use lib.Dec.{eqb}
-use Prim.Native.Nat.{ℕ, zero, suc, _+_, _-_, _≤_, _<_}
+use Prim.Native.Nat.{ℕ, zero, suc, _-_, _≤_, _<_}
 use native.Mathlib.Numerals.{sub-one}
 use native.Mathlib.Omega.{arith}
 use borrow.Author.Tests.{ne-eqb}
@@ -15,12 +15,12 @@ use Rattle.meaning.specs.Tree.{Expr, lambda}
 use Rattle.meaning.specs.Image.{Name, Node, nodeCount, nodesOf, nodeOf, namesOf, nameCount, argBelow}
 use Rattle.meaning.specs.Decode.{exprAt, formAt, stopOf, literalType}
 use Rattle.meaning.specs.Frames.{Frames, lookup}
-use Rattle.meaning.specs.Operators.{Checked, ok}
+use Rattle.meaning.specs.Operators.{ok}
 use Rattle.meaning.specs.Rules.{check, checkForm}
-use Rattle.meaning.proofs.Faults.{Sound, sizes}
+use Rattle.meaning.proofs.Faults.{sizes}
 use Rattle.meaning.proofs.Nesting.{sound-nested, nodes-many, node-stands}
 use Rattle.meaning.proofs.Decoding.{literal-at, variable-at}
-use Rattle.types.specs.Table.{Tab, denote, Means}
+use Rattle.types.specs.Table.{Tab, Means}
 use Rattle.types.proofs.Laws.{plain-number}
 use Rattle.frames.specs.Env.{Rows, framesOf, Looked}
 use Rattle.nodes.specs.Operands.{literalNumber}
@@ -121,17 +121,3 @@ module _ {bs : List ℕ} {nodes : ℕ} {fs : Rows} {top : ℕ} {t : Tab} {st : L
   lambda-done k z n =
       leaf-done function z (rw n record { below = omega (arith, r .wf .base); means = plain-number (r .wf) 7 (omega arith) })
       (rw (no-other (nodesOf bs) (λ j. exprAt (nodesOf bs) (d - 1) j) i (rw o at k)))
-
--- ---- these numbers are no refusals
-
-pub literal-few : {r : ℕ} (a : ℕ) → r ≡ literalNumber a → r < 65535
-unfolding literalNumber
-literal-few zero e = omega arith
-literal-few (suc zero) e = omega arith
-literal-few (suc (suc zero)) e = omega arith
-literal-few (suc (suc (suc zero))) e = omega arith
-literal-few (suc (suc (suc (suc zero)))) e = omega arith
-literal-few (suc (suc (suc (suc (suc a))))) e = omega arith
-
-pub variable-few : {bs : List ℕ} {nodes : ℕ} {fs : Rows} {top : ℕ} {t : Tab} {st : List ℕ} {sp i e x v : ℕ} → Ready bs nodes fs top t st sp i e → Looked fs top x v → v < 65535
-variable-few {t = t} r w = omega (arith, w .says t (r .wf) (r .fit) .below, r .wf .room, r .wf .most)

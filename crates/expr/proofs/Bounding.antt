@@ -1,32 +1,25 @@
--- The loop of `bounds`.
-use mathlib.Core.Path.{_≡_, refl, sym, ap, _∙_}
-use mathlib.Core.Bool.{Bool, true, false}
-use mathlib.Core.List.{List, [], _∷_, _++_, map}
-use Prim.Native.Nat.{ℕ, zero, suc, _+_, _-_, _≤_, _<_}
+-- The loop of `range`.
+use mathlib.Core.Path.{_≡_, refl, sym, _∙_}
+use mathlib.Core.List.{List}
+use Prim.Native.Nat.{ℕ, _-_, _≤_, _<_}
 use native.Mathlib.Omega.{arith}
-use lib.ListN.{length, getD}
-use Rattle.meaning.specs.Base.{if_then_else_}
-use Rattle.meaning.specs.Types.{Ty, unknown, range, plain}
-use Rattle.meaning.specs.Image.{Name, nodeCount, nodesOf, namesOf}
+use Rattle.meaning.specs.Types.{plain}
+use Rattle.meaning.specs.Image.{nodeCount, nodesOf, namesOf}
 use Rattle.meaning.specs.Decode.{exprAt, stopOf, past}
-use Rattle.meaning.specs.Frames.{Frames}
-use Rattle.meaning.specs.Operators.{Checked, ok, refused, _>>=_}
-use Rattle.meaning.specs.Rules.{check, listRule, dictRule, rangeRule, joined}
-use Rattle.meaning.proofs.Faults.{Sound}
-use Rattle.meaning.proofs.Decoding.{past-down, past-none}
-use Rattle.types.specs.Table.{Tab, Wf, denote, Grown, Made}
-use Rattle.types.proofs.Laws.{unknown-number, plain-number, grown-refl}
+use Rattle.meaning.specs.Operators.{Checked, _>>=_}
+use Rattle.meaning.specs.Rules.{check, rangeRule}
+use Rattle.types.specs.Table.{Tab, denote}
+use Rattle.types.proofs.Laws.{plain-number}
 use Rattle.frames.specs.Env.{Rows, framesOf}
-use Rattle.rules.specs.Outcome.{Decides}
-use Rattle.rules.specs.Leaves.{ListStep, DictStep, OfNumber, boundRule, Asks}
-use Rattle.rules.proofs.Outcomes.{was-ok}
+use Rattle.rules.specs.Leaves.{boundRule}
 use Rattle.rules.proofs.Calls.{range-next}
-use Rattle.nodes.specs.Giving.{Told, Given}
-use Rattle.expr.specs.Contract.{Ready, At, Row, Fine, Done, Values, checks}
-use Rattle.expr.proofs.Rows.{row-at, row-next, row-long, row-take, row-drop, past-past, ends-after}
-use Rattle.expr.proofs.Leaving.{fine-none, fine-then, fine-wider, fine-as, fine-up, ready-narrow, ready-then, same-frames}
-use Rattle.expr.proofs.Telling.{told-as, told-good, told-bind, told-ill, told-well, told-decides, checks-none, checks-down, one-value, two-values, done-made, done-as}
-use Rattle.expr.proofs.Looping.{Loop, loop-first, loop-fine, loop-room, loop-stop, loop-next, loop-asks, past-one, past-two, bind-ok}
+use Rattle.state.specs.Giving.{Told, Given}
+use Rattle.nodes.specs.Operands.{Judges, Ruled}
+use Rattle.expr.specs.Contract.{Ready, Row, Fine, Done, checks}
+use Rattle.expr.proofs.Rows.{few}
+use Rattle.expr.proofs.Leaving.{fine-up, fine-node}
+use Rattle.expr.proofs.Telling.{told-as, told-bind, told-ill, told-well, checks-none, checks-down, done-bind}
+use Rattle.expr.proofs.Looping.{Loop, loop-first, loop-fine, loop-stop, loop-next, past-one, one-fine}
 
 -- one more bound, or none
 pub record Bounding (bs : List ℕ) (nodes : ℕ) (fs : Rows) (top : ℕ) (t : Tab) (st : List ℕ) (sp at from n d : ℕ) (u : Tab) (su : List ℕ) (i left : ℕ) : Type 0 where
@@ -39,8 +32,8 @@ bounding-first h r w = record { loop = loop-first refl h r w }
 
 module _ {bs : List ℕ} {nodes : ℕ} {fs : Rows} {top : ℕ} {t : Tab} {st : List ℕ} {sp at from n d : ℕ} {u : Tab} {su : List ℕ} {i left : ℕ}
     (l : Bounding bs nodes fs top t st sp at from n d u su i left) (h : 0 < left) where
-  module _ {v : Tab} {sv : List ℕ} {code place a b : ℕ}
-      (w : Values (namesOf bs) (checks bs (framesOf u fs top) d 1 i) u v su sv sp 1 i (past (nodesOf bs) 1 i) (nodeCount bs) code place a b) where
+  module _ {v : Tab} {sv : List ℕ} {code place number a b : ℕ}
+      (w : Done (namesOf bs) (check (namesOf bs) (framesOf u fs top) (exprAt (nodesOf bs) d i)) u v su sv sp i (stopOf (nodesOf bs) i) (nodeCount bs) code place number a b) where
     rest : Checked
     rest = rangeRule at (checks bs (framesOf t fs top) d (left - 1) (stopOf (nodesOf bs) i))
 
@@ -51,39 +44,44 @@ module _ {bs : List ℕ} {nodes : ℕ} {fs : Rows} {top : ℕ} {t : Tab} {st : L
         l .loop .answer
         ∙ rw (checks-down bs (framesOf t fs top) d left i h, l .loop .same) (range-next at (checks bs (framesOf t fs top) d (left - 1) (stopOf (nodesOf bs) i)) _)
 
-    told : Told (namesOf bs) (rangeRule at (checks bs (framesOf t fs top) d n from)) (boundRule at (denote v (getD sv sp 0)) >>= λ x. rest) v (nodeCount bs) code place a b
-    told = told-as here (one-value bs (framesOf u fs top) d i w (omega (arith, loop-room (l .loop) 1 h)) (λ ty. boundRule at ty >>= λ x. rest))
+    told : Told (namesOf bs) (rangeRule at (checks bs (framesOf t fs top) d n from)) (boundRule at (denote v number) >>= λ x. rest) v (nodeCount bs) code place a b
+    told = told-as here (done-bind w (λ ty. boundRule at ty >>= λ x. rest))
 
-    pub bounding-refused : (number : ℕ) → (code ≡ 0 → ⊥)
+    stopped : Fine t v st sv sp from (past (nodesOf bs) n from) n
+    stopped = loop-stop (l .loop) 1 h (one-fine bs (w .fine))
+
+    pub bounding-refused : (code ≡ 0 → ⊥)
         → Done (namesOf bs) (rangeRule at (checks bs (framesOf t fs top) d n from)) t v st sv sp (from - 1) (past (nodesOf bs) n from) (nodeCount bs) code place number a b
-    bounding-refused number z = record {
+    bounding-refused z = record {
       told = told-ill _ z told;
       below = λ e. absurd (z e);
-      fine = fine-up (from - 1) (omega (arith, l .loop .start)) (loop-stop (l .loop) 1 h (w .fine));
+      fine = fine-up (from - 1) (omega (arith, l .loop .start)) stopped;
     }
 
-    next-known : code ≡ 0 → getD sv sp 0 < v.n
-    next-known z = let e : sp + 0 ≡ sp = omega arith in rw e at (w .known z 0 (omega arith))
+    -- its type is judged at the call's node
+    pub bounding-judges : code ≡ 0 → at < nodeCount bs → Judges v number at
+    bounding-judges z k = record { wf = w .fine .grown .wf; below = w .below z; node = few (l .loop .ready .sound) k }
 
-    module _ {c number x y : ℕ} (z : code ≡ 0) (o : OfNumber boundRule (getD sv sp 0) c number x y) where
-      judged : Decides (namesOf bs) v (boundRule at (denote v (getD sv sp 0))) c at number x y
-      judged = o .says (namesOf bs) v at (w .fine .grown .wf) (next-known z)
+    module _ {x : Tab} {code′ place′ number′ a′ b′ : ℕ} (z : code ≡ 0) (k : at < nodeCount bs)
+        (o : Ruled v x (boundRule at (denote v number)) at code′ place′ number′ a′ b′) where
+      judged : Given (namesOf bs) (boundRule at (denote v number)) v x 0 (nodeCount bs) code′ place′ number′ a′ b′
+      judged = o .says (namesOf bs) (nodeCount bs) k
 
       -- a wrong one ends it
-      pub bounding-wrong : (c ≡ 0 → ⊥) → at < nodeCount bs
-          → Done (namesOf bs) (rangeRule at (checks bs (framesOf t fs top) d n from)) t v st sv sp (from - 1) (past (nodesOf bs) n from) (nodeCount bs) c at number x y
-      bounding-wrong q k = record {
-        told = told-as (told .well z) (told-bind _ _ q (told-decides k judged));
+      pub bounding-wrong : (code′ ≡ 0 → ⊥)
+          → Done (namesOf bs) (rangeRule at (checks bs (framesOf t fs top) d n from)) t x st sv sp (from - 1) (past (nodesOf bs) n from) (nodeCount bs) code′ place′ number′ a′ b′
+      bounding-wrong q = record {
+        told = told-as (told .well z) (told-bind _ _ q (judged .told));
         below = λ e. absurd (q e);
-        fine = fine-up (from - 1) (omega (arith, l .loop .start)) (loop-stop (l .loop) 1 h (w .fine));
+        fine = fine-node {k = 0} (from - 1) (omega (arith, l .loop .start)) (omega arith) stopped (judged .grown) (judged .room) (judged .space);
       }
 
-      pub bounding-next : {j : ℕ} → c ≡ 0 → j ≡ stopOf (nodesOf bs) i → Bounding bs nodes fs top t st sp at from n d v sv j (left - 1)
+      pub bounding-next : {j : ℕ} → code′ ≡ 0 → x ≡ v → j ≡ stopOf (nodesOf bs) i → Bounding bs nodes fs top t st sp at from n d x sv j (left - 1)
       unfolding _>>=_ rest
-      bounding-next {j} q p = record {
+      bounding-next {j} q e p = record {
         loop =
-            rw p (loop-next (l .loop) 1 h (w .fine) (stopOf (nodesOf bs) i) (sym (past-one bs i))
-            (told .well z ∙ rw (judged .says ∙ was-ok (namesOf bs) v c at number x y q)));
+            rw (e, p) (loop-next (l .loop) 1 h (one-fine bs (w .fine)) (stopOf (nodesOf bs) i) (sym (past-one bs i))
+            (told .well z ∙ rw (judged .told .well q)));
       }
 
 pub bounding-end : {bs : List ℕ} {nodes : ℕ} {fs : Rows} {top : ℕ} {t : Tab} {st : List ℕ} {sp at from n d : ℕ} {u : Tab} {su : List ℕ} {i left : ℕ}

@@ -1,37 +1,33 @@
 -- Nodes: what is asked for their children, and what they give after them.
-use mathlib.Core.Path.{_≡_, refl, sym, ap, _∙_}
-use mathlib.Core.Bool.{Bool, true, false}
-use mathlib.Core.List.{List, [], _∷_, _++_, map}
-use Prim.Native.Nat.{ℕ, zero, suc, _+_, _-_, _≤_, _<_}
-use native.Mathlib.Numerals.{sub-one}
+use mathlib.Core.Path.{_≡_, refl, _∙_}
+use mathlib.Core.Logic.{_⊎_, ⊎-elim}
+use mathlib.Core.List.{List, [], map}
+use Prim.Native.Nat.{ℕ, zero, suc, _-_, _≤_, _<_}
 use native.Mathlib.Omega.{arith}
-use lib.ListN.{length, getD, take, drop}
-use Rattle.meaning.specs.Types.{Ty, unknown}
+use lib.ListN.{length, take, drop}
+use Rattle.meaning.specs.Types.{unknown}
 use Rattle.meaning.specs.Tree.{place}
-use Rattle.meaning.specs.Image.{Name, Node, nodeCount, nodesOf, nodesFrom, nodeOf, namesOf, nameOf, nameCount, argBelow}
+use Rattle.meaning.specs.Image.{Node, nodeCount, nodesOf, nodeOf, namesOf, nameOf, nameCount, argBelow}
 use Rattle.meaning.specs.Base.{choose, if_then_else_}
-use Rattle.meaning.specs.Decode.{exprAt, exprsFrom, formAt, stopOf, past}
+use Rattle.meaning.specs.Decode.{exprAt, formAt, stopOf, past}
 use Rattle.meaning.specs.Frames.{Frames}
-use Rattle.meaning.specs.Operators.{Checked, ok, _>>=_}
-use Rattle.meaning.specs.Rules.{check, checkForm, checkAll, each, listRule, dictRule, nameRule, rangeRule}
+use Rattle.meaning.specs.Operators.{Checked}
+use Rattle.meaning.specs.Rules.{checkForm, each, listRule, dictRule, nameRule}
 use Rattle.meaning.proofs.Faults.{Sound}
 use Rattle.meaning.proofs.Nesting.{sound-nested, nodes-many, node-stands}
-use Rattle.meaning.proofs.Decoding.{expr-at, list-at, dict-at, past-down}
-use Rattle.types.specs.Table.{Tab, Wf, denote, Grown, Made}
+use Rattle.meaning.proofs.Decoding.{list-at, dict-at}
+use Rattle.types.specs.Table.{Tab, denote}
 use Rattle.types.specs.Steps.{Listed}
-use Rattle.types.proofs.Laws.{grown-refl}
 use Rattle.frames.specs.Env.{Rows, framesOf}
-use Rattle.rules.specs.Outcome.{typesNamed, pieces, Decides}
-use Rattle.rules.specs.Builtins.{numberedRule}
-use Rattle.nodes.specs.Giving.{Told, Given}
+use Rattle.image.specs.declared.Cursor.{Cursor}
+use Rattle.state.specs.Giving.{Given}
 use Rattle.nodes.specs.Operands.{operandRule, Decidable}
-use Rattle.nodes.specs.Planning.{Planned, lookedAt, argumentRule, Argued}
 use Rattle.nodes.proofs.Operating.{decidable, operands-low, operands-attribute, operands-high, call-node}
-use Rattle.nodes.proofs.Calling.{call-other, call-name, numbered-looked, looked-le, numbered-range}
-use Rattle.expr.specs.Contract.{Ready, At, Inner, Row, Fine, Done, Values, checks, Operand, Enough}
-use Rattle.expr.proofs.Rows.{row-of, row-ends, row-at, row-next, row-take, row-long, past-past, ends-after, shallow}
-use Rattle.expr.proofs.Leaving.{fine-none, fine-wider, fine-as, fine-up, ready-narrow}
-use Rattle.expr.proofs.Telling.{told-as, told-good, told-ill, told-well, done-given, done-as, checks-many, checks-take}
+use Rattle.nodes.proofs.Calling.{call-other, call-name}
+use Rattle.expr.specs.Contract.{Ready, At, Inner, Row, Fine, Done, Values, checks, Operand}
+use Rattle.expr.proofs.Rows.{row-of, row-ends, row-at, row-long, shallow}
+use Rattle.expr.proofs.Leaving.{fine-up, ready-narrow}
+use Rattle.expr.proofs.Telling.{told-as, told-ill, done-given, done-as}
 
 -- ---- the children of node i
 
@@ -90,8 +86,8 @@ module _ {bs : List ℕ} {nodes : ℕ} {fs : Rows} {top : ℕ} {t : Tab} {st : L
         known = v .known z;
       }
 
-  pub operands-decidable : code ≡ 0 → Decidable bs nodes u su sp i node
-  operands-decidable z = decidable (r .sound) (r .nodes-at) (o .there) (o .read) (rw m at (listed z)) (v .fine .stack)
+  pub operands-decidable : {c : Cursor} → c .nodes ≡ nodes → c .at ≡ i → code ≡ 0 → Decidable bs c u su sp node
+  operands-decidable f g z = decidable (r .sound) (f ∙ r .nodes-at) (rw g (o .there)) (rw g (o .read)) (rw m at (listed z)) (v .fine .stack)
 
   pub operands-done : {x : Tab} {code′ place′ number a′ b′ : ℕ} → code ≡ 0
       → Given (namesOf bs) (operandRule (node .kind) (node .arg) i (suc i) (stopOf (nodesOf bs) (suc i)) (map (denote u) (take (node .children) (drop sp su)))) u x
@@ -101,7 +97,10 @@ module _ {bs : List ℕ} {nodes : ℕ} {fs : Rows} {top : ℕ} {t : Tab} {st : L
   operands-done z g =
       done-as (whole ∙ v .told _ [] .well z ∙ rw m) (done-given i (omega arith) operands-fine (node .children) (omega (arith, m)) g)
 
-own-place : (ds : List Node) (d j : ℕ) → place (exprAt ds d j) ≡ j
+pub not-binary : {k : ℕ} → ((k ≡ 22) ⊎ (k ≡ 25)) ⊎ ((28 ≤ k) × (k ≤ 31)) → k ≡ 23 → ⊥
+not-binary w z = ⊎-elim (λ u. ⊎-elim (λ e. absurd (omega arith)) (λ e. absurd (omega arith)) u) (λ u. absurd (omega (arith, u .0))) w
+
+pub own-place : (ds : List Node) (d j : ℕ) → place (exprAt ds d j) ≡ j
 unfolding place exprAt
 own-place ds zero j = refl
 own-place ds (suc d) j = refl
@@ -127,6 +126,11 @@ module _ {bs : List ℕ} {i d : ℕ} {node : Node} (s : Sound bs) (o : Inner bs 
   operand-high a b = record {
     rule = λ Γ. operands-high (sound-nested s) (namesOf bs) Γ (λ j. exprAt (nodesOf bs) d j) (own-place (nodesOf bs) d) i inside (rw (o .read) at a) (rw (o .read) at b);
   }
+
+  -- the kinds that go by `operands`
+  pub operand-any : ((node .kind ≡ 22) ⊎ (node .kind ≡ 25)) ⊎ ((28 ≤ node .kind) × (node .kind ≤ 31)) → Operand bs i d
+  operand-any k =
+      ⊎-elim (λ w. ⊎-elim (λ e. operand-low (omega arith) (omega arith)) (λ e. operand-attribute e) w) (λ w. operand-high (w .0) (w .1)) k
 
   -- ---- List and Dict
 

@@ -1,10 +1,11 @@
 -- What a walk leaves of the table and the stack, put together.
-use mathlib.Core.Path.{_≡_, refl, sym, ap, _∙_}
-use mathlib.Core.List.{List, [], _∷_}
-use Prim.Native.Nat.{ℕ, zero, suc, _+_, _-_, _≤_, _<_}
+use mathlib.Core.Path.{_≡_, refl, _∙_}
+use mathlib.Core.List.{List}
+use Prim.Native.Nat.{ℕ, _+_, _-_, _≤_, _<_}
 use native.Mathlib.Omega.{arith}
-use lib.ListN.{length, getD, set, length-set}
+use lib.ListN.{length, set, length-set}
 use lib.Seq.{getD-set-other}
+use Rattle.meaning.specs.Image.{nodesFrom}
 use Rattle.types.specs.Table.{Tab, Wf, Grown}
 use Rattle.types.proofs.Laws.{grown-refl, grown-trans}
 use Rattle.frames.specs.Env.{Rows, framesOf}
@@ -52,16 +53,6 @@ fine-set {su = su} k w h f = record {
   kept = λ j l. getD-set-other su k j w 0 (λ e. absurd (omega arith)) ∙ f .kept j l;
 }
 
--- and the stack without it
-pub fine-unset : {t u : Tab} {st su : List ℕ} {sp i j x : ℕ} (k w : ℕ) → sp ≤ k → length su ≡ 2048 → Fine t u st (set su k w) sp i j x → Fine t u st su sp i j x
-fine-unset {su = su} k w h l f = record {
-  grown = f .grown;
-  types-spent = f .types-spent;
-  elements-spent = f .elements-spent;
-  stack = l;
-  kept = λ j m. sym (getD-set-other su k j w 0 (λ e. absurd (omega arith))) ∙ f .kept j m;
-}
-
 -- a node before them takes a type and as many elements as they were
 pub fine-node : {t u v : Tab} {st su : List ℕ} {sp j e n k : ℕ} (i : ℕ) → i < j → k ≤ n → Fine t u st su sp j e n → Grown u v → v.n ≤ u.n + 1
     → v.m ≤ u.m + k → Fine t v st su sp i e 1
@@ -89,6 +80,20 @@ ready-narrow j f h l r = record {
   types-room = omega (arith, r .types-room);
   elements-room = omega (arith, r .elements-room);
   stack-room = omega (arith, r .stack-room);
+}
+
+-- a cursor that has moved
+pub ready-moved : {bs : List ℕ} {nodes m : ℕ} {fs : Rows} {top : ℕ} {t : Tab} {st : List ℕ} {sp i e : ℕ} → m ≡ nodesFrom bs
+    → Ready bs nodes fs top t st sp i e → Ready bs m fs top t st sp i e
+ready-moved e r = record {
+  sound = r .sound;
+  nodes-at = e;
+  wf = r .wf;
+  fit = r .fit;
+  stack = r .stack;
+  types-room = r .types-room;
+  elements-room = r .elements-room;
+  stack-room = r .stack-room;
 }
 
 pub ready-then : {bs : List ℕ} {nodes : ℕ} {fs : Rows} {top : ℕ} {t u : Tab} {st su : List ℕ} {sp i j e x sq : ℕ}

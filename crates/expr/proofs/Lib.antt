@@ -7,7 +7,7 @@ mod Listing
 mod Pairing
 mod Bounding
 mod Calling
-mod Binary
+mod Operation
 mod Arguing
 mod Streaming
 mod Arms

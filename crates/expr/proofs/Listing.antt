@@ -1,32 +1,24 @@
 -- The loop of `list`.
 use mathlib.Core.Path.{_≡_, refl, sym, ap, _∙_}
 use mathlib.Core.Bool.{Bool, true, false}
-use mathlib.Core.List.{List, [], _∷_, _++_, map}
-use Prim.Native.Nat.{ℕ, zero, suc, _+_, _-_, _≤_, _<_}
+use mathlib.Core.List.{List, _∷_}
+use Prim.Native.Nat.{ℕ, _-_, _≤_, _<_}
 use native.Mathlib.Omega.{arith}
-use lib.ListN.{length, getD}
 use Rattle.meaning.specs.Base.{if_then_else_}
-use Rattle.meaning.specs.Types.{Ty, unknown, list, dict, range}
-use Rattle.meaning.specs.Image.{Name, nodeCount, nodesOf, namesOf}
+use Rattle.meaning.specs.Types.{Ty, unknown, list}
+use Rattle.meaning.specs.Image.{nodesOf, namesOf}
 use Rattle.meaning.specs.Decode.{exprAt, stopOf, past}
-use Rattle.meaning.specs.Frames.{Frames}
-use Rattle.meaning.specs.Operators.{Checked, ok, refused, _>>=_}
-use Rattle.meaning.specs.Rules.{check, listRule, dictRule, rangeRule, joined}
-use Rattle.meaning.proofs.Faults.{Sound}
-use Rattle.meaning.proofs.Decoding.{past-down, past-none}
-use Rattle.types.specs.Table.{Tab, Wf, denote, Grown, Made}
-use Rattle.types.proofs.Laws.{unknown-number, plain-number, grown-refl}
+use Rattle.meaning.specs.Operators.{Checked, ok, _>>=_}
+use Rattle.meaning.specs.Rules.{check, listRule}
+use Rattle.types.specs.Table.{Tab, denote, Made}
+use Rattle.types.proofs.Laws.{unknown-number}
 use Rattle.frames.specs.Env.{Rows, framesOf}
-use Rattle.rules.specs.Outcome.{Decides}
-use Rattle.rules.specs.Leaves.{ListStep, DictStep, OfNumber, boundRule, Asks}
-use Rattle.rules.proofs.Outcomes.{was-ok}
-use Rattle.rules.proofs.Calls.{range-next}
-use Rattle.nodes.specs.Giving.{Told, Given}
-use Rattle.expr.specs.Contract.{Ready, At, Row, Fine, Done, Values, checks}
-use Rattle.expr.proofs.Rows.{row-at, row-next, row-long, row-take, row-drop, past-past, ends-after}
-use Rattle.expr.proofs.Leaving.{fine-none, fine-then, fine-wider, fine-as, fine-up, ready-narrow, ready-then, same-frames}
-use Rattle.expr.proofs.Telling.{told-as, told-good, told-bind, told-ill, told-well, told-decides, checks-none, checks-down, one-value, two-values, done-made, done-as}
-use Rattle.expr.proofs.Looping.{Loop, loop-first, loop-fine, loop-room, loop-stop, loop-next, loop-asks, past-one, past-two, bind-ok}
+use Rattle.rules.specs.Leaves.{ListStep, Asks}
+use Rattle.state.specs.Giving.{Told}
+use Rattle.expr.specs.Contract.{Ready, Row, Done, checks}
+use Rattle.expr.proofs.Leaving.{fine-up}
+use Rattle.expr.proofs.Telling.{told-as, told-ill, checks-none, checks-down, done-bind, done-made, done-as}
+use Rattle.expr.proofs.Looping.{Loop, loop-first, loop-fine, loop-stop, loop-next, loop-asks, past-one, one-fine, bind-ok}
 
 -- `element` is the element type so far
 pub record Listing (bs : List ℕ) (nodes : ℕ) (fs : Rows) (top : ℕ) (t : Tab) (st : List ℕ) (sp from n d : ℕ) (u : Tab) (su : List ℕ) (i left element : ℕ) : Type 0 where
@@ -43,8 +35,8 @@ listing-first {bs} {fs = fs} {top} {t} {from = from} {n} {d} h r w = record {
 
 module _ {bs : List ℕ} {nodes : ℕ} {fs : Rows} {top : ℕ} {t : Tab} {st : List ℕ} {sp from n d : ℕ} {u : Tab} {su : List ℕ} {i left element : ℕ}
     (l : Listing bs nodes fs top t st sp from n d u su i left element) (h : 0 < left) where
-  module _ {v : Tab} {sv : List ℕ} {M code place a b : ℕ}
-      (w : Values (namesOf bs) (checks bs (framesOf u fs top) d 1 i) u v su sv sp 1 i (past (nodesOf bs) 1 i) M code place a b) where
+  module _ {v : Tab} {sv : List ℕ} {M code place number a b : ℕ}
+      (w : Done (namesOf bs) (check (namesOf bs) (framesOf u fs top) (exprAt (nodesOf bs) d i)) u v su sv sp i (stopOf (nodesOf bs) i) M code place number a b) where
     -- what the rule does with the type of the next element
     step : Ty → Checked
     step ty = listRule (denote u element) ((i, ok ty) ∷ checks bs (framesOf t fs top) d (left - 1) (stopOf (nodesOf bs) i))
@@ -53,45 +45,42 @@ module _ {bs : List ℕ} {nodes : ℕ} {fs : Rows} {top : ℕ} {t : Tab} {st : L
     unfolding step listRule
     here = l .loop .answer ∙ rw (checks-down bs (framesOf t fs top) d left i h, l .loop .same) (bind-ok _ _)
 
-    told : Told (namesOf bs) (listRule unknown (checks bs (framesOf t fs top) d n from)) (step (denote v (getD sv sp 0))) v M code place a b
-    told = told-as here (one-value bs (framesOf u fs top) d i w (omega (arith, loop-room (l .loop) 1 h)) step)
+    told : Told (namesOf bs) (listRule unknown (checks bs (framesOf t fs top) d n from)) (step (denote v number)) v M code place a b
+    told = told-as here (done-bind w step)
 
-    pub listing-refused : (number : ℕ) → (code ≡ 0 → ⊥)
+    pub listing-refused : (code ≡ 0 → ⊥)
         → Done (namesOf bs) (listRule unknown (checks bs (framesOf t fs top) d n from)) t v st sv sp (from - 1) (past (nodesOf bs) n from) M code place number a b
-    listing-refused number z = record {
+    listing-refused z = record {
       told = told-ill _ z told;
       below = λ e. absurd (z e);
-      fine = fine-up (from - 1) (omega (arith, l .loop .start)) (loop-stop (l .loop) 1 h (w .fine));
+      fine = fine-up (from - 1) (omega (arith, l .loop .start)) (loop-stop (l .loop) 1 h (one-fine bs (w .fine)));
     }
 
-    next-known : code ≡ 0 → getD sv sp 0 < v.n
-    next-known z = let e : sp + 0 ≡ sp = omega arith in rw e at (w .known z 0 (omega arith))
-
-    turned : {stop : Bool} {number : ℕ} → code ≡ 0 → ListStep element (getD sv sp 0) stop number
+    turned : {stop : Bool} {next : ℕ} → code ≡ 0 → ListStep element number stop next
         → listRule unknown (checks bs (framesOf t fs top) d n from)
-        ≡ (if stop then ok (list (denote v number)) else listRule (denote v number) (checks bs (framesOf t fs top) d (left - 1) (stopOf (nodesOf bs) i)))
+        ≡ (if stop then ok (list (denote v next)) else listRule (denote v next) (checks bs (framesOf t fs top) d (left - 1) (stopOf (nodesOf bs) i)))
     unfolding step
     turned z s =
         told .well z
-        ∙ ap (λ a. listRule a ((i, ok (denote v (getD sv sp 0))) ∷ checks bs (framesOf t fs top) d (left - 1) (stopOf (nodesOf bs) i))) (sym (w .fine .grown .same element (l .known)))
-        ∙ s .says v _ _ (w .fine .grown .wf) (omega (arith, l .known, w .fine .grown .more)) (next-known z) refl
+        ∙ ap (λ a. listRule a ((i, ok (denote v number)) ∷ checks bs (framesOf t fs top) d (left - 1) (stopOf (nodesOf bs) i))) (sym (w .fine .grown .same element (l .known)))
+        ∙ s .says v _ _ (w .fine .grown .wf) (omega (arith, l .known, w .fine .grown .more)) (w .below z) refl
 
-    pub listing-asks : {stop : Bool} {number : ℕ} → code ≡ 0 → ListStep element (getD sv sp 0) stop number → Asks v number
-    listing-asks z s = loop-asks (l .loop) (loop-stop (l .loop) 1 h (w .fine)) (s .below v (w .fine .grown .wf) (next-known z))
+    pub listing-asks : {stop : Bool} {next : ℕ} → code ≡ 0 → ListStep element number stop next → Asks v next
+    listing-asks z s = loop-asks (l .loop) (loop-stop (l .loop) 1 h (one-fine bs (w .fine))) (s .below v (w .fine .grown .wf) (w .below z))
 
-    pub listing-stop : {stop : Bool} {number r : ℕ} {x : Tab} {place′ a′ b′ : ℕ} {code′ : ℕ} → code ≡ 0 → ListStep element (getD sv sp 0) stop number → stop ≡ true
-        → code′ ≡ 0 → Made v x r (list (denote v number)) 0
+    pub listing-stop : {stop : Bool} {next r : ℕ} {x : Tab} {place′ a′ b′ : ℕ} {code′ : ℕ} → code ≡ 0 → ListStep element number stop next → stop ≡ true
+        → code′ ≡ 0 → Made v x r (list (denote v next)) 0
         → Done (namesOf bs) (listRule unknown (checks bs (framesOf t fs top) d n from)) t x st sv sp (from - 1) (past (nodesOf bs) n from) M code′ place′ r a′ b′
     unfolding if_then_else_
     listing-stop z s e c m =
-        done-as (turned z s ∙ rw e) (done-made (from - 1) (omega (arith, l .loop .start)) (loop-stop (l .loop) 1 h (w .fine)) c m)
+        done-as (turned z s ∙ rw e) (done-made (from - 1) (omega (arith, l .loop .start)) (loop-stop (l .loop) 1 h (one-fine bs (w .fine))) c m)
 
-    pub listing-next : {stop : Bool} {number j : ℕ} → code ≡ 0 → ListStep element (getD sv sp 0) stop number → stop ≡ false → j ≡ stopOf (nodesOf bs) i
-        → Listing bs nodes fs top t st sp from n d v sv j (left - 1) number
+    pub listing-next : {stop : Bool} {next j : ℕ} → code ≡ 0 → ListStep element number stop next → stop ≡ false → j ≡ stopOf (nodesOf bs) i
+        → Listing bs nodes fs top t st sp from n d v sv j (left - 1) next
     unfolding if_then_else_
-    listing-next {stop} {number} {j} z s e p = record {
-      loop = rw p (loop-next (l .loop) 1 h (w .fine) (stopOf (nodesOf bs) i) (sym (past-one bs i)) (turned z s ∙ rw e));
-      known = s .below v (w .fine .grown .wf) (next-known z);
+    listing-next {stop} {next} {j} z s e p = record {
+      loop = rw p (loop-next (l .loop) 1 h (one-fine bs (w .fine)) (stopOf (nodesOf bs) i) (sym (past-one bs i)) (turned z s ∙ rw e));
+      known = s .below v (w .fine .grown .wf) (w .below z);
     }
 
 pub listing-end : {bs : List ℕ} {nodes : ℕ} {fs : Rows} {top : ℕ} {t : Tab} {st : List ℕ} {sp from n d : ℕ} {u : Tab} {su : List ℕ} {i left element : ℕ}

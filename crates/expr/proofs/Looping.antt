@@ -1,31 +1,19 @@
 -- Loops over a row of children that check m of them at a time: List, Dict and range.
-use mathlib.Core.Path.{_≡_, refl, sym, ap, _∙_}
-use mathlib.Core.Bool.{Bool, true, false}
-use mathlib.Core.List.{List, [], _∷_, _++_, map}
-use Prim.Native.Nat.{ℕ, zero, suc, _+_, _-_, _≤_, _<_}
+use mathlib.Core.Path.{_≡_, refl, _∙_}
+use mathlib.Core.List.{List}
+use Prim.Native.Nat.{ℕ, _+_, _-_, _≤_, _<_}
 use native.Mathlib.Omega.{arith}
-use lib.ListN.{length, getD}
-use Rattle.meaning.specs.Base.{if_then_else_}
-use Rattle.meaning.specs.Types.{Ty, unknown, list, dict, range}
-use Rattle.meaning.specs.Image.{Name, nodeCount, nodesOf, namesOf}
-use Rattle.meaning.specs.Decode.{exprAt, stopOf, past}
-use Rattle.meaning.specs.Frames.{Frames}
+use Rattle.meaning.specs.Types.{Ty}
+use Rattle.meaning.specs.Image.{nodesOf}
+use Rattle.meaning.specs.Decode.{stopOf, past}
 use Rattle.meaning.specs.Operators.{Checked, ok, refused, _>>=_}
-use Rattle.meaning.specs.Rules.{check, listRule, dictRule, rangeRule, joined}
 use Rattle.meaning.proofs.Faults.{Sound}
-use Rattle.meaning.proofs.Decoding.{past-down, past-none}
-use Rattle.types.specs.Table.{Tab, capacity, Wf, denote, Grown, Made}
-use Rattle.types.proofs.Laws.{unknown-number, plain-number, grown-refl}
+use Rattle.types.specs.Table.{Tab, capacity}
 use Rattle.frames.specs.Env.{Rows, framesOf}
-use Rattle.rules.specs.Outcome.{Decides}
-use Rattle.rules.specs.Leaves.{ListStep, DictStep, OfNumber, boundRule, Asks}
-use Rattle.rules.proofs.Outcomes.{was-ok}
-use Rattle.rules.proofs.Calls.{range-next}
-use Rattle.nodes.specs.Giving.{Told, Given}
-use Rattle.expr.specs.Contract.{Ready, At, Row, Fine, Done, Values, checks}
-use Rattle.expr.proofs.Rows.{row-at, row-next, row-long, row-take, row-drop, past-past, ends-after}
-use Rattle.expr.proofs.Leaving.{fine-none, fine-then, fine-wider, fine-as, fine-up, ready-narrow, ready-then, same-frames}
-use Rattle.expr.proofs.Telling.{told-as, told-good, told-bind, told-ill, told-well, told-decides, checks-none, checks-down, one-value, two-values, done-made, done-as}
+use Rattle.rules.specs.Leaves.{Asks}
+use Rattle.expr.specs.Contract.{Ready, At, Row, Fine}
+use Rattle.expr.proofs.Rows.{row-at, row-long, row-take, row-drop, past-past}
+use Rattle.expr.proofs.Leaving.{fine-none, fine-then, fine-wider, fine-as, ready-narrow, ready-then, same-frames}
 
 -- `left` of n children from `from` on are left, from node i on; what all of them give, `whole`, is what is given from here on
 pub record Loop (bs : List ℕ) (nodes : ℕ) (fs : Rows) (top : ℕ) (t : Tab) (st : List ℕ) (sp from n d : ℕ) (whole rest : Checked) (u : Tab) (su : List ℕ) (i left : ℕ) : Type 0 where
@@ -78,9 +66,6 @@ module _ {bs : List ℕ} {nodes : ℕ} {fs : Rows} {top : ℕ} {t : Tab} {st : L
     pub loop-row : Row bs i m d
     loop-row = row-take sound left m h (l .row)
 
-    pub loop-room : sp + m ≤ 2048
-    loop-room = omega (arith, l .ready .stack-room, row-long sound m loop-row, long)
-
     module _ {v : Tab} {sv : List ℕ} (f : Fine u v su sv sp i (past (nodesOf bs) m i) m) where
       passed : Fine t v st sv sp from (past (nodesOf bs) m i) (n - (left - m))
       passed = fine-as (omega (arith, l .few)) (fine-then (l .fine) f (omega arith))
@@ -102,6 +87,16 @@ module _ {bs : List ℕ} {nodes : ℕ} {fs : Rows} {top : ℕ} {t : Tab} {st : L
         spare = l .spare;
       }
 
+-- the next child
+module _ {bs : List ℕ} {nodes : ℕ} {fs : Rows} {top : ℕ} {t : Tab} {st : List ℕ} {sp from n d : ℕ} {whole rest : Checked} {u : Tab} {su : List ℕ} {i left : ℕ}
+    (l : Loop bs nodes fs top t st sp from n d whole rest u su i left) (h : 0 < left) where
+  pub loop-at : At bs i d
+  loop-at = row-at (l .ready .sound) left h (l .row)
+
+  pub loop-child : Ready bs nodes fs top u su sp i (stopOf (nodesOf bs) i)
+  unfolding past
+  loop-child = loop-ready l 1 h
+
 -- after all of them there is room for one type more
 pub loop-asks : {bs : List ℕ} {nodes : ℕ} {fs : Rows} {top : ℕ} {t : Tab} {st : List ℕ} {sp from n d : ℕ} {whole rest : Checked} {u : Tab} {su : List ℕ} {i left : ℕ}
     {v : Tab} {sv : List ℕ} {element : ℕ} → Loop bs nodes fs top t st sp from n d whole rest u su i left
@@ -120,3 +115,7 @@ past-one bs i = refl
 pub past-two : (bs : List ℕ) (i : ℕ) → past (nodesOf bs) 2 i ≡ stopOf (nodesOf bs) (stopOf (nodesOf bs) i)
 unfolding past
 past-two bs i = refl
+
+pub one-fine : (bs : List ℕ) {u v : Tab} {su sv : List ℕ} {sp i : ℕ} → Fine u v su sv sp i (stopOf (nodesOf bs) i) 1 → Fine u v su sv sp i (past (nodesOf bs) 1 i) 1
+unfolding past
+one-fine bs f = f

@@ -1,15 +1,14 @@
 -- Rows of children: where each lies, that it may be as deep as is left, and where they end.
-use mathlib.Core.Path.{_≡_, refl, sym, ap, _∙_}
-use mathlib.Core.List.{List, [], _∷_}
+use mathlib.Core.Path.{_≡_, ap, _∙_}
+use mathlib.Core.List.{List}
 use Prim.Native.Nat.{ℕ, zero, suc, _+_, _-_, _≤_, _<_}
 use native.Mathlib.Numerals.{sub-one}
 use native.Mathlib.Omega.{arith}
 use lib.ListN.{length}
-use Rattle.meaning.specs.Image.{Node, nodeCount, nodesOf, nodeOf, depth, nameCount}
+use Rattle.meaning.specs.Image.{Node, nodeCount, nodesOf, nodeOf}
 use Rattle.meaning.specs.Decode.{stopOf, past}
 use Rattle.meaning.proofs.Faults.{Sound, sizes}
-use Rattle.meaning.proofs.Nesting.{Nested, sound-nested, nodes-many, Children, Child, child, children-le, children-past, children, node-stands, deeper}
-use Rattle.meaning.proofs.Decoding.{past-down}
+use Rattle.meaning.proofs.Nesting.{sound-nested, nodes-many, Child, child, children-past, children, node-stands, deeper}
 use Rattle.expr.specs.Contract.{At, Inner, Row}
 
 module _ {bs : List ℕ} (s : Sound bs) where

@@ -1,26 +1,23 @@
 -- Refusals and types, handed on; and the checks of a row of children.
 use mathlib.Core.Path.{_≡_, refl, sym, ap, _∙_}
-use mathlib.Core.List.{List, [], _∷_, _++_, map}
-use Prim.Native.Nat.{ℕ, zero, suc, _+_, _-_, _≤_, _<_}
+use mathlib.Core.List.{List, [], _∷_}
+use Prim.Native.Nat.{ℕ, zero, suc, _-_, _≤_, _<_}
 use native.Mathlib.Numerals.{sub-one}
 use native.Mathlib.Omega.{arith}
-use lib.ListN.{length, getD, take, drop}
-use lib.Seq.{drop-cons}
-use Rattle.meaning.specs.Types.{Ty, unknown}
+use lib.ListN.{length, take}
+use Rattle.meaning.specs.Types.{Ty}
 use Rattle.meaning.specs.Tree.{place}
 use Rattle.meaning.specs.Image.{Name, nodesOf, namesOf}
-use Rattle.meaning.specs.Decode.{exprAt, exprsFrom, stopOf, past}
+use Rattle.meaning.specs.Decode.{exprAt, exprsFrom, stopOf}
 use Rattle.meaning.specs.Frames.{Frames}
-use Rattle.meaning.specs.Operators.{Checked, ok, refused, _>>=_}
-use Rattle.meaning.specs.Rules.{Children, each, check, checkAll}
+use Rattle.meaning.specs.Operators.{Checked, ok, _>>=_}
+use Rattle.meaning.specs.Rules.{child, check, checkAll}
 use Rattle.types.specs.Table.{Tab, denote, Made}
-use Rattle.types.proofs.Laws.{grown-refl}
-use Rattle.rules.specs.Outcome.{typesNamed, Decides}
-use Rattle.rules.proofs.Outcomes.{names-none, was-ok, was-refused}
-use Rattle.nodes.specs.Giving.{Told, Given}
-use Rattle.nodes.specs.Notes.{placeIn, firstIn, secondIn, tabIn, verdict, Answered}
-use Rattle.nodes.proofs.Noting.{answered-types, answered-elements, answered-number, told-answered}
-use Rattle.expr.specs.Contract.{Fine, Done, Values, checks}
+use Rattle.rules.proofs.Outcomes.{names-none}
+use Rattle.state.specs.Giving.{Told, Given}
+use Rattle.state.specs.Notes.{codeIn, placeIn, firstIn, secondIn, tabIn, Refused}
+use Rattle.state.proofs.Noting.{told-refused}
+use Rattle.expr.specs.Contract.{Fine, Done, checks}
 use Rattle.expr.proofs.Leaving.{fine-node}
 
 module _ {ws : List Name} {u : Tab} {M code place a b : ℕ} where
@@ -28,16 +25,6 @@ module _ {ws : List Name} {u : Tab} {M code place a b : ℕ} where
   told-as e t = record {
     well = λ z. e ∙ t .well z;
     ill = λ z. e ∙ t .ill z;
-    first = t .first;
-    second = t .second;
-    small = t .small;
-    placed = t .placed;
-  }
-
-  pub told-good : {r g h : Checked} → g ≡ h → Told ws r g u M code place a b → Told ws r h u M code place a b
-  told-good e t = record {
-    well = λ z. t .well z ∙ e;
-    ill = t .ill;
     first = t .first;
     second = t .second;
     small = t .small;
@@ -78,16 +65,6 @@ module _ {ws : List Name} {u : Tab} {M code place a b : ℕ} where
     placed = λ w. absurd (w z);
   }
 
-  pub told-decides : {r : Checked} {number : ℕ} → place < M → Decides ws u r code place number a b → Told ws r (ok (denote u number)) u M code place a b
-  told-decides {r} {number} h d = record {
-    well = λ z. d .says ∙ was-ok ws u code place number a b z;
-    ill = λ z. d .says ∙ was-refused ws u code place number a b z;
-    first = d .first;
-    second = d .second;
-    small = d .small;
-    placed = λ z. h;
-  }
-
 -- ---- what a node gives after its children
 
 module _ {ws : List Name} {t u v : Tab} {st su : List ℕ} {sp j e n M code place number a b : ℕ} (i : ℕ) (h : i < j) (f : Fine t u st su sp j e n) where
@@ -110,20 +87,28 @@ pub done-as : {ws : List Name} {r s : Checked} {t u : Tab} {st su : List ℕ} {s
     → Done ws r t u st su sp i e M code place number a b → Done ws s t u st su sp i e M code place number a b
 done-as e d = record { told = told-as e (d .told); below = d .below; fine = d .fine }
 
--- ---- a decision is noted
+-- a child that was checked, and what follows
+module _ {ws : List Name} {r : Checked} {t u : Tab} {st su : List ℕ} {sp i e M code place number a b : ℕ} (d : Done ws r t u st su sp i e M code place number a b) where
+  pub done-bind : (k : Ty → Checked) → Told ws (r >>= k) (k (denote u number)) u M code place a b
+  unfolding _>>=_
+  done-bind k = record {
+    well = λ z. rw (d .told .well z);
+    ill = λ z. rw (d .told .ill z);
+    first = d .told .first;
+    second = d .told .second;
+    small = d .told .small;
+    placed = d .told .placed;
+  }
 
-pub done-small : {ws : List Name} {r : Checked} {t u : Tab} {st su : List ℕ} {sp i e M code place number a b : ℕ}
-    → Done ws r t u st su sp i e M code place number a b → code ≡ 0 → number < 65535
-done-small d z = omega (arith, d .below z, d .fine .grown .wf .room, d .fine .grown .wf .most)
-
-pub done-answered : {ws : List Name} {r : Checked} {t : Tab} {cells ns ms : List ℕ} {st su : List ℕ} {sp i e M code place number a b q : ℕ} → M ≤ 4294967296
-    → Done ws r t (tabIn cells ns) st su sp i e M code place number a b → Answered ns ms q code place number a b
-    → Done ws r t (tabIn cells ms) st su sp i e M (verdict q ms) (placeIn ms) q (firstIn ms) (secondIn ms)
-done-answered l d f =
+-- a refusal is noted
+pub done-refused : {ws : List Name} {r : Checked} {t : Tab} {cells ns ms : List ℕ} {st su : List ℕ} {sp i e M code place number a b : ℕ} → M ≤ 4294967296 → (code ≡ 0 → ⊥)
+    → Done ws r t (tabIn cells ns) st su sp i e M code place number a b → Refused ns ms code place a b
+    → Done ws r t (tabIn cells ms) st su sp i e M (codeIn ms) (placeIn ms) 0 (firstIn ms) (secondIn ms)
+done-refused {cells = cells} {ns} l z d f =
     let w = d .fine .grown .wf in
-    rw (answered-types f, answered-elements f) record {
-      told = told-answered f w (λ z. omega (arith, d .told .placed z)) (d .below) (d .told);
-      below = answered-number f (d .below) (omega (arith, w .room, w .most));
+    rw (f .types-kept, f .elements-kept) record {
+      told = told-refused (ok (denote (tabIn cells ns) 0)) z w (omega (arith, d .told .placed z)) (d .told) f;
+      below = λ e. absurd (z (sym (f .coded) ∙ e));
       fine = d .fine;
     }
 
@@ -159,40 +144,12 @@ module _ (bs : List ℕ) (Γ : Frames) (d : ℕ) where
   checks-take (suc m) (suc n) i h =
       ap (take (suc m)) (checks-suc n i) ∙ ap (_∷_ (i, check (namesOf bs) Γ (exprAt (nodesOf bs) d i))) (checks-take m n (stopOf (nodesOf bs) i) (omega arith)) ∙ sym (checks-suc m i)
 
-  -- the first one's check comes before what follows
-  pub each-one : (i : ℕ) (k : Ty → Checked)
-      → each (checks bs Γ d 1 i) (λ ts. k (getD ts 0 unknown)) [] ≡ (check (namesOf bs) Γ (exprAt (nodesOf bs) d i) >>= k)
-  unfolding each
-  each-one i k = rw (checks-suc 0 i, checks-none (stopOf (nodesOf bs) i))
+  -- the first, and the second
+  pub checks-first : (n i : ℕ) → 0 < n → child 0 (checks bs Γ d n i) ≡ (i, check (namesOf bs) Γ (exprAt (nodesOf bs) d i))
+  unfolding child
+  checks-first n i h = rw (checks-down n i h)
 
-  pub each-two : (i : ℕ) (k : Ty → Ty → Checked)
-      → each (checks bs Γ d 2 i) (λ ts. k (getD ts 0 unknown) (getD ts 1 unknown)) []
-      ≡ (check (namesOf bs) Γ (exprAt (nodesOf bs) d i) >>= λ a. check (namesOf bs) Γ (exprAt (nodesOf bs) d (stopOf (nodesOf bs) i)) >>= λ b. k a b)
-  unfolding each
-  each-two i k = rw (checks-suc 1 i, checks-suc 0 (stopOf (nodesOf bs) i), checks-none (stopOf (nodesOf bs) (stopOf (nodesOf bs) i)))
-
--- ---- the types that stand on the stack
-
-pub on-stack : (f : ℕ → Ty) (su : List ℕ) (sp n : ℕ) → sp < length su → getD (map f (take (suc n) (drop sp su))) 0 unknown ≡ f (getD su sp 0)
-on-stack f su sp n h = rw (drop-cons su sp 0 h)
-
-pub next-stack : (f : ℕ → Ty) (su : List ℕ) (sp n : ℕ) → sp + 1 < length su → getD (map f (take (suc (suc n)) (drop sp su))) 1 unknown ≡ f (getD su (sp + 1) 0)
-next-stack f su sp n h =
-    let e : sp + 1 ≡ suc sp = omega arith in rw (e, drop-cons su sp 0 (omega arith), drop-cons su (suc sp) 0 (omega arith))
-
-module _ (bs : List ℕ) (Γ : Frames) (d i : ℕ) {t u : Tab} {st su : List ℕ} {sp e M code place a b : ℕ} where
-  pub one-value : Values (namesOf bs) (checks bs Γ d 1 i) t u st su sp 1 i e M code place a b → sp < 2048 → (k : Ty → Checked)
-      → Told (namesOf bs) (check (namesOf bs) Γ (exprAt (nodesOf bs) d i) >>= k) (k (denote u (getD su sp 0))) u M code place a b
-  one-value v h k =
-      told-as (sym (each-one bs Γ d i k))
-      (told-good (ap k (on-stack (denote u) su sp 0 (rw (v .fine .stack) h))) (v .told (λ ts. k (getD ts 0 unknown)) []))
-
-  pub two-values : Values (namesOf bs) (checks bs Γ d 2 i) t u st su sp 2 i e M code place a b → sp + 1 < 2048 → (k : Ty → Ty → Checked)
-      → Told (namesOf bs)
-      (check (namesOf bs) Γ (exprAt (nodesOf bs) d i) >>= λ a. check (namesOf bs) Γ (exprAt (nodesOf bs) d (stopOf (nodesOf bs) i)) >>= λ b. k a b)
-      (k (denote u (getD su sp 0)) (denote u (getD su (sp + 1) 0))) u M code place a b
-  two-values v h k =
-      told-as (sym (each-two bs Γ d i k))
-      (told-good
-      (rw (on-stack (denote u) su sp 1 (rw (v .fine .stack) (omega arith)), next-stack (denote u) su sp 0 (rw (v .fine .stack) h)))
-      (v .told (λ ts. k (getD ts 0 unknown) (getD ts 1 unknown)) []))
+  pub checks-second : (n i : ℕ) → 1 < n
+      → child 1 (checks bs Γ d n i) ≡ (stopOf (nodesOf bs) i, check (namesOf bs) Γ (exprAt (nodesOf bs) d (stopOf (nodesOf bs) i)))
+  unfolding child
+  checks-second n i h = rw (checks-down n i (omega arith), checks-down (n - 1) (stopOf (nodesOf bs) i) (omega arith))

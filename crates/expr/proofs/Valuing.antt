@@ -1,28 +1,25 @@
 -- The loop of `values`: one expression after the other, its type's number pushed on the stack.
 use mathlib.Core.Path.{_≡_, refl, sym, ap, _∙_}
 use mathlib.Core.List.{List, [], _∷_, _++_, map, append-assoc, append-nil}
-use Prim.Native.Nat.{ℕ, zero, suc, _+_, _-_, _≤_, _<_}
-use native.Mathlib.Nat.{add-zero}
+use Prim.Native.Nat.{ℕ, suc, _+_, _-_, _≤_, _<_}
 use native.Mathlib.Omega.{arith}
 use native.Mathlib.Decide.{decLt}
 use lib.ListN.{length, getD, take, drop, set, length-set, length-drop}
 use lib.Seq.{getD-set-same, getD-set-other, take-suc, getD-drop}
 use Rattle.meaning.specs.Types.{Ty}
-use Rattle.meaning.specs.Image.{Name, nodeCount, nodesOf, namesOf}
+use Rattle.meaning.specs.Image.{nodesOf, namesOf}
 use Rattle.meaning.specs.Decode.{exprAt, stopOf, past}
-use Rattle.meaning.specs.Frames.{Frames}
-use Rattle.meaning.specs.Operators.{Checked, ok, _>>=_}
+use Rattle.meaning.specs.Operators.{Checked, _>>=_}
 use Rattle.meaning.specs.Rules.{each, check}
 use Rattle.meaning.proofs.Faults.{Sound}
 use Rattle.meaning.proofs.Decoding.{past-down}
 use Rattle.types.specs.Table.{Tab, denote, Grown}
-use Rattle.types.proofs.Pieces.{piece, piece-map}
+use Rattle.types.proofs.Pieces.{piece-map}
 use Rattle.frames.specs.Env.{Rows, framesOf}
-use Rattle.nodes.specs.Giving.{Told}
 use Rattle.expr.specs.Contract.{Ready, At, Row, Fine, Done, Values, checks}
 use Rattle.expr.proofs.Rows.{row-at, row-next, row-long, ends-after}
 use Rattle.expr.proofs.Leaving.{fine-none, fine-then, fine-wider, fine-as, fine-set, ready-narrow, ready-then, ready-push, same-frames}
-use Rattle.expr.proofs.Telling.{told-as, told-good, told-bind, told-ill, told-well, checks-none, checks-down}
+use Rattle.expr.proofs.Telling.{told-as, told-bind, told-well, checks-none, checks-down}
 
 -- `left` of n expressions from `from` on are left, from node i on; those before have their types on the stack from sp up to `up`
 pub record Valuing (bs : List ℕ) (nodes : ℕ) (fs : Rows) (top : ℕ) (t : Tab) (st : List ℕ) (sp from n d : ℕ) (u : Tab) (su : List ℕ) (i left up : ℕ) : Type 0 where

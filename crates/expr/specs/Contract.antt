@@ -1,23 +1,22 @@
 -- What checking an expression asks, and what it leaves.
 use mathlib.Core.Path.{_≡_}
 use mathlib.Core.Bool.{Bool, true, false}
-use mathlib.Core.List.{List, [], _∷_, _++_, map}
+use mathlib.Core.List.{List, [], _++_, map}
 use Prim.Native.Nat.{ℕ, suc, _+_, _-_, _≤_, _<_}
 use lib.ListN.{length, getD, take, drop}
 use Rattle.meaning.specs.Limits.{mostNodes, deepest}
-use Rattle.meaning.specs.Base.{if_then_else_}
 use Rattle.meaning.specs.Types.{Ty, unknown, mapIter, filterIter}
 use Rattle.meaning.specs.Image.{Name, nodeCount, nodesFrom, nodesOf, nodeOf, namesOf, depth}
 use Rattle.meaning.specs.Image.{Node as ImageNode}
-use Rattle.meaning.specs.Decode.{exprAt, exprsFrom, formAt, stopOf, past}
+use Rattle.meaning.specs.Decode.{exprAt, exprsFrom, formAt, stopOf}
 use Rattle.meaning.specs.Frames.{Frames}
 use Rattle.meaning.specs.Operators.{Checked, ok}
 use Rattle.meaning.specs.Rules.{Children, each, checkAll, checkForm, streamRule}
 use Rattle.meaning.proofs.Faults.{Sound}
 use Rattle.meaning.proofs.Nesting.{Children as ChildrenOf}
 use Rattle.types.specs.Table.{Tab, capacity, Wf, Grown, denote}
-use Rattle.frames.specs.Env.{Rows, framesOf, Fit}
-use Rattle.nodes.specs.Giving.{Told}
+use Rattle.frames.specs.Env.{Rows, Fit}
+use Rattle.state.specs.Giving.{Told}
 use Rattle.nodes.specs.Operands.{operandRule}
 
 -- ---- what is asked
@@ -91,16 +90,7 @@ pub record Operand (bs : List ℕ) (i d : ℕ) : Type 0 where
 
 -- ---- calls of names
 
--- a call at node i whose rule has as many arguments as it looks at
-pub record Enough (bs : List ℕ) (i rule n : ℕ) : Type 0 where
-  pub there : i < nodeCount bs
-  pub most : rule ≤ 11
-  pub one : 3 ≤ rule → (rule ≡ 8 → ⊥) → 0 < n
-  pub two : 10 ≤ rule → 1 < n
-
-unfoldable pub firstCode : Bool → ℕ
-firstCode filters = if filters then 44 else 42
-
+-- map, or filter
 unfoldable pub streamOf : Bool → Children → Checked
 streamOf true cs = streamRule 44 filterIter cs
 streamOf false cs = streamRule 42 (λ t. mapIter unknown) cs

@@ -20,7 +20,7 @@ pub type Frames = [Row; MOST_FRAMES];
 pub type Marks = [bool; MOST_NAMES];
 
 // A cell of no type, and one of Unknown; every other holds a known type.
-pub const ABSENT: u16 = 0;
+const ABSENT: u16 = 0;
 
 const UNKNOWN: u16 = 1;
 

@@ -1,28 +1,23 @@
--- Calls: what the callee makes of them, and which arguments a builtin's rule looks at.
+-- Calls: what the callee makes of them.
 use mathlib.Core.Path.{_≡_, refl, ap, _∙_}
 use mathlib.Core.Bool.{Bool, true, false}
 use mathlib.Core.List.{List, [], _∷_}
 use mathlib.Core.Option.{none, some}
-use Prim.Native.Nat.{ℕ, zero, suc, _-_, _≤_, _<_}
-use native.Mathlib.Omega.{arith}
-use native.Mathlib.Decide.{ℕ-discrete}
-use borrow.Author.Tests.{eq-eqb, ne-eqb}
+use Prim.Native.Nat.{ℕ, suc, _-_, _<_}
+use borrow.Author.Tests.{ne-eqb}
 use lib.Dec.{eqb}
-use lib.ListN.{length, take}
-use lib.Seq.{take-all}
+use lib.ListN.{length}
 use Rattle.meaning.specs.Base.{choose, if_then_else_}
-use Rattle.meaning.specs.Types.{Ty, unknown, mapIter, filterIter}
+use Rattle.meaning.specs.Types.{Ty, unknown}
 use Rattle.meaning.specs.Image.{Name, nameOf, Node, nodeOf}
 use Rattle.meaning.specs.Tree.{Expr, Form, nameIn, called}
 use Rattle.meaning.specs.Decode.{stopOf, exprsFrom, formAt, exprAt}
 use Rattle.meaning.specs.Frames.{Frames}
 use Rattle.meaning.specs.Operators.{ok}
-use Rattle.meaning.specs.Rules.{Children, child, each, eachThen, firstThen, inputRule, lenRule, rangeRule, streamRule, nameRule, callRule, check, checkForm, checkAll}
+use Rattle.meaning.specs.Rules.{each, eachThen, nameRule, callRule, check, checkForm, checkAll}
 use Rattle.meaning.proofs.Nesting.{Nested}
 use Rattle.meaning.proofs.Decoding.{expr-at, call-at, variable-at, exprs-down}
-use Rattle.rules.specs.Builtins.{numberedRule}
 use Rattle.nodes.specs.Operands.{operandRule}
-use Rattle.nodes.specs.Planning.{lookedAt, argumentRule}
 use Rattle.nodes.proofs.Operating.{call-node, bind-ext, each-const}
 
 -- ---- the callee
@@ -95,97 +90,3 @@ module _ {N : ℕ} {ds : List Node} (s : Nested N ds) (ws : List Name) (Γ : Fra
       (checkAll ws Γ (exprsFrom ds (λ j. exprAt ds (suc d) j) (nodeOf ds i .children - 1) (stopOf ds (suc i))))
   unfolding checkForm callRule
   call-name v = rw (call-at ds (λ j. exprAt ds (suc d) j) i k, called-some ds d (suc i) v)
-
--- ---- the arguments that a rule looks at
-
-each-rule : (P : ℕ → Type 0) → P 0 → P 1 → P 2 → P 3 → P 4 → P 5 → P 6 → P 7 → ((k : ℕ) → k ≡ 8 → P k) → P 9 → ((k : ℕ) → k ≡ 10 → P k)
-    → ((k : ℕ) → k ≡ 11 → P k) → (k : ℕ) → k ≤ 11 → P k
-each-rule P p0 p1 p2 p3 p4 p5 p6 p7 p8 p9 p10 p11 zero h = p0
-each-rule P p0 p1 p2 p3 p4 p5 p6 p7 p8 p9 p10 p11 (suc zero) h = p1
-each-rule P p0 p1 p2 p3 p4 p5 p6 p7 p8 p9 p10 p11 (suc (suc zero)) h = p2
-each-rule P p0 p1 p2 p3 p4 p5 p6 p7 p8 p9 p10 p11 (suc (suc (suc zero))) h = p3
-each-rule P p0 p1 p2 p3 p4 p5 p6 p7 p8 p9 p10 p11 (suc (suc (suc (suc zero)))) h = p4
-each-rule P p0 p1 p2 p3 p4 p5 p6 p7 p8 p9 p10 p11 (suc (suc (suc (suc (suc zero))))) h = p5
-each-rule P p0 p1 p2 p3 p4 p5 p6 p7 p8 p9 p10 p11 (suc (suc (suc (suc (suc (suc zero)))))) h = p6
-each-rule P p0 p1 p2 p3 p4 p5 p6 p7 p8 p9 p10 p11 (suc (suc (suc (suc (suc (suc (suc zero))))))) h = p7
-each-rule P p0 p1 p2 p3 p4 p5 p6 p7 p8 p9 p10 p11 (suc (suc (suc (suc (suc (suc (suc (suc zero)))))))) h = p8 8 refl
-each-rule P p0 p1 p2 p3 p4 p5 p6 p7 p8 p9 p10 p11 (suc (suc (suc (suc (suc (suc (suc (suc (suc zero))))))))) h = p9
-each-rule P p0 p1 p2 p3 p4 p5 p6 p7 p8 p9 p10 p11 (suc (suc (suc (suc (suc (suc (suc (suc (suc (suc zero)))))))))) h = p10 10 refl
-each-rule P p0 p1 p2 p3 p4 p5 p6 p7 p8 p9 p10 p11 (suc (suc (suc (suc (suc (suc (suc (suc (suc (suc (suc zero))))))))))) h = p11 11 refl
-each-rule P p0 p1 p2 p3 p4 p5 p6 p7 p8 p9 p10 p11 (suc (suc (suc (suc (suc (suc (suc (suc (suc (suc (suc (suc k)))))))))))) h = absurd (omega arith)
-
--- what rule k makes of all arguments, and of those that it looks at
-abbrev Looks : ℕ → Children → ℕ → Type 0
-Looks n cs k = numberedRule n k cs ≡ each (take (lookedAt k (length cs)) cs) (argumentRule k n) []
-
-module _ (n : ℕ) (cs : Children) where
-  looks-0 : Looks n cs 0
-  unfolding numberedRule lookedAt argumentRule choose if_then_else_ eachThen
-  looks-0 = rw (take-all (length cs) cs (omega arith))
-
-  looks-1 : Looks n cs 1
-  unfolding numberedRule lookedAt argumentRule choose if_then_else_ eachThen
-  looks-1 = rw (take-all (length cs) cs (omega arith))
-
-looks-2 : (n : ℕ) (cs : Children) → Looks n cs 2
-unfolding numberedRule inputRule lookedAt argumentRule choose if_then_else_ each child
-looks-2 n [] = refl
-looks-2 n (c ∷ []) = refl
-looks-2 n (c ∷ d ∷ cs) =
-    let z : eqb (suc (suc (length cs))) 1 ≡ false = ne-eqb (suc (suc (length cs))) 1 (λ e. omega arith) in rw z
-
--- a rule that looks at the first argument
-module _ (n : ℕ) where
-  looks-first : (cs : Children) → 0 < length cs → (Looks n cs 3 × Looks n cs 4) × (Looks n cs 5 × Looks n cs 6) × (Looks n cs 7 × Looks n cs 9)
-  unfolding numberedRule firstThen lenRule lookedAt argumentRule choose if_then_else_ each child
-  looks-first [] h = absurd (omega arith)
-  looks-first (c ∷ cs) h = ((refl, refl), (refl, refl), (refl, refl))
-
-pub numbered-looked : (n k : ℕ) (cs : Children) → k ≤ 11 → (k ≡ 8 → ⊥) → (k ≡ 10 → ⊥) → (k ≡ 11 → ⊥) → (3 ≤ k → 0 < length cs)
-    → numberedRule n k cs ≡ each (take (lookedAt k (length cs)) cs) (argumentRule k n) []
-numbered-looked n k cs =
-    each-rule (λ k. (k ≡ 8 → ⊥) → (k ≡ 10 → ⊥) → (k ≡ 11 → ⊥) → (3 ≤ k → 0 < length cs) → Looks n cs k)
-    (λ a b c h. looks-0 n cs)
-    (λ a b c h. looks-1 n cs)
-    (λ a b c h. looks-2 n cs)
-    (λ a b c h. looks-first n cs (h (omega arith)) .0 .0)
-    (λ a b c h. looks-first n cs (h (omega arith)) .0 .1)
-    (λ a b c h. looks-first n cs (h (omega arith)) .1 .0)
-    (λ a b c h. looks-first n cs (h (omega arith)) .1 .1)
-    (λ a b c h. looks-first n cs (h (omega arith)) .2 .0)
-    (λ k e a b c h. absurd (a e))
-    (λ a b c h. looks-first n cs (h (omega arith)) .2 .1)
-    (λ k e a b c h. absurd (b e))
-    (λ k e a b c h. absurd (c e))
-    k
-
-pub looked-le : (k n : ℕ) → (3 ≤ k → 0 < n) → lookedAt k n ≤ n
-unfolding lookedAt choose if_then_else_
-looked-le zero n h = omega arith
-looked-le (suc zero) n h = omega arith
-looked-le (suc (suc zero)) n h = elim (ℕ-discrete n 1) [ yes e ↦ rw (eq-eqb n 1 e) (omega arith) | no d ↦ rw (ne-eqb n 1 d) (omega arith) ]
-looked-le (suc (suc (suc k))) n h =
-    let l = h (omega arith) in
-    let a : eqb (suc (suc (suc k))) 0 ≡ false = ne-eqb (suc (suc (suc k))) 0 (λ e. omega arith) in
-    let b : eqb (suc (suc (suc k))) 1 ≡ false = ne-eqb (suc (suc (suc k))) 1 (λ e. omega arith) in
-    let c : eqb (suc (suc (suc k))) 2 ≡ false = ne-eqb (suc (suc (suc k))) 2 (λ e. omega arith) in
-    rw (a, b, c) (omega arith)
-
--- range, map and filter go their own ways
-
-pub numbered-range : (n : ℕ) (cs : Children) → numberedRule n 8 cs ≡ rangeRule n cs
-unfolding numberedRule choose if_then_else_
-numbered-range n cs = refl
-
-pub numbered-map : (n : ℕ) (cs : Children) → numberedRule n 10 cs ≡ streamRule 42 (λ t. mapIter unknown) cs
-unfolding numberedRule choose if_then_else_
-numbered-map n cs = refl
-
-pub numbered-filter : (n : ℕ) (cs : Children) → numberedRule n 11 cs ≡ streamRule 44 filterIter cs
-unfolding numberedRule choose if_then_else_
-numbered-filter n cs = refl
-
--- what `argued` asks of len's arguments
-pub looked-len : (k n : ℕ) → k ≡ 7 → lookedAt k n ≡ 1
-unfolding lookedAt choose if_then_else_
-looked-len k n e = rw e

@@ -4,10 +4,8 @@ use mathlib.Core.List.{List, map}
 use Prim.Native.Nat.{ℕ, zero, suc, _+_, _≤_, _<_}
 use native.Mathlib.Nat.{add-zero}
 use native.Mathlib.Omega.{arith}
-use borrow.Author.Tests.{ne-eqb}
 use lib.ListN.{length, getD, take, drop, length-take, length-drop, length-map, List·getD-map}
 use lib.Seq.{getD-take, getD-drop}
-use Rattle.meaning.specs.Base.{if_then_else_, choose, orElse}
 use Rattle.meaning.specs.Types.{Ty, unknown, plain}
 use Rattle.meaning.specs.Image.{Name}
 use Rattle.meaning.specs.Decode.{literalType}
@@ -15,21 +13,21 @@ use Rattle.meaning.specs.Operators.{Checked, ok}
 use Rattle.types.specs.Table.{Tab, Wf, Means, Made, Grown, denote}
 use Rattle.types.specs.Steps.{Listed}
 use Rattle.types.proofs.Laws.{plain-number, unknown-number, grown-refl}
-use Rattle.rules.specs.Outcome.{Decides}
+use Rattle.rules.specs.Outcome.{Decides, decisionCode, decisionNumber, decisionFirst, decisionSecond}
+use Rattle.rules.specs.declared.Decision.{Decision}
 use Rattle.rules.proofs.Outcomes.{names-none, was-ok, was-refused}
-use Rattle.nodes.specs.Giving.{Given}
+use Rattle.state.specs.Giving.{Given}
 use Rattle.nodes.specs.Operands.{literalNumber}
-use Rattle.nodes.specs.Planning.{lookedAt}
 
 -- ---- what a node gives
 
 -- a decision at a node
-pub decides-given : {ws : List Name} {r : Checked} {t : Tab} {code place number a b : ℕ} (spent M : ℕ) → Wf t → place < M
-    → Decides ws t r code place number a b → Given ws r t t spent M code place number a b
-decides-given {ws} {r} {t} {code} {place} {number} {a} {b} spent M w h d = record {
+pub decides-given : {ws : List Name} {r : Checked} {t : Tab} {place : ℕ} {e : Decision} (spent M : ℕ) → Wf t → place < M
+    → Decides ws t r place e → Given ws r t t spent M (decisionCode e) place (decisionNumber e) (decisionFirst e) (decisionSecond e)
+decides-given {ws} {r} {t} {place} {e} spent M w h d = record {
   told = record {
-    well = λ e. d .says ∙ was-ok ws t code place number a b e;
-    ill = λ z. d .says ∙ was-refused ws t code place number a b z;
+    well = λ z. d .says ∙ was-ok ws t (decisionCode e) place (decisionNumber e) (decisionFirst e) (decisionSecond e) z;
+    ill = λ z. d .says ∙ was-refused ws t (decisionCode e) place (decisionNumber e) (decisionFirst e) (decisionSecond e) z;
     first = d .first;
     second = d .second;
     small = d .small;
@@ -108,15 +106,3 @@ module _ {t : Tab} {st : List ℕ} {sp q : ℕ} (x : Listed t st sp q) where
 
   pub first-type : 0 < q → getD (map (denote t) (take q (drop sp st))) 0 unknown ≡ denote t (getD st sp 0)
   first-type h = rw add-zero at (types-at 0 h)
-
--- ---- how many arguments a rule looks at
-
-pub looked-low : (k n : ℕ) → k < 2 → n ≡ lookedAt k n
-unfolding lookedAt choose if_then_else_
-looked-low zero n h = refl
-looked-low (suc zero) n h = refl
-looked-low (suc (suc k)) n h = absurd (omega arith)
-
-pub looked-high : (k n : ℕ) → (k ≡ 2 → ⊥) → 2 ≤ k → 1 ≡ lookedAt k n
-unfolding lookedAt choose if_then_else_
-looked-high k n d h = rw (ne-eqb k 0 (λ e. omega arith), ne-eqb k 1 (λ e. omega arith), ne-eqb k 2 d)

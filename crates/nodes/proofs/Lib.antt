@@ -1,8 +1,5 @@
--- Laws, Operating, Deciding, Calling and Noting are what callers cite.
+-- What callers cite.
 pub mod Laws
 pub mod Operating
 pub mod Deciding
 pub mod Calling
-pub mod Noting
-mod Arguing
-mod Choosing

@@ -10,16 +10,17 @@ use lib.ListN.{length}
 use Rattle.meaning.specs.Base.{choose, if_then_else_}
 use Rattle.meaning.specs.Types.{Ty}
 use Rattle.meaning.specs.Image.{Name, Node, nodeOf, nodesOf, nodesFrom, nodeCount, argBelow, countStands}
-use Rattle.meaning.specs.Tree.{Expr, at, unary, binary, index, place}
-use Rattle.meaning.specs.Decode.{stopOf, exprsFrom, formAt}
+use Rattle.meaning.specs.Tree.{Expr, at, unary, index, place}
+use Rattle.meaning.specs.Decode.{stopOf, exprsFrom, formAt, binaryOf}
 use Rattle.meaning.specs.Frames.{Frames}
-use Rattle.meaning.specs.Operators.{Checked, ok, refused, _>>=_}
+use Rattle.meaning.specs.Operators.{Checked, ok, refused, _>>=_, binaryRule}
 use Rattle.meaning.specs.Rules.{Children, each, eachThen, check, checkForm, checkAll}
 use Rattle.meaning.proofs.Faults.{Sound}
 use Rattle.meaning.proofs.Nesting.{Nested, nodes-many, sound-nested, node-stands, children, child}
 use Rattle.meaning.proofs.Decoding.{unary-at, binary-at, attribute-at, tuple-at, set-at, tree-set-at, index-at}
 use Rattle.types.specs.Table.{Tab}
 use Rattle.types.specs.Steps.{Listed}
+use Rattle.image.specs.declared.Cursor.{Cursor}
 use Rattle.nodes.specs.Operands.{operandRule, Decidable}
 
 -- ---- what a node's record gives
@@ -77,11 +78,12 @@ module _ {N : ℕ} {ds : List Node} (s : Nested N ds) (i : ℕ) (h : i < length 
       (e, omega (arith, first .inside, t .within), omega (arith, second .inside, t .within))
 
 -- what `decide` asks of a node of a sound image
-pub decidable : {bs : List ℕ} {nodes : ℕ} {t : Tab} {st : List ℕ} {sp i : ℕ} {d : Node} → Sound bs → nodes ≡ nodesFrom bs → i < nodeCount bs
-    → d ≡ nodeOf (nodesOf bs) i → Listed t st sp (d .children) → length st ≡ 2048 → Decidable bs nodes t st sp i d
-decidable {bs} {i = i} {d = d} s n h e l m =
+pub decidable : {bs : List ℕ} {c : Cursor} {t : Tab} {st : List ℕ} {sp : ℕ} {d : Node} → Sound bs → c .nodes ≡ nodesFrom bs → c .at < nodeCount bs
+    → d ≡ nodeOf (nodesOf bs) (c .at) → Listed t st sp (d .children) → length st ≡ 2048 → Decidable bs c t st sp d
+decidable {bs} {c} {d = d} s n h e l m =
     let nested = sound-nested s in
     let many = nodes-many bs in
+    let i : ℕ = c .at in
     let inside : i < length (nodesOf bs) = omega arith in
     record {
       headed = s .headed;
@@ -91,7 +93,6 @@ decidable {bs} {i = i} {d = d} s n h e l m =
       listed = l;
       stack = m;
       unary = λ k. rw (← e) at (unary-node nested i inside (rw (← e) k));
-      binary = λ k. rw (← e) at (binary-node nested i inside (rw (← e) k));
       index = λ k. rw (← e, many) at (index-node nested i inside (rw (← e) k));
     }
 
@@ -172,3 +173,9 @@ module _ {N : ℕ} {ds : List Node} (s : Nested N ds) (ws : List Name) (Γ : Fra
       | no m ↦ elim (ℕ-discrete (nodeOf ds i .kind) 30) [ yes k ↦ operands-30 k | no k ↦ operands-31 (omega arith) ]
     ]
   ]
+
+  -- a Binary by its two operands
+  pub binary-form : nodeOf ds i .kind ≡ 23 → checkForm ws Γ i (formAt ds e i)
+      ≡ (check ws Γ (e (suc i)) >>= λ a. check ws Γ (e (stopOf ds (suc i))) >>= λ b. binaryRule i (binaryOf (nodeOf ds i .arg)) a b)
+  unfolding checkForm
+  binary-form k = rw (binary-at ds e i k)

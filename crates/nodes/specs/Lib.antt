@@ -1,5 +1,2 @@
-pub mod Giving
-pub mod Notes
 pub mod Operands
-pub mod Planning
-pub mod Lent
+pub mod Clauses

@@ -1,10 +1,11 @@
 -- Nodes whose children are all checked before their rule looks at them: what the children's types give.
 use mathlib.Core.Path.{_≡_}
+use mathlib.Core.Bool.{Bool}
 use mathlib.Core.List.{List, [], _∷_}
 use Prim.Native.Nat.{ℕ, suc, _<_}
 use lib.ListN.{length, getD}
 use Rattle.meaning.specs.Limits.{mostNodes}
-use Rattle.meaning.specs.Base.{choose}
+use Rattle.meaning.specs.Base.{if_then_else_, choose}
 use Rattle.meaning.specs.Types.{Ty, unknown, tuple, tys}
 use Rattle.meaning.specs.Image.{Name, nodeCount, nodesFrom, nodesOf, nodeOf}
 use Rattle.meaning.specs.Image.{Node as ImageNode}
@@ -12,11 +13,15 @@ use Rattle.meaning.specs.Decode.{unaryOf, binaryOf, stopOf}
 use Rattle.meaning.specs.Operators.{Checked, ok, unaryRule, binaryRule}
 use Rattle.meaning.specs.Rules.{indexRule}
 use Rattle.meaning.proofs.Faults.{Headed}
-use Rattle.types.specs.Table.{Tab, Wf, denote}
+use Rattle.types.specs.Table.{Tab, Wf}
 use Rattle.types.specs.Steps.{Listed}
-use Rattle.rules.specs.Leaves.{Indexed, indexPlace}
-use Rattle.nodes.specs.Giving.{Given}
-use Rattle.nodes.specs.Notes.{Answered}
+use Rattle.rules.specs.Leaves.{Asks, Indexed, indexPlace}
+use Rattle.image.specs.declared.Cursor.{Cursor}
+use Rattle.state.specs.Giving.{Given}
+use Rattle.rules.specs.Outcome.{decisionCode}
+use Rattle.rules.specs.declared.Decision.{Decision}
+use Rattle.state.specs.Answer.{Settles}
+use Rattle.state.specs.declared.Typed.{Typed}
 
 -- the number of a Literal's type
 unfoldable pub literalNumber : ℕ → ℕ
@@ -33,29 +38,26 @@ operandRule k a n m o ts =
     ∷ (31, indexRule m (getD ts 0 unknown) o (getD ts 1 unknown))
     ∷ [])
 
--- the types of node i's children stand on the stack from sp on
-pub record Decidable (bs : List ℕ) (nodes : ℕ) (t : Tab) (st : List ℕ) (sp i : ℕ) (d : ImageNode) : Type 0 where
+-- the types of the children of the cursor's node d stand on the stack from sp on
+pub record Decidable (bs : List ℕ) (c : Cursor) (t : Tab) (st : List ℕ) (sp : ℕ) (d : ImageNode) : Type 0 where
   pub headed : Headed bs
-  pub nodes-at : nodes ≡ nodesFrom bs
-  pub there : i < nodeCount bs
-  pub node : d ≡ nodeOf (nodesOf bs) i
+  pub nodes-at : c .nodes ≡ nodesFrom bs
+  pub there : c .at < nodeCount bs
+  pub node : d ≡ nodeOf (nodesOf bs) (c .at)
   pub listed : Listed t st sp (d .children)
   pub stack : length st ≡ mostNodes
   pub unary : d .kind ≡ 22 → (d .arg < 3) × (d .children ≡ 1)
-  pub binary : d .kind ≡ 23 → (d .arg < 14) × (d .children ≡ 2)
-  pub index : d .kind ≡ 31 → (d .children ≡ 2) × (suc i < nodeCount bs) × (stopOf (nodesOf bs) (suc i) < nodeCount bs)
+  pub index : d .kind ≡ 31 → (d .children ≡ 2) × (suc (c .at) < nodeCount bs) × (stopOf (nodesOf bs) (suc (c .at)) < nodeCount bs)
 
 -- an Index whose object is at m and whose index is at n: what the rule decides is what was answered
-pub record IndexedAt (cs : List ℕ) (object key m n : ℕ) (ns ms : List ℕ) (r : ℕ) : Type 0 where
-  pub code : ℕ
-  pub number : ℕ
-  pub a : ℕ
-  pub b : ℕ
-  pub says : Indexed cs object key code number a b
-  pub answered : Answered ns ms r code (indexPlace code m n) number a b
+pub record IndexedAt (cs : List ℕ) (object key m n : ℕ) (ns ms : List ℕ) (r : Typed) : Type 0 where
+  pub decision : Decision
+  pub says : Indexed cs object key decision
+  pub settles : Settles ns ms r (indexPlace (decisionCode decision) m n) decision
 
--- ---- a Binary at node n, by the types of its operands
+-- ---- rules that look at one or two types
 
+-- a Binary at node n, by the types of its operands
 pub record Operable (t : Tab) (left right n arg : ℕ) : Type 0 where
   pub wf : Wf t
   pub first : left < t.n
@@ -63,7 +65,21 @@ pub record Operable (t : Tab) (left right n arg : ℕ) : Type 0 where
   pub node : n < mostNodes
   pub operator : arg < 14
 
--- whatever the names and the number of nodes
-pub record Operated (t u : Tab) (left right n arg code place number a b : ℕ) : Type 0 where
-  pub says : (ws : List Name) (M : ℕ) → n < M
-      → Given ws (binaryRule n (binaryOf arg) (denote t left) (denote t right)) t u 0 M code place number a b
+-- an argument's type i, judged at node n
+pub record Judges (t : Tab) (i n : ℕ) : Type 0 where
+  pub wf : Wf t
+  pub below : i < t.n
+  pub node : n < mostNodes
+
+-- the same, and there is room for the type that it makes
+pub record Streamable (t : Tab) (i n : ℕ) : Type 0 where
+  pub asks : Asks t i
+  pub node : n < mostNodes
+
+-- what `rule` gives at node n, whatever the names and the number of nodes
+pub record Ruled (t u : Tab) (rule : Checked) (n code place number a b : ℕ) : Type 0 where
+  pub says : (ws : List Name) (M : ℕ) → n < M → Given ws rule t u 0 M code place number a b
+
+-- the code that refuses the first argument of map, or of filter
+unfoldable pub firstCode : Bool → ℕ
+firstCode filters = if filters then 44 else 42

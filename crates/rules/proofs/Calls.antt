@@ -1,16 +1,14 @@
 -- The rules of builtins, by what they do with the type of each argument.
 use mathlib.Core.Path.{_≡_, refl}
 use mathlib.Core.Bool.{true, false}
-use mathlib.Core.List.{[], _∷_}
+use mathlib.Core.List.{_∷_}
 use Prim.Native.Nat.{ℕ}
-use borrow.Author.Tests.{eq-eqb, ne-eqb}
+use borrow.Author.Tests.{ne-eqb}
 use lib.ListN.{length}
 use Rattle.meaning.specs.Base.{if_then_else_, base-open}
 use Rattle.meaning.specs.Types.{unknown, string, mapIter, filterIter}
-use Rattle.meaning.specs.Image.{Name, allows}
-use Rattle.meaning.specs.Message.{aText, aNumber, refusal}
-use Rattle.meaning.specs.Operators.{Checked, ok, refused, _>>=_, when}
-use Rattle.meaning.specs.Rules.{Children, child, eachThen, inputRule, lenRule, rangeRule, streamRule, builtinRule, described, builtinCall, functionCall}
+use Rattle.meaning.specs.Operators.{Checked, ok, _>>=_}
+use Rattle.meaning.specs.Rules.{Children, child, inputRule, lenRule, rangeRule, streamRule}
 use Rattle.rules.specs.Outcome.{typesNamed}
 use Rattle.rules.specs.Leaves.{promptRule, sizedRule, boundRule, callableRule, streamType, secondCode, secondRule}
 
@@ -50,24 +48,3 @@ names-map = refl
 pub names-filter : typesNamed 44 ≡ 1
 unfolding typesNamed base-open
 names-filter = refl
-
--- ---- a call's count comes before its rule
-
-module _ (n : ℕ) (w : Name) (cs : Children) where
-  pub builtin-counted : allows (w .role) (length cs) ≡ true → builtinCall n w cs ≡ builtinRule n (w .spelling) cs
-  unfolding builtinCall when if_then_else_ _>>=_
-  builtin-counted e = rw e
-
-  pub builtin-miscounted : allows (w .role) (length cs) ≡ false
-      → builtinCall n w cs ≡ refused (refusal 37 n (aText (w .spelling) ∷ aText (described (w .role)) ∷ aNumber (length cs) ∷ []))
-  unfolding builtinCall when if_then_else_ _>>=_
-  builtin-miscounted e = rw e
-
-  pub function-counted : (p : ℕ) → length cs ≡ p → functionCall n w p cs ≡ eachThen unknown cs
-  unfolding functionCall when if_then_else_ _>>=_
-  function-counted p e = rw (eq-eqb (length cs) p e)
-
-  pub function-miscounted : (p : ℕ) → (length cs ≡ p → ⊥)
-      → functionCall n w p cs ≡ refused (refusal 38 n (aText (w .spelling) ∷ aNumber p ∷ aNumber (length cs) ∷ []))
-  unfolding functionCall when if_then_else_ _>>=_
-  function-miscounted p d = rw (ne-eqb (length cs) p d)

@@ -1,7 +1,6 @@
--- Callers cite Outcomes, Calls, Builtins and Streaming.
+-- Callers cite Outcomes, Calls and Streaming.
 pub mod Outcomes
 pub mod Calls
-pub mod Builtins
 mod Operations
 mod Steps
 mod Arguments

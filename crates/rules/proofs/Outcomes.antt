@@ -5,12 +5,14 @@ use Prim.Native.Nat.{ℕ, _≤_, _<_}
 use native.Mathlib.Omega.{arith}
 use borrow.Author.Tests.{eq-eqb, ne-eqb}
 use Rattle.meaning.specs.Base.{if_then_else_, choose, base-open}
-use Rattle.meaning.specs.Image.{Name, nameOf, takes}
-use Rattle.meaning.specs.Message.{aType, aText, aNumber, refusal}
-use Rattle.meaning.specs.Rules.{described}
+use Rattle.meaning.specs.Image.{Name}
+use Rattle.meaning.specs.Message.{aType, refusal}
 use Rattle.meaning.specs.Operators.{Checked, ok, refused}
 use Rattle.types.specs.Table.{Tab, capacity, Wf, denote}
-use Rattle.rules.specs.Outcome.{typesNamed, taken, pieces, decided, Decides}
+use Rattle.rules.specs.declared.Reason.{Reason}
+use Rattle.rules.specs.declared.Decision.{Decision}
+use Rattle.rules.specs.declared.Decision.the-variants.{«Type» as Typed, Refused}
+use Rattle.rules.specs.Outcome.{typesNamed, pieces, because, decisionCode, decided, Decides}
 use Rattle.rules.specs.Leaves.{Known}
 
 pub known : {t : Tab} {i : ℕ} → Wf t → i < t.n → Known t.cells i
@@ -51,48 +53,50 @@ two-pieces ws t c a b e = rw e
 
 -- ---- decisions of each form
 
-module _ {ws : List Name} {t : Tab} {r : Checked} (n c number a b : ℕ) where
-  pub accepts : c ≡ 0 → number < t.n → r ≡ ok (denote t number) → Decides ws t r c n number a b
-  accepts e h s = record {
-    says = s ∙ sym (was-ok ws t c n number a b e);
+-- which of the two a decision is
+isTyped : Decision → ℕ
+isTyped (Typed n) = 1
+isTyped (Refused w) = 0
+
+pub typed-not-refused : {A : Type 0} {n : ℕ} {w : Reason} → Typed n ≡ Refused w → A
+unfolding isTyped
+typed-not-refused e = let z : _≡_ {A = ℕ} 1 0 = ap isTyped e in absurd (omega arith)
+
+pub same-code : {v w : Reason} → Refused v ≡ Refused w → v .code ≡ w .code
+same-code e = ap decisionCode e
+
+module _ {ws : List Name} {t : Tab} {r : Checked} (n : ℕ) where
+  pub accepts : (number : ℕ) → number < t.n → r ≡ ok (denote t number) → Decides ws t r n (Typed number)
+  accepts number h s = record {
+    says = s ∙ sym (was-ok ws t 0 n number 0 0 refl);
     below = λ z. h;
-    first = λ l. absurd (omega (arith, names-none e));
-    second = λ l. absurd (omega (arith, names-none e));
-    small = λ z. absurd (z e);
+    first = λ l. absurd (omega (arith, zero-names-none));
+    second = λ l. absurd (omega (arith, zero-names-none));
+    small = λ z. absurd (z refl);
+    coded = λ w e. typed-not-refused e;
   }
 
-  pub refuses : (c ≡ 0 → ⊥) → (1 ≤ typesNamed c → a < t.n) → (2 ≤ typesNamed c → b < t.n) → (typesNamed c ≡ 0 → (a < 4294967296) × (b < 4294967296))
-      → r ≡ refused (refusal c n (pieces ws t c a b)) → Decides ws t r c n number a b
-  refuses z ha hb hs s = record {
-    says = s ∙ sym (was-refused ws t c n number a b z);
-    below = λ e. absurd (z e);
-    first = ha;
-    second = hb;
-    small = λ z. hs;
-  }
+  module _ (c a b : ℕ) where
+    refuses : (c ≡ 0 → ⊥) → (1 ≤ typesNamed c → a < t.n) → (2 ≤ typesNamed c → b < t.n)
+        → (typesNamed c ≡ 0 → (a < 4294967296) × (b < 4294967296)) → r ≡ refused (refusal c n (pieces ws t c a b))
+        → Decides ws t r n (Refused (because c a b))
+    refuses z ha hb hs s = record {
+      says = s ∙ sym (was-refused ws t c n 0 a b z);
+      below = λ e. absurd (z e);
+      first = ha;
+      second = hb;
+      small = λ z. hs;
+      coded = λ w e y. z (same-code e ∙ y);
+    }
 
-  pub refuses-one : typesNamed c ≡ 1 → a < t.n → r ≡ refused (refusal c n (aType (denote t a) ∷ [])) → Decides ws t r c n number a b
-  refuses-one k h s =
-      refuses (names-code c (omega arith)) (λ l. h) (λ l. absurd (omega arith)) (λ l. absurd (omega arith))
-      (s ∙ ap (λ ps. refused (refusal c n ps)) (sym (one-piece ws t c a b k)))
+    pub refuses-one : typesNamed c ≡ 1 → a < t.n → r ≡ refused (refusal c n (aType (denote t a) ∷ []))
+        → Decides ws t r n (Refused (because c a b))
+    refuses-one k h s =
+        refuses (names-code c (omega arith)) (λ l. h) (λ l. absurd (omega arith)) (λ l. absurd (omega arith))
+        (s ∙ ap (λ ps. refused (refusal c n ps)) (sym (one-piece ws t c a b k)))
 
-  pub refuses-two : typesNamed c ≡ 2 → a < t.n → b < t.n → r ≡ refused (refusal c n (aType (denote t a) ∷ aType (denote t b) ∷ []))
-      → Decides ws t r c n number a b
-  refuses-two k ha hb s =
-      refuses (names-code c (omega arith)) (λ l. ha) (λ l. hb) (λ l. absurd (omega arith))
-      (s ∙ ap (λ ps. refused (refusal c n ps)) (sym (two-pieces ws t c a b k)))
-
--- ---- counts of arguments: a is the number of the called name, and b the count
-
-module _ {ws : List Name} {t : Tab} (n number a b : ℕ) (ha : a < 4294967296) (hb : b < 4294967296) where
-  -- a builtin's, code 37
-  pub refuses-builtin : Decides ws t
-      (refused (refusal 37 n (aText (nameOf ws a .spelling) ∷ aText (described (nameOf ws a .role)) ∷ aNumber b ∷ []))) 37 n number a b
-  unfolding pieces typesNamed base-open
-  refuses-builtin = refuses n 37 number a b (λ e. absurd (omega arith)) (λ l. absurd (omega arith)) (λ l. absurd (omega arith)) (λ l. (ha, hb)) refl
-
-  -- a function's, code 38
-  pub refuses-function : (p : ℕ) → nameOf ws a .role ≡ takes p → Decides ws t
-      (refused (refusal 38 n (aText (nameOf ws a .spelling) ∷ aNumber p ∷ aNumber b ∷ []))) 38 n number a b
-  unfolding pieces typesNamed taken base-open
-  refuses-function p e = refuses n 38 number a b (λ e. absurd (omega arith)) (λ l. absurd (omega arith)) (λ l. absurd (omega arith)) (λ l. (ha, hb)) (rw e)
+    pub refuses-two : typesNamed c ≡ 2 → a < t.n → b < t.n → r ≡ refused (refusal c n (aType (denote t a) ∷ aType (denote t b) ∷ []))
+        → Decides ws t r n (Refused (because c a b))
+    refuses-two k ha hb s =
+        refuses (names-code c (omega arith)) (λ l. ha) (λ l. hb) (λ l. absurd (omega arith))
+        (s ∙ ap (λ ps. refused (refusal c n ps)) (sym (two-pieces ws t c a b k)))

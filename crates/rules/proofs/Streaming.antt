@@ -2,37 +2,34 @@
 use mathlib.Core.Path.{_≡_, refl, sym, ap, _∙_}
 use mathlib.Core.Bool.{Bool, true, false}
 use mathlib.Core.List.{List}
-use Prim.Native.Nat.{ℕ}
+use Prim.Native.Nat.{ℕ, _<_, _≤_}
 use native.Mathlib.Omega.{arith}
 use native.Mathlib.Decide.{ℕ-discrete}
 use borrow.Author.Tests.{ne-eqb}
 use Rattle.meaning.specs.Base.{_or_, if_then_else_, choose, ifSome, isIn, base-open}
 use Rattle.meaning.specs.Operators.{ok}
 use Rattle.meaning.specs.Rules.{streamed}
-use Rattle.types.specs.Table.{Tab, Wf, Grown, Made, shaped, built, denote}
+use Rattle.types.specs.Table.{Tab, Wf, Made, shaped, built, denote}
 use Rattle.types.specs.Steps.{Asked}
 use Rattle.types.specs.Reading.{KindOf, perhaps, ElementOf}
-use Rattle.types.proofs.Laws.{unknown-number, grown-refl}
+use Rattle.types.proofs.Laws.{unknown-number}
 use Rattle.types.proofs.Forming.{ask-map, ask-filter}
 use Rattle.types.proofs.Answers.{perhaps-yes, perhaps-no}
-use Rattle.rules.specs.Outcome.{typesNamed}
+use Rattle.rules.specs.declared.Decision.the-variants.{«Type» as Typed, Refused}
+use Rattle.rules.specs.Outcome.{typesNamed, because}
 use Rattle.rules.specs.Leaves.{StreamedOf, streamType, secondCode, Asks, Streams}
 use Rattle.rules.proofs.Outcomes.{names-none, accepts, refuses-one}
 
 -- ---- what a walk gives, but for Dict and Tuple
 
 module _ {cs : List ℕ} {i k : ℕ} (kind-is : KindOf cs i k) where
-  pub stream-dict : k ≡ 9 → StreamedOf cs i false 0
+  pub stream-none : 9 ≤ k → k < 11 → StreamedOf cs i false 0
   unfolding streamed isIn _or_ if_then_else_ perhaps
-  stream-dict e = record {
-    says = λ t s w h. rw (sym (kind-is .says t s w h) ∙ e);
-    below = λ t s w h. omega (arith, w .base);
-  }
-
-  pub stream-tuple : k ≡ 10 → StreamedOf cs i false 0
-  unfolding streamed isIn _or_ if_then_else_ perhaps
-  stream-tuple e = record {
-    says = λ t s w h. rw (sym (kind-is .says t s w h) ∙ e);
+  stream-none l m = record {
+    says = λ t s w h. elim (ℕ-discrete k 9) [
+      | yes e ↦ rw (sym (kind-is .says t s w h) ∙ e)
+      | no d ↦ let e : k ≡ 10 = omega arith in rw (sym (kind-is .says t s w h) ∙ e)
+    ];
     below = λ t s w h. omega (arith, w .base);
   }
 
@@ -72,29 +69,22 @@ second-names true = refl
 second-names false = refl
 
 module _ {t : Tab} {i : ℕ} (filters : Bool) (asks : Asks t i) {there : Bool} {e : ℕ} (element : StreamedOf t.cells i there e) where
-  pub second-refuses : {c : ℕ} → c ≡ secondCode filters → there ≡ false → Streams t t filters i c 0 i 0
+  pub second-refuses : {c : ℕ} → c ≡ secondCode filters → there ≡ false → Streams t t filters i (Refused (because c i 0))
   unfolding ifSome
   second-refuses {c} s n = record {
     says = λ ws m.
-        refuses-one m c 0 i 0 (ap typesNamed s ∙ second-names filters) (asks .below)
+        refuses-one m c i 0 (ap typesNamed s ∙ second-names filters) (asks .below)
         (rw (element .says t refl (asks .wf) (asks .below), perhaps-no t there e n, s));
     made = λ z. absurd (omega (arith, names-none z, ap typesNamed s, second-names filters));
     kept = λ z. refl;
   }
 
-  pub second-gives : {u : Tab} {r : ℕ} → there ≡ true → Made t u r (streamType filters (denote t e)) 0 → Streams t u filters i 0 r 0 0
+  pub second-gives : {u : Tab} {r : ℕ} → there ≡ true → Made t u r (streamType filters (denote t e)) 0 → Streams t u filters i (Typed r)
   unfolding ifSome
   second-gives {u} {r} y m = record {
     says = λ ws n.
-        accepts n 0 r 0 0 refl (m .below)
+        accepts n r (m .below)
         (rw (element .says t refl (asks .wf) (asks .below), perhaps-yes t there e y) (ap ok (sym (m .means))));
     made = λ z. rw (m .means) m;
     kept = λ z. absurd (z refl);
   }
-
--- what a caller has in either case
-pub streams-grown : {t u : Tab} {filters : Bool} {i code number a b : ℕ} → Wf t → Streams t u filters i code number a b → Grown t u
-streams-grown {code = code} w s = elim (ℕ-discrete code 0) [
-  | yes e ↦ s .made e .grown
-  | no d ↦ rw (s .kept d) (grown-refl w)
-]

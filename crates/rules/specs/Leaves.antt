@@ -14,7 +14,8 @@ use Rattle.meaning.specs.Operators.{Checked, ok, refused, when}
 use Rattle.meaning.specs.Rules.{Children, listRule, joined, dictRule, streamed, indexRule}
 use Rattle.types.specs.Table.{Tab, capacity, Wf, denote, Made}
 use Rattle.types.specs.Reading.{perhaps}
-use Rattle.rules.specs.Outcome.{typesNamed, Decides}
+use Rattle.rules.specs.declared.Decision.{Decision}
+use Rattle.rules.specs.Outcome.{typesNamed, decisionCode, decisionNumber, Decides}
 
 -- i is a number of a table that the cells hold
 pub record Known (cs : List ℕ) (i : ℕ) : Type 0 where
@@ -26,24 +27,24 @@ pub record Known (cs : List ℕ) (i : ℕ) : Type 0 where
 -- ---- what a rule gives at node n
 
 -- for the type i
-pub record OfOne (cs : List ℕ) (rule : ℕ → Ty → Checked) (i code number a b : ℕ) : Type 0 where
+pub record OfOne (cs : List ℕ) (rule : ℕ → Ty → Checked) (i : ℕ) (d : Decision) : Type 0 where
   pub says : (ws : List Name) (t : Tab) (n : ℕ) → t.cells ≡ cs → Wf t → i < t.n
-      → Decides ws t (rule n (denote t i)) code n number a b
+      → Decides ws t (rule n (denote t i)) n d
 
 -- for the types i and j
-pub record OfTwo (cs : List ℕ) (rule : ℕ → Ty → Ty → Checked) (i j code number a b : ℕ) : Type 0 where
+pub record OfTwo (cs : List ℕ) (rule : ℕ → Ty → Ty → Checked) (i j : ℕ) (d : Decision) : Type 0 where
   pub says : (ws : List Name) (t : Tab) (n : ℕ) → t.cells ≡ cs → Wf t → i < t.n → j < t.n
-      → Decides ws t (rule n (denote t i) (denote t j)) code n number a b
+      → Decides ws t (rule n (denote t i) (denote t j)) n d
 
 -- for the type i, of which the number alone tells
-pub record OfNumber (rule : ℕ → Ty → Checked) (i code number a b : ℕ) : Type 0 where
-  pub says : (ws : List Name) (t : Tab) (n : ℕ) → Wf t → i < t.n → Decides ws t (rule n (denote t i)) code n number a b
+pub record OfNumber (rule : ℕ → Ty → Checked) (i : ℕ) (d : Decision) : Type 0 where
+  pub says : (ws : List Name) (t : Tab) (n : ℕ) → Wf t → i < t.n → Decides ws t (rule n (denote t i)) n d
 
 -- type i where `wanted` or Unknown is expected: the type `result`, or code c
-pub record Expected (wanted i c result code number a b : ℕ) : Type 0 where
+pub record Expected (wanted i c result : ℕ) (d : Decision) : Type 0 where
   pub says : (ws : List Name) (t : Tab) (n : ℕ) → typesNamed c ≡ 1 → Wf t → i < t.n → wanted < t.n → result < t.n
-      → Decides ws t (when (maybe (denote t wanted) (denote t i)) (denote t result) c n (aType (denote t i) ∷ [])) code n number a b
-  pub codes : (code ≡ 0) ⊎ (code ≡ c)
+      → Decides ws t (when (maybe (denote t wanted) (denote t i)) (denote t result) c n (aType (denote t i) ∷ [])) n d
+  pub codes : (decisionCode d ≡ 0) ⊎ (decisionCode d ≡ c)
 
 -- ---- what the rules of builtins do with the type of one argument
 
@@ -83,21 +84,21 @@ pub record DictStep (k v a b : ℕ) (stop : Bool) (key value : ℕ) : Type 0 whe
 -- ---- Index
 
 -- key type `wanted` and value type `value`: an index of type i
-pub record Keyed (wanted i value code number a b : ℕ) : Type 0 where
+pub record Keyed (wanted i value : ℕ) (d : Decision) : Type 0 where
   pub says : (ws : List Name) (t : Tab) (n : ℕ) → Wf t → wanted < t.n → i < t.n → value < t.n
       → Decides ws t
       (when (maybe (denote t wanted) (denote t i) or same (denote t wanted) unknown) (denote t value) 47 n
       (aType (denote t wanted) ∷ aType (denote t i) ∷ []))
-      code n number a b
-  pub codes : (code ≡ 0) ⊎ (code ≡ 47)
+      n d
+  pub codes : (decisionCode d ≡ 0) ⊎ (decisionCode d ≡ 47)
 
 -- 50 is at the object's node m, and all else at the index's node n
 unfoldable pub indexPlace : ℕ → ℕ → ℕ → ℕ
 indexPlace c m n = if eqb c 50 then m else n
 
-pub record Indexed (cs : List ℕ) (object index code number a b : ℕ) : Type 0 where
+pub record Indexed (cs : List ℕ) (object index : ℕ) (d : Decision) : Type 0 where
   pub says : (ws : List Name) (t : Tab) (m n : ℕ) → t.cells ≡ cs → Wf t → object < t.n → index < t.n
-      → Decides ws t (indexRule m (denote t object) n (denote t index)) code (indexPlace code m n) number a b
+      → Decides ws t (indexRule m (denote t object) n (denote t index)) (indexPlace (decisionCode d) m n) d
 
 -- ---- the second argument of map and filter
 
@@ -123,7 +124,7 @@ pub record Asks (t : Tab) (i : ℕ) : Type 0 where
   pub below : i < t.n
 
 -- u is the table t with the type that the decision gives, or t itself where it gives none
-pub record Streams (t u : Tab) (filters : Bool) (i code number a b : ℕ) : Type 0 where
-  pub says : (ws : List Name) (n : ℕ) → Decides ws u (secondRule filters n (denote t i)) code n number a b
-  pub made : code ≡ 0 → Made t u number (denote u number) 0
-  pub kept : (code ≡ 0 → ⊥) → u ≡ t
+pub record Streams (t u : Tab) (filters : Bool) (i : ℕ) (d : Decision) : Type 0 where
+  pub says : (ws : List Name) (n : ℕ) → Decides ws u (secondRule filters n (denote t i)) n d
+  pub made : decisionCode d ≡ 0 → Made t u (decisionNumber d) (denote u (decisionNumber d)) 0
+  pub kept : (decisionCode d ≡ 0 → ⊥) → u ≡ t

@@ -1,4 +1,4 @@
--- What a decision of four numbers means: the type of a number for code 0, and else a refusal whose message names what a and b stand for.
+-- What a decision means: the type of a number, or a refusal whose message names what its a and b stand for.
 use mathlib.Core.Path.{_≡_}
 use mathlib.Core.List.{List, [], _∷_}
 use Prim.Native.Nat.{ℕ, _≤_, _<_}
@@ -9,6 +9,9 @@ use Rattle.meaning.specs.Message.{Piece, aType, aText, aNumber, refusal}
 use Rattle.meaning.specs.Operators.{Checked, ok, refused}
 use Rattle.meaning.specs.Rules.{described}
 use Rattle.types.specs.Table.{Tab, denote}
+use Rattle.rules.specs.declared.Reason.{Reason}
+use Rattle.rules.specs.declared.Decision.{Decision}
+use Rattle.rules.specs.declared.Decision.the-variants.{«Type» as Typed, Refused}
 
 -- ---- what a message names
 
@@ -39,15 +42,37 @@ pieces ws t c a b =
     ∷ []))
     ((1, aType (denote t a) ∷ []) ∷ (2, aType (denote t a) ∷ aType (denote t b) ∷ []) ∷ [])
 
--- ---- what a decision means: code c at node n
+-- ---- a decision in numbers: code 0 and a type's number, or a code and what its message needs
 
+abbrev pub because : ℕ → ℕ → ℕ → Reason
+because c a b = record { code = c; a = a; b = b }
+
+abbrev pub decisionCode : Decision → ℕ
+decisionCode (Typed n) = 0
+decisionCode (Refused w) = w .code
+
+abbrev pub decisionNumber : Decision → ℕ
+decisionNumber (Typed n) = n
+decisionNumber (Refused w) = 0
+
+abbrev pub decisionFirst : Decision → ℕ
+decisionFirst (Typed n) = 0
+decisionFirst (Refused w) = w .a
+
+abbrev pub decisionSecond : Decision → ℕ
+decisionSecond (Typed n) = 0
+decisionSecond (Refused w) = w .b
+
+-- what these mean at node n
 unfoldable pub decided : List Name → Tab → ℕ → ℕ → ℕ → ℕ → ℕ → Checked
 decided ws t c n number a b = if eqb c 0 then ok (denote t number) else refused (refusal c n (pieces ws t c a b))
 
--- the decision says what r is, its types are numbers of the table, and its counts fit a word
-pub record Decides (ws : List Name) (t : Tab) (r : Checked) (code place number a b : ℕ) : Type 0 where
-  pub says : r ≡ decided ws t code place number a b
-  pub below : code ≡ 0 → number < t.n
-  pub first : 1 ≤ typesNamed code → a < t.n
-  pub second : 2 ≤ typesNamed code → b < t.n
-  pub small : (code ≡ 0 → ⊥) → typesNamed code ≡ 0 → (a < 4294967296) × (b < 4294967296)
+-- at node n the decision says what r is, its types are numbers of the table, its counts fit a word, and a refusal has a code
+pub record Decides (ws : List Name) (t : Tab) (r : Checked) (n : ℕ) (d : Decision) : Type 0 where
+  pub says : r ≡ decided ws t (decisionCode d) n (decisionNumber d) (decisionFirst d) (decisionSecond d)
+  pub below : decisionCode d ≡ 0 → decisionNumber d < t.n
+  pub first : 1 ≤ typesNamed (decisionCode d) → decisionFirst d < t.n
+  pub second : 2 ≤ typesNamed (decisionCode d) → decisionSecond d < t.n
+  pub small : (decisionCode d ≡ 0 → ⊥) → typesNamed (decisionCode d) ≡ 0
+      → (decisionFirst d < 4294967296) × (decisionSecond d < 4294967296)
+  pub coded : (w : Reason) → d ≡ Refused w → w .code ≡ 0 → ⊥

@@ -1,4 +1,5 @@
-// The codes of typing refusals, 20 to 50, in document 01's words. Those that are missing, 29 to 31 and 33 to 35, stand in the operators' table.
+// The codes of typing refusals, 20 to 50, in document 01's words. Those that are missing, 29 to 31 and 33 to 35, are
+// answers of the operators' table: `operators::codes`.
 pub const BREAK: u32 = 20;
 
 pub const CONTINUE: u32 = 21;

@@ -7,12 +7,12 @@ ghost use Rattle.meaning.specs.Decode.{unaryOf, binaryOf};
 ghost use Rattle.meaning.specs.Operators.{unaryRule, binaryRule};
 ghost use Rattle.types.specs.Table.{tab, capacity, denote, Made};
 ghost use Rattle.types.specs.Reading.{IsNumber};
-ghost use Rattle.rules.specs.Outcome.{typesNamed};
-ghost use Rattle.rules.specs.Builtins.{builtinNumber};
-ghost use Rattle.rules.specs.Leaves.{Known, OfOne, OfTwo, OfNumber, Expected, promptRule, sizedRule, boundRule, callableRule, ListStep, JoinedOf, DictStep};
-ghost use Rattle.rules.specs.Leaves.{Keyed, Indexed, StreamedOf, streamType, secondCode, Asks, Streams};
+ghost use Rattle.rules.specs.Outcome.{typesNamed, because};
+ghost use Rattle.rules.specs.Leaves.{Known, OfOne, OfTwo, OfNumber, Expected, Keyed, Indexed};
+ghost use Rattle.rules.specs.Leaves.{promptRule, sizedRule, boundRule, callableRule};
+ghost use Rattle.rules.specs.Leaves.{ListStep, JoinedOf, DictStep};
+ghost use Rattle.rules.specs.Leaves.{StreamedOf, streamType, secondCode, Asks, Streams};
 
-pub mod builtin;
 pub mod codes;
 
 use operators::COMPARE;
@@ -28,14 +28,24 @@ use types::form;
 use types::kind_of;
 use types::part_of;
 use types::second_of;
-use words::same;
 
-// Code 0 and the number of the type, or the code of a refusal and the numbers that its message needs.
-pub struct Decision {
+// A refusal as it is decided: its code and the two numbers that its message needs.
+pub struct Reason {
     pub code: u32,
-    pub number: usize,
     pub a: usize,
     pub b: usize,
+}
+
+// What T's `SemanticResult<Ty>` is here: the number of a type, or why there is none.
+pub enum Decision {
+    Type(usize),
+    Refused(Reason),
+}
+
+fn refused(code: u32, a: usize, b: usize) -> Decision
+    ensures { λ r. ⌜ r ≡ Decision.Refused (because code a b) ⌝ }
+{
+    Decision::Refused(Reason { code, a, b })
 }
 
 // ---- operators
@@ -43,65 +53,35 @@ pub struct Decision {
 pub fn unary(table: &[u16], op: u32, i: usize) -> Decision
     requires { ⌜ op < 3 ⌝ }
     requires { ⌜ Known (now table) i ⌝ }
-    ensures { λ r. ⌜ OfOne (now (table .entry)) (λ n. unaryRule n (unaryOf op)) i (r .code) (r .number) (r .a) (r .b) ⌝ }
+    ensures { λ r. ⌜ OfOne (now (table .entry)) (λ n. unaryRule n (unaryOf op)) i r ⌝ }
 {
     let kind = kind_of(table, i);
     let answer = unary_answer_of(op, kind as u32);
     if answer < COMPARE {
-        return Decision {
-            code: 0,
-            number: answer as usize,
-            a: 0,
-            b: 0,
-        };
+        return Decision::Type(answer as usize);
     }
-    Decision {
-        code: answer,
-        number: 0,
-        a: i,
-        b: 0,
-    }
+    refused(answer, i, 0)
 }
 
 // COMPARE asks whether the whole types are equal: their numbers tell.
 pub fn binary(table: &[u16], op: u32, left: usize, right: usize) -> Decision
     requires { ⌜ op < 14 ⌝ }
     requires { ⌜ (Known (now table) left) × (Known (now table) right) ⌝ }
-    ensures { λ r. ⌜ OfTwo (now (table .entry)) (λ n. binaryRule n (binaryOf op)) left right (r .code) (r .number) (r .a) (r .b) ⌝ }
+    ensures { λ r. ⌜ OfTwo (now (table .entry)) (λ n. binaryRule n (binaryOf op)) left right r ⌝ }
 {
     let l = kind_of(table, left);
     let r = kind_of(table, right);
     let answer = answer_of(op, l as u32, r as u32);
     if answer < COMPARE {
-        return Decision {
-            code: 0,
-            number: answer as usize,
-            a: 0,
-            b: 0,
-        };
+        return Decision::Type(answer as usize);
     }
     if answer > COMPARE {
-        return Decision {
-            code: answer,
-            number: 0,
-            a: left,
-            b: right,
-        };
+        return refused(answer, left, right);
     }
     if left == right {
-        return Decision {
-            code: 0,
-            number: types::BOOL,
-            a: 0,
-            b: 0,
-        };
+        return Decision::Type(types::BOOL);
     }
-    Decision {
-        code: codes::EQUALITY,
-        number: 0,
-        a: left,
-        b: right,
-    }
+    refused(codes::EQUALITY, left, right)
 }
 
 // ---- List and Dict
@@ -185,42 +165,27 @@ pub fn dict_step(k: usize, v: usize, a: usize, b: usize) -> Pair
 
 // Type i where the type `wanted` or Unknown is expected: the type `result`, or the code.
 fn expect(wanted: usize, i: usize, code: u32, result: usize) -> Decision
-    ensures { λ r. ⌜ Expected wanted i code result (r .code) (r .number) (r .a) (r .b) ⌝ }
+    ensures { λ r. ⌜ Expected wanted i code result r ⌝ }
 {
     if i == wanted {
-        return Decision {
-            code: 0,
-            number: result,
-            a: 0,
-            b: 0,
-        };
+        return Decision::Type(result);
     }
     if i == types::UNKNOWN {
-        return Decision {
-            code: 0,
-            number: result,
-            a: 0,
-            b: 0,
-        };
+        return Decision::Type(result);
     }
-    Decision {
-        code,
-        number: 0,
-        a: i,
-        b: 0,
-    }
+    refused(code, i, 0)
 }
 
 // The one argument of `input`.
 pub fn prompt(a: usize) -> Decision
-    ensures { λ r. ⌜ OfNumber promptRule a (r .code) (r .number) (r .a) (r .b) ⌝ }
+    ensures { λ r. ⌜ OfNumber promptRule a r ⌝ }
 {
     expect(types::STRING, a, codes::INPUT, types::STRING)
 }
 
 // An argument of `range`.
 pub fn bound(a: usize) -> Decision
-    ensures { λ r. ⌜ OfNumber boundRule a (r .code) (r .number) (r .a) (r .b) ⌝ }
+    ensures { λ r. ⌜ OfNumber boundRule a r ⌝ }
 {
     expect(types::INT, a, codes::RANGE, types::INT)
 }
@@ -228,7 +193,7 @@ pub fn bound(a: usize) -> Decision
 // The first argument of `map` (code 42) or `filter` (code 44).
 pub fn callable(a: usize, code: u32) -> Decision
     requires { ⌜ typesNamed code ≡ 1 ⌝ }
-    ensures { λ r. ⌜ OfNumber (callableRule code) a (r .code) (r .number) (r .a) (r .b) ⌝ }
+    ensures { λ r. ⌜ OfNumber (callableRule code) a r ⌝ }
 {
     expect(types::FUNCTION, a, code, a)
 }
@@ -238,11 +203,7 @@ fn has_length(kind: usize) -> bool
     ensures { λ r. ⌜ r ≡ isIn kind (0 ∷ 3 ∷ 8 ∷ 9 ∷ 10 ∷ []) ⌝ }
 {
     match kind {
-        types::UNKNOWN => true,
-        types::STRING => true,
-        types::LIST => true,
-        types::DICT => true,
-        types::TUPLE => true,
+        types::UNKNOWN | types::STRING | types::LIST | types::DICT | types::TUPLE => true,
         _ => false,
     }
 }
@@ -250,66 +211,40 @@ fn has_length(kind: usize) -> bool
 // The first argument of `len`.
 pub fn len(table: &[u16], a: usize) -> Decision
     requires { ⌜ a < capacity (now table) ⌝ }
-    ensures { λ r. ⌜ OfOne (now (table .entry)) sizedRule a (r .code) (r .number) (r .a) (r .b) ⌝ }
+    ensures { λ r. ⌜ OfOne (now (table .entry)) sizedRule a r ⌝ }
 {
     let kind = kind_of(table, a);
     if has_length(kind) {
-        return Decision {
-            code: 0,
-            number: types::INT,
-            a: 0,
-            b: 0,
-        };
+        return Decision::Type(types::INT);
     }
-    Decision {
-        code: codes::LEN,
-        number: 0,
-        a,
-        b: 0,
-    }
+    refused(codes::LEN, a, 0)
 }
 
 // ---- Index
 
 // An index of type i into a Dict of keys of type `wanted` and values of type `value`.
 fn key(wanted: usize, i: usize, value: usize) -> Decision
-    ensures { λ r. ⌜ Keyed wanted i value (r .code) (r .number) (r .a) (r .b) ⌝ }
+    ensures { λ r. ⌜ Keyed wanted i value r ⌝ }
 {
-    let taken = Decision {
-        code: 0,
-        number: value,
-        a: 0,
-        b: 0,
-    };
     if i == wanted {
-        return taken;
+        return Decision::Type(value);
     }
     if i == types::UNKNOWN {
-        return taken;
+        return Decision::Type(value);
     }
     if wanted == types::UNKNOWN {
-        return taken;
+        return Decision::Type(value);
     }
-    Decision {
-        code: codes::DICT_KEY,
-        number: 0,
-        a: wanted,
-        b: i,
-    }
+    refused(codes::DICT_KEY, wanted, i)
 }
 
 pub fn index(table: &[u16], object: usize, index: usize) -> Decision
     requires { ⌜ Known (now table) object ⌝ }
-    ensures { λ r. ⌜ Indexed (now (table .entry)) object index (r .code) (r .number) (r .a) (r .b) ⌝ }
+    ensures { λ r. ⌜ Indexed (now (table .entry)) object index r ⌝ }
 {
     let kind = kind_of(table, object);
     match kind {
-        types::UNKNOWN => Decision {
-            code: 0,
-            number: types::UNKNOWN,
-            a: 0,
-            b: 0,
-        },
+        types::UNKNOWN => Decision::Type(types::UNKNOWN),
         types::STRING => expect(types::INT, index, codes::STRING_INDEX, types::STRING),
         types::LIST => expect(types::INT, index, codes::LIST_INDEX, part_of(table, object)),
         types::DICT => key(part_of(table, object), index, second_of(table, object)),
@@ -319,12 +254,7 @@ pub fn index(table: &[u16], object: usize, index: usize) -> Decision
             codes::TUPLE_INDEX,
             common_of(table, object),
         ),
-        _ => Decision {
-            code: codes::NOT_SUBSCRIPTABLE,
-            number: 0,
-            a: object,
-            b: 0,
-        },
+        _ => refused(codes::NOT_SUBSCRIPTABLE, object, 0),
     }
 }
 
@@ -337,11 +267,7 @@ fn streamed_of(table: &[u16], i: usize) -> Perhaps
 {
     let kind = kind_of(table, i);
     match kind {
-        types::DICT => Perhaps {
-            there: false,
-            number: 0,
-        },
-        types::TUPLE => Perhaps {
+        types::DICT | types::TUPLE => Perhaps {
             there: false,
             number: 0,
         },
@@ -391,74 +317,19 @@ pub fn stream(table: &mut [u16], counts: Counts, filters: bool, b: usize) -> Str
         (tab (now (table .exit)) (r .counts .types) (r .counts .elements))
         filters
         b
-        (r .decision .code)
-        (r .decision .number)
-        (r .decision .a)
-        (r .decision .b) ⌝ }
+        (r .decision) ⌝ }
 {
     let element = streamed_of(table, b);
     if element.there {
         let formed = iterator(table, counts, filters, element.number);
         let after = formed.counts;
         return Streamed {
-            decision: Decision {
-                code: 0,
-                number: formed.number,
-                a: 0,
-                b: 0,
-            },
+            decision: Decision::Type(formed.number),
             counts: after,
         };
     }
     Streamed {
-        decision: Decision {
-            code: second_code(filters),
-            number: 0,
-            a: b,
-            b: 0,
-        },
+        decision: refused(second_code(filters), b, 0),
         counts,
     }
-}
-
-// ---- builtins
-
-// The number of the builtin that a text names, 0 for none: "A builtin's rule is chosen by its text, compared byte by byte."
-pub fn builtin_of(text: &[u8]) -> u32
-    ensures { λ r. ⌜ r ≡ builtinNumber (now (text .entry)) ⌝ }
-{
-    if same(text, b"print") {
-        return builtin::PRINT;
-    }
-    if same(text, b"input") {
-        return builtin::INPUT;
-    }
-    if same(text, b"int") {
-        return builtin::INT;
-    }
-    if same(text, b"float") {
-        return builtin::FLOAT;
-    }
-    if same(text, b"bool") {
-        return builtin::BOOL;
-    }
-    if same(text, b"str") {
-        return builtin::STR;
-    }
-    if same(text, b"len") {
-        return builtin::LEN;
-    }
-    if same(text, b"range") {
-        return builtin::RANGE;
-    }
-    if same(text, b"assert") {
-        return builtin::ASSERT;
-    }
-    if same(text, b"map") {
-        return builtin::MAP;
-    }
-    if same(text, b"filter") {
-        return builtin::FILTER;
-    }
-    builtin::NONE
 }

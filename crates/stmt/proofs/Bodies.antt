@@ -1,23 +1,25 @@
 -- The statement of a node, and a Block: what is left of it ends as all of it ends.
 use mathlib.Core.Path.{_≡_, refl, sym, ap, _∙_}
 use mathlib.Core.Bool.{Bool, true, false}
-use mathlib.Core.List.{List, [], _∷_}
-use mathlib.Core.Logic.{_⊎_, inl, inr}
+use mathlib.Core.List.{List}
+use mathlib.Core.Logic.{_⊎_}
 use Prim.Native.Nat.{ℕ, zero, suc, _+_, _-_, _≤_, _<_}
 use native.Mathlib.Omega.{arith}
-use native.Mathlib.Decide.{ℕ-discrete}
 use native.Mathlib.Numerals.{sub-one, add-one}
-use Rattle.meaning.specs.Image.{Name, nodeCount, nodesOf, nodeOf, namesOf, depth}
-use Rattle.meaning.specs.Decode.{stopOf, exprAt, actAt, stmtAt, blockAt, stmtsFrom}
-use Rattle.meaning.specs.Walk.{Setting, State, state, End, done, wrong, tooDeep, onward, walk, act, body}
-use Rattle.meaning.proofs.Decoding.{stmts-down, stmts-none}
+use Rattle.meaning.specs.Image.{nodeCount, nodesOf, nodeOf, namesOf, depth}
+use Rattle.meaning.specs.Decode.{stopOf, stmtAt, blockAt, stmtsFrom}
+use Rattle.meaning.specs.Walk.{Setting, State, onward, walk, body}
+use Rattle.meaning.proofs.Decoding.{stmts-down}
 use Rattle.meaning.proofs.Faults.{Sound}
 use Rattle.types.specs.Table.{Tab, denote}
-use Rattle.frames.specs.Env.{Rows, framesOf}
-use Rattle.expr.specs.Contract.{Ready, At}
-use Rattle.targets.specs.Ending.{ended, Named, Left}
+use Rattle.frames.specs.Env.{Rows}
+use Rattle.image.specs.Parts.{Moved}
+use Rattle.image.specs.declared.Cursor.{Cursor}
+use Rattle.image.specs.declared.Read.{Read}
+use Rattle.image.proofs.Moving.{parent-of}
+use Rattle.expr.specs.Contract.{At}
 use Rattle.stmt.specs.Contract.{stateOf, acted, walkedAt, bodyAt, Standing, Stmt, Bodiless, Within, Fine, Done}
-use Rattle.stmt.proofs.Laws.{ended-done, ended-wrong, was-deep, was-wrong, goes-on, too-deep, named-well, left-refl, fine-trans, fine-wider, done-as, ready-within, ready-next, wide-at, some-depth, within-all, within-le, within-end, within-child, within-at}
+use Rattle.stmt.proofs.Laws.{ended-done, ended-wrong, was-deep, was-wrong, goes-on, too-deep, named-well, left-refl, fine-trans, fine-wider, done-as, ready-within, ready-next, wide-at, some-depth, within-all, within-le, within-child, within-at}
 
 less-one : (n : ℕ) → suc n - 1 ≡ n
 less-one n = sub-one (suc n)
@@ -58,7 +60,7 @@ pub record Loop (bs : List ℕ) (setting : Setting) (nodes : ℕ) (t : Tab) (fs 
   pub answer : bodyAt bs setting loop drops d i (stateOf t fs top ret)
       ≡ body (namesOf bs) setting loop drops (stmtsFrom (nodesOf bs) (λ k. stmtAt (nodesOf bs) (d - 1) k) left j) (stateOf u gs high got)
 
-pub loop-first : {bs : List ℕ} {setting : Setting} {nodes : ℕ} {t : Tab} {fs : Rows} {top ret i d n : ℕ} {st : List ℕ} (loop drops : Bool)
+loop-first : {bs : List ℕ} {setting : Setting} {nodes : ℕ} {t : Tab} {fs : Rows} {top ret i d n : ℕ} {st : List ℕ} (loop drops : Bool)
     → Standing bs nodes fs top t st ret i (stopOf (nodesOf bs) i) → At bs i d → n ≡ nodeOf (nodesOf bs) i .children
     → Loop bs setting nodes t fs top ret i d loop drops t fs top ret st (i + 1) n
 unfolding bodyAt
@@ -73,6 +75,12 @@ loop-first {bs} {setting} {nodes} {t} {fs} {top} {ret} {i} {d} {n} loop drops r 
       fine = record { left = left-refl (r .ready) (omega arith); kept = r .kept; raised = omega arith };
       answer = rw (block-down bs d i o, ← e);
     }
+
+-- the same from the cursor at the first statement
+pub loop-begin : {bs : List ℕ} {setting : Setting} {nodes : ℕ} {t : Tab} {fs : Rows} {top ret d n : ℕ} {st : List ℕ} {c : Cursor} {r : Read} (loop drops : Bool)
+    → Standing bs nodes fs top t st ret (c .at) (stopOf (nodesOf bs) (c .at)) → At bs (c .at) d → Moved bs c r (c .at + 1) → n ≡ r .node .children
+    → Loop bs setting nodes t fs top ret (r .cursor .at - 1) d loop drops t fs top ret st (r .cursor .at) n
+loop-begin loop drops s h m e = rw (parent-of m, m .at) (loop-first loop drops s h (e ∙ ap (λ x. x .children) (m .node)))
 
 module _ {bs : List ℕ} {setting : Setting} {nodes : ℕ} {t u : Tab} {fs gs : Rows} {top ret i d : ℕ} {loop drops : Bool} {high got : ℕ} {su : List ℕ} {j left : ℕ}
     (l : Loop bs setting nodes t fs top ret i d loop drops u gs high got su j left) (p : 0 < left) where

@@ -8,29 +8,33 @@ use native.Mathlib.Omega.{arith}
 use native.Mathlib.Decide.{ℕ-discrete, decLt}
 use native.Mathlib.Numerals.{add-one}
 use borrow.Author.Tests.{lt-ltb, le-ltb}
-use lib.Dec.{eqb, ltb}
+use lib.Dec.{ltb}
 use lib.ListN.{length, getD, replicate, getD-replicate, length-replicate, List·getD-eq-default}
 use Rattle.meaning.specs.Base.{_or_, if_then_else_, choose, isIn, count}
 use Rattle.meaning.specs.Types.{Ty}
-use Rattle.meaning.specs.Tree.{Expr, Stmts, Arms, Arm, on, otherwise, _or-else_, no-arms, place, firstCondition}
+use Rattle.meaning.specs.Tree.{Expr, Stmts, on, otherwise, _or-else_, place, firstCondition}
 use Rattle.meaning.specs.Image.{Name, plain, nameOf, nodeCount, nodesOf, nodeOf, namesOf, depth}
 use Rattle.meaning.specs.Decode.{stopOf, armsFrom, exprAt, blockAt}
-use Rattle.meaning.specs.Message.{Piece, aType, aText, aNumber, refusal}
+use Rattle.meaning.specs.Message.{Piece, aType, aText, aNumber}
 use Rattle.meaning.specs.Frames.{Frames}
-use Rattle.meaning.specs.Walk.{Setting, dropping, State, state, End, done, wrong, tooDeep, refuse, _>>=_, onCopy, condition, act, arm, branches}
+use Rattle.meaning.specs.Walk.{Setting, dropping, State, state, End, done, wrong, tooDeep, _>>=_, onCopy, act, arm, branches}
 use Rattle.meaning.proofs.Decoding.{if-at, arms-down}
 use Rattle.meaning.proofs.Faults.{Sound}
-use Rattle.types.specs.Table.{Tab, tab, Grown, denote}
-use Rattle.frames.specs.Env.{Rows, slot, framesOf, Fit, Noted, settleName, settle, mergeCode, clashName, mergeEnd, Committed}
+use Rattle.types.specs.Table.{Tab, tab, denote}
+use Rattle.frames.specs.Env.{Rows, slot, framesOf, Noted, settleName, settle, mergeCode, clashName, mergeEnd, Committed}
 use Rattle.frames.specs.declared.Merge.{Merge}
 use Rattle.frames.specs.declared.Merge.the-variants.{Whole, Clash}
-use Rattle.frames.proofs.Laws.{frames-grown, fit-grown}
+use Rattle.frames.proofs.Laws.{frames-grown}
 use Rattle.frames.proofs.Merging.{Tally, tally-none, tally-grown, tally-next, merged}
 use Rattle.rules.specs.Outcome.{typesNamed, pieces}
+use Rattle.image.specs.Parts.{Moved}
+use Rattle.image.specs.declared.Cursor.{Cursor}
+use Rattle.image.specs.declared.Read.{Read}
+use Rattle.image.proofs.Moving.{parent-of}
 use Rattle.expr.specs.Contract.{Ready, At}
 use Rattle.targets.specs.Ending.{ended, Named, Left, Assigned}
-use Rattle.stmt.specs.Contract.{stateOf, acted, bodyAt, conditionAt, armBlock, armedAt, Standing, Stmt, Branch, Within, Fine, Done}
-use Rattle.stmt.proofs.Laws.{ended-done, ended-wrong, was-done, was-deep, was-wrong, too-deep, named-well, left-refl, left-trans, left-wider, left-rows, done-as, done-wider, ready-within, ready-next, place-at, wide-at, within-all, within-le, within-end, within-child, within-at, count-if}
+use Rattle.stmt.specs.Contract.{stateOf, acted, bodyAt, conditionAt, armBlock, armedAt, Standing, Stmt, Branch, Within, Done}
+use Rattle.stmt.proofs.Laws.{ended-done, ended-wrong, was-done, was-deep, was-wrong, too-deep, named-well, left-refl, left-trans, left-wider, left-rows, done-as, ready-within, ready-next, place-at, wide-at, within-all, within-le, within-child, within-at, count-if}
 
 -- ---- one branch
 
@@ -177,7 +181,7 @@ first-condition : (bs : List ℕ) (e : ℕ → Expr) (b : ℕ → Stmts) (n i : 
 unfolding firstCondition
 first-condition bs e b n i p = rw (arms-down (nodesOf bs) e b n i p)
 
-pub choosing-first : {bs : List ℕ} {setting : Setting} {nodes : ℕ} {t : Tab} {fs : Rows} {top : ℕ} {st : List ℕ} {ret i d n : ℕ} (loop : Bool)
+choosing-first : {bs : List ℕ} {setting : Setting} {nodes : ℕ} {t : Tab} {fs : Rows} {top : ℕ} {st : List ℕ} {ret i d n : ℕ} (loop : Bool)
     → Standing bs nodes fs top t st ret i (stopOf (nodesOf bs) i) → Stmt bs i d 8 → n ≡ nodeOf (nodesOf bs) i .children
     → Choosing bs setting nodes t fs top ret i d loop t ret st (replicate 128 0) (replicate 128 false) (i + 1) n
 unfolding acted act armsFrom
@@ -201,6 +205,15 @@ choosing-first {bs} {setting} {nodes} {t} {fs} {top} {st} {ret} {i} {d} {n} loop
         place-at bs d (i + 1),
       );
     }
+
+-- the same from the cursor at the first condition
+pub choosing-begin : {bs : List ℕ} {setting : Setting} {nodes : ℕ} {t : Tab} {fs : Rows} {top : ℕ} {st : List ℕ} {ret d n : ℕ} {c : Cursor} {q : Read} (loop : Bool)
+    → Standing bs nodes fs top t st ret (c .at) (stopOf (nodesOf bs) (c .at)) → Stmt bs (c .at) d 8 → Moved bs c q (c .at + 1) → n ≡ q .node .children
+    → Choosing bs setting nodes t fs top ret (q .cursor .at - 1) d loop t ret st (replicate 128 0) (replicate 128 false) (q .cursor .at) n
+choosing-begin loop s h m e = rw (parent-of m, m .at) (choosing-first loop s h (e ∙ ap (λ x. x .children) (m .node)))
+
+pub first-place : {bs : List ℕ} {c : Cursor} {q : Read} → Moved bs c q (c .at + 1) → q .cursor .at ≡ q .cursor .at - 1 + 1
+first-place m = omega (arith, m .at)
 
 module _ {bs : List ℕ} {setting : Setting} {nodes : ℕ} {t : Tab} {fs : Rows} {top ret i d : ℕ} {loop : Bool} {u : Tab} {got : ℕ} {su ms : List ℕ} {cs : List Bool} {j left : ℕ}
     (l : Choosing bs setting nodes t fs top ret i d loop u got su ms cs j left) (p : 0 < left) where

@@ -1,28 +1,37 @@
 -- The notes: what the walk's stores leave of them, and ends that are told by them.
 use mathlib.Core.Path.{_≡_, refl, sym, ap, _∙_}
 use mathlib.Core.Bool.{Bool, true, false}
-use mathlib.Core.List.{List, [], _∷_}
+use mathlib.Core.List.{List}
+use mathlib.Core.Logic.{_⊎_, inl, inr}
+use denote.Enum.Declared.{tagOf}
 use Prim.Native.Nat.{ℕ, _-_, _≤_, _<_}
 use native.Mathlib.Omega.{arith}
-use borrow.Author.Tests.{eq-eqb}
-use lib.ListN.{length, getD, set, length-set}
+use native.Mathlib.Decide.{ℕ-discrete}
+use lib.ListN.{length, set, length-set}
 use lib.Seq.{getD-set-same, getD-set-other}
 use Rattle.meaning.specs.Base.{if_then_else_}
 use Rattle.meaning.specs.Types.{Ty}
-use Rattle.meaning.specs.Image.{Name, nodeCount}
+use Rattle.meaning.specs.Image.{Name, nodeCount, nodesFrom}
 use Rattle.meaning.specs.Operators.{Checked}
 use Rattle.meaning.specs.Walk.{Setting, End}
 use Rattle.meaning.proofs.Faults.{Sound}
 use Rattle.types.specs.Table.{Tab, tab}
-use Rattle.types.specs.Reading.{Agreement, ElementOf}
+use Rattle.types.specs.Reading.{Agreement}
 use Rattle.frames.specs.Env.{Rows}
-use Rattle.nodes.specs.Notes.{typesIn, elementsIn, codeIn, placeIn, firstIn, secondIn, retIn, topIn, tabIn, verdict, Noting, Kept, Refused}
-use Rattle.nodes.proofs.Noting.{number-well, went-well, refused-verdict, refused-kept}
-use Rattle.expr.specs.Contract.{Ready, At}
-use Rattle.expr.specs.Contract.{Done as Typed}
+use Rattle.state.specs.declared.Typed.{Typed}
+use Rattle.state.specs.declared.Typed.the-variants as typed
+use Rattle.state.specs.declared.Outcome.{Outcome}
+use Rattle.state.specs.declared.Outcome.the-variants as outcome
+use Rattle.state.specs.Notes.{typesIn, elementsIn, codeIn, placeIn, firstIn, secondIn, retIn, topIn, tabIn, Noting, Kept, Refused}
+use Rattle.state.specs.Answer.{typedCode, numberOf, codeOf, Settled}
+use Rattle.state.proofs.Noting.{settled-well, settled-ill, settled-err}
+use Rattle.expr.specs.Contract.{Done as Checks}
 use Rattle.targets.specs.Ending.{Assigned}
-use Rattle.stmt.specs.Contract.{stateOf, acted, walkedAt, bodyAt, armedAt, Tells, Outside, Standing, Done, Iterated, Ran}
-use Rattle.stmt.proofs.Laws.{never, few-nodes, done-any}
+use Rattle.stmt.specs.declared.End.{End as Answer}
+use Rattle.stmt.specs.declared.End.the-variants as answer
+use Rattle.stmt.proofs.End.{the-type}
+use Rattle.stmt.specs.Contract.{stateOf, acted, walkedAt, bodyAt, armedAt, endCode, endOf, Tells, Standing, Stmt, Done, Iterated, Ran}
+use Rattle.stmt.proofs.Laws.{few-nodes, done-any, ready-nodes}
 
 -- ---- stores to the cells of the return type and the newest frame
 
@@ -99,53 +108,125 @@ top-down n = top-set n refl
 pub tab-moved : {ns ms : List ℕ} → Moved ns ms → (cells : List ℕ) → tabIn cells ms ≡ tabIn cells ns
 tab-moved m cells = rw (m .types, m .elements)
 
-pub tab-refused : {ns ms : List ℕ} {q code place a b : ℕ} → Refused ns ms q code place a b → (cells : List ℕ) → tabIn cells ms ≡ tabIn cells ns
-tab-refused f cells = rw (f .types-kept, f .elements-kept)
+-- ---- the answers
 
-pub tab-outside : {ns ms : List ℕ} {loop : Bool} {code i r : ℕ} → Outside ns ms loop code i r → (cells : List ℕ) → tabIn cells ms ≡ tabIn cells ns
-tab-outside f cells = rw (f .types, f .elements)
+answer-told : Answer → ℕ
+answer-told answer.Done = 0
+answer-told answer.Wrong = 1
+answer-told answer.TooDeep = 2
 
-pub verdict-moved : {ns ms : List ℕ} → Moved ns ms → (r : ℕ) → verdict r ms ≡ verdict r ns
-unfolding verdict
-verdict-moved m r = rw (m .coded)
+pub done-apart : {A : Type 0} → answer.Done ≡ answer.Wrong → A
+unfolding answer-told
+done-apart e = let z : _≡_ {A = ℕ} 0 1 = ap answer-told e in absurd (omega arith)
 
-pub verdict-zero : (ms : List ℕ) → verdict 0 ms ≡ 0
-verdict-zero ms = number-well 0 ms (omega arith)
+pub deep-apart : {A : Type 0} → answer.TooDeep ≡ answer.Wrong → A
+unfolding answer-told
+deep-apart e = let z : _≡_ {A = ℕ} 2 1 = ap answer-told e in absurd (omega arith)
+
+pub end-well : {e : Answer} (ms : List ℕ) → e ≡ answer.Done → endCode e ms ≡ 0
+end-well ms o = rw o
+
+pub end-deep : {e : Answer} (ms : List ℕ) → e ≡ answer.TooDeep → endCode e ms ≡ 9
+end-deep ms o = rw o
+
+pub end-ill : {e : Answer} {ms : List ℕ} → Tells ms (e ≡ answer.Wrong) → e ≡ answer.Wrong → endCode e ms ≡ 0 → ⊥
+end-ill k o z = k .coded o (rw o at z)
+
+-- no Def was too deep
+pub end-typing : {e : Answer} {ms : List ℕ} → Tells ms (e ≡ answer.Wrong) → e ≡ answer.Wrong → endCode e ms ≡ 9 → ⊥
+end-typing k o z = k .typing o (rw o at z)
+
+pub end-shallow : {e : Answer} (ms : List ℕ) → e ≡ answer.Done → endCode e ms ≡ 9 → ⊥
+end-shallow ms o z = let w : _≡_ {A = ℕ} 0 9 = rw o at z in absurd (omega arith)
+
+-- it was one of the other two
+pub end-other : (e : Answer) {ms : List ℕ} → Tells ms (e ≡ answer.Wrong) → (tagOf the-type e ≡ 1) ⊎ (tagOf the-type e ≡ 2) → endCode e ms ≡ 0 → ⊥
+end-other answer.Done k (inl p) z = absurd (omega arith)
+end-other answer.Done k (inr p) z = absurd (omega arith)
+end-other answer.Wrong k p z = k .coded refl z
+end-other answer.TooDeep k p z = absurd (omega arith)
+
+end-moved : {ns ms : List ℕ} → Moved ns ms → (e : Answer) → endCode e ms ≡ endCode e ns
+end-moved m answer.Done = refl
+end-moved m answer.Wrong = m .coded
+end-moved m answer.TooDeep = refl
+
+-- the answer of a statement that cannot need a frame
+
+end-same : (o : Outcome) (ms : List ℕ) → endCode (endOf o) ms ≡ codeOf o ms
+end-same outcome.Ok ms = refl
+end-same outcome.Err ms = refl
+
+end-wrong : (o : Outcome) → endOf o ≡ answer.Wrong → o ≡ outcome.Err
+end-wrong outcome.Ok z = done-apart z
+end-wrong outcome.Err z = refl
 
 -- ---- what is told
 
-pub tells-kept : {ns ms : List ℕ} {r : ℕ} → Kept ns ms r → Tells ms r
-tells-kept k = record { noting = record { long = k .long }; refuses = k .refuses }
+pub tells-ok : {ms : List ℕ} {E : Type 0} → Noting ms → (E → ⊥) → Tells ms E
+tells-ok n z = record { noting = n; coded = λ e. absurd (z e); typing = λ e. absurd (z e) }
 
-pub tells-zero : {ms : List ℕ} → Noting ms → Tells ms 0
-tells-zero n = record { noting = n; refuses = λ e z. omega arith }
+pub tells-kept : {ns ms : List ℕ} {E : Type 0} → Kept ns ms E → (E → codeIn ms ≡ 9 → ⊥) → Tells ms E
+tells-kept k f = record { noting = record { long = k .long }; coded = k .coded; typing = f }
 
-pub tells-moved : {ns ms : List ℕ} {r : ℕ} → Moved ns ms → Tells ns r → Tells ms r
-tells-moved m k = record { noting = record { long = m .long }; refuses = λ e z. k .refuses e (sym (m .coded) ∙ z) }
+-- by an answer that cannot need a frame
+pub tells-typing : {ns ms : List ℕ} {o : Outcome} → Kept ns ms (o ≡ outcome.Err) → (codeOf o ms ≡ 9 → ⊥) → Tells ms (o ≡ outcome.Err)
+tells-typing k f = tells-kept k (λ e z. f (rw e z))
 
--- by itself
-pub tells-self : {ms : List ℕ} {r : ℕ} → Tells ms r → Kept ms ms r
-tells-self k = record { long = k .noting .long; ret = refl; top = refl; refuses = k .refuses }
+pub tells-refused : {ns ms : List ℕ} {code place a b : ℕ} {E : Type 0} → (code ≡ 0 → ⊥) → (code ≡ 9 → ⊥) → Refused ns ms code place a b → Tells ms E
+tells-refused z n f = record {
+  noting = record { long = f .long };
+  coded = λ e o. z (sym (f .coded) ∙ o);
+  typing = λ e o. n (sym (f .coded) ∙ o);
+}
 
--- code 9, and any other
-pub tells-deep : {ms : List ℕ} {r : ℕ} → Tells ms r → r ≡ 65535 → codeIn ms ≡ 9 → verdict r ms ≡ 9
-unfolding verdict if_then_else_
-tells-deep {r = r} k e z = rw (eq-eqb r 65535 e) z
+tells-as : {ms : List ℕ} {D E : Type 0} → (E → D) → Tells ms D → Tells ms E
+tells-as f k = record { noting = k .noting; coded = λ e. k .coded (f e); typing = λ e. k .typing (f e) }
 
-pub tells-shallow : {ms : List ℕ} {r : ℕ} → Tells ms r → r ≡ 65535 → (codeIn ms ≡ 9 → ⊥) → verdict r ms ≡ 9 → ⊥
-unfolding verdict if_then_else_
-tells-shallow {r = r} k e n z = n (rw (eq-eqb r 65535 e) at z)
+pub tells-end : {ms : List ℕ} {o : Outcome} {e : Answer} → e ≡ endOf o → Tells ms (o ≡ outcome.Err) → Tells ms (e ≡ answer.Wrong)
+tells-end {o = o} q k = tells-as (λ z. end-wrong o (sym q ∙ z)) k
 
-pub well-shallow : {ms : List ℕ} {r : ℕ} → Tells ms r → (r ≡ 65535 → ⊥) → verdict r ms ≡ 9 → ⊥
-well-shallow k n z = let o = went-well (tells-self k) n in absurd (omega arith)
+pub tells-moved : {ns ms : List ℕ} {E : Type 0} → Moved ns ms → Tells ns E → Tells ms E
+tells-moved m k = record {
+  noting = record { long = m .long };
+  coded = λ e z. k .coded e (sym (m .coded) ∙ z);
+  typing = λ e z. k .typing e (sym (m .coded) ∙ z);
+}
 
-pub tells-code : {ms : List ℕ} {r : ℕ} → Tells ms r → r ≡ 65535 → codeIn ms ≡ verdict r ms
-unfolding verdict if_then_else_
-tells-code {r = r} k e = rw (eq-eqb r 65535 e)
+-- ---- an answer by cases
+
+-- an expression has a type, or is refused
+pub checks-ok : {ws : List Name} {c : Checked} {t u : Tab} {st su : List ℕ} {sp i e M place a b n : ℕ} (ms : List ℕ) {q : Typed} → q ≡ typed.Ok n
+    → Checks ws c t u st su sp i e M (typedCode q ms) place (numberOf q) a b → Checks ws c t u st su sp i e M 0 place n a b
+checks-ok ms o d = rw o at d
+
+pub checks-err : {ws : List Name} {c : Checked} {t u : Tab} {st su : List ℕ} {sp i e M place a b : ℕ} (ms : List ℕ) {q : Typed} → q ≡ typed.Err
+    → Checks ws c t u st su sp i e M (typedCode q ms) place (numberOf q) a b → Checks ws c t u st su sp i e M (codeIn ms) place 0 a b
+checks-err ms o d = rw o at d
+
+pub assigned-ok : {ws : List Name} {r : Ty → End} {t u : Tab} {gs : Rows} {top : ℕ} {su : List ℕ} {i e M place a b : ℕ} (ms : List ℕ) {o : Outcome} → o ≡ outcome.Ok
+    → Assigned ws r t u gs top su i e M (codeOf o ms) place a b → Assigned ws r t u gs top su i e M 0 place a b
+assigned-ok ms o d = rw o at d
+
+pub assigned-err : {ws : List Name} {r : Ty → End} {t u : Tab} {gs : Rows} {top : ℕ} {su : List ℕ} {i e M place a b : ℕ} (ms : List ℕ) {o : Outcome} → o ≡ outcome.Err
+    → Assigned ws r t u gs top su i e M (codeOf o ms) place a b → Assigned ws r t u gs top su i e M (codeIn ms) place a b
+assigned-err ms o d = rw o at d
+
+pub iterated-ok : {bs : List ℕ} {d : ℕ} {t u : Tab} {fs : Rows} {top : ℕ} {su : List ℕ} {i e M place a b n : ℕ} (ms : List ℕ) {q : Typed} → q ≡ typed.Ok n
+    → Iterated bs d t u fs top su i e M (typedCode q ms) place (numberOf q) a b → Iterated bs d t u fs top su i e M 0 place n a b
+iterated-ok ms o d = rw o at d
+
+pub iterated-err : {bs : List ℕ} {d : ℕ} {t u : Tab} {fs : Rows} {top : ℕ} {su : List ℕ} {i e M place a b : ℕ} (ms : List ℕ) {q : Typed} → q ≡ typed.Err
+    → Iterated bs d t u fs top su i e M (typedCode q ms) place (numberOf q) a b → Iterated bs d t u fs top su i e M (codeIn ms) place 0 a b
+iterated-err ms o d = rw o at d
+
+pub done-end : {ws : List Name} {r : End} {t u : Tab} {gs : Rows} {top high ret : ℕ} {su : List ℕ} {i e M place a b : ℕ} {ms : List ℕ} {o : Outcome} {q : Answer} → Tells ms (o ≡ outcome.Err) → q ≡ endOf o
+    → Done ws r t u gs top high ret su i e M (codeOf o ms) place a b → Done ws r t u gs top high ret su i e M (endCode q ms) place a b
+done-end {ms = ms} {o} k p d = rw (p, end-same o ms) d
 
 -- ---- numbers of the table fit a word
 
-module _ {ws : List Name} {c : Checked} {t u : Tab} {st su : List ℕ} {sp i e M code place number a b : ℕ} (d : Typed ws c t u st su sp i e M code place number a b) where
+module _ {ws : List Name} {c : Checked} {t u : Tab} {st su : List ℕ} {sp i e M code place number a b : ℕ} (d : Checks ws c t u st su sp i e M code place number a b) where
   -- the number of a value
   pub small-type : code ≡ 0 → number < 4294967296
   small-type z = omega (arith, d .below z, d .fine .grown .wf .room, d .fine .grown .wf .most)
@@ -159,12 +240,9 @@ module _ {ws : List Name} {c : Checked} {t u : Tab} {st su : List ℕ} {sp i e M
       let m : ret < u.n = omega (arith, h, d .fine .grown .more) in
       omega (arith, o .below u m (d .below z), d .fine .grown .wf .room, d .fine .grown .wf .most)
 
-  pub element-small : {got : ℕ} {there : Bool} → code ≡ 0 → ElementOf u.cells number there got → got < 65535
-  element-small z o = omega (arith, o .below u refl (d .fine .grown .wf) (d .below z), d .fine .grown .wf .room, d .fine .grown .wf .most)
-
 -- ---- the same with equal numbers
 
-pub refused-from : {ns ms : List ℕ} {q code place a b x : ℕ} → a ≡ x → Refused ns ms q code place a b → Refused ns ms q code place x b
+pub refused-from : {ns ms : List ℕ} {code place a b x : ℕ} → a ≡ x → Refused ns ms code place a b → Refused ns ms code place x b
 refused-from e f = rw e at f
 
 pub small-node : {bs : List ℕ} {i : ℕ} → Sound bs → i < nodeCount bs → i < 4294967296
@@ -173,12 +251,20 @@ small-node s h = omega (arith, few-nodes s)
 pub agreement-from : {w ret number got : ℕ} {there : Bool} → w ≡ ret → Agreement w number there got → Agreement ret number there got
 agreement-from e a = rw e at a
 
-pub ready-top : {bs : List ℕ} {nodes : ℕ} {fs : Rows} {top w : ℕ} {t : Tab} {st : List ℕ} {i e : ℕ} → w ≡ top → Ready bs nodes fs top t st 0 i e → Ready bs nodes fs w t st 0 i e
-ready-top o r = rw o r
-
 pub standing-as : {bs : List ℕ} {nodes : ℕ} {fs : Rows} {top w : ℕ} {t u : Tab} {st : List ℕ} {ret got i e : ℕ}
     → u ≡ t → w ≡ top → got ≡ ret → Standing bs nodes fs top t st ret i e → Standing bs nodes fs w u st got i e
 standing-as o p q r = rw (o, p, q) r
+
+pub standing-nodes : {bs : List ℕ} {nodes from : ℕ} {fs : Rows} {top : ℕ} {t : Tab} {st : List ℕ} {ret i e : ℕ}
+    → from ≡ nodesFrom bs → Standing bs nodes fs top t st ret i e → Standing bs from fs top t st ret i e
+standing-nodes o r = record { ready = ready-nodes o (r .ready); kept = r .kept }
+
+-- at an equal node
+pub stmt-at : {bs : List ℕ} {i j d k : ℕ} → j ≡ i → Stmt bs i d k → Stmt bs j d k
+stmt-at o q = rw o q
+
+pub refused-at : {ns ms : List ℕ} {code place a b x : ℕ} → place ≡ x → Refused ns ms code place a b → Refused ns ms code x a b
+refused-at e f = rw e at f
 
 pub done-ends : {ws : List Name} {r : End} {t u v : Tab} {gs : Rows} {top high peak ret got : ℕ} {su : List ℕ} {i e M code place a b : ℕ}
     → v ≡ u → peak ≡ high → got ≡ ret → Done ws r t u gs top high ret su i e M code place a b → Done ws r t v gs top peak got su i e M code place a b
@@ -217,52 +303,64 @@ ran-as l o p q x y z w r = rw (o, p, q, x, y, z, w) r
 -- ---- an end is told by other notes
 
 module _ {ns ms : List ℕ} (m : Moved ns ms) where
-  pub done-moved : {ws : List Name} {r : End} {t : Tab} {cells : List ℕ} {gs : Rows} {top high peak ret got : ℕ} {su : List ℕ} {i e M : ℕ} (q : ℕ)
-      → peak ≡ high → got ≡ ret → Done ws r t (tabIn cells ns) gs top high ret su i e M (verdict q ns) (placeIn ns) (firstIn ns) (secondIn ns)
-      → Done ws r t (tabIn cells ms) gs top peak got su i e M (verdict q ms) (placeIn ms) (firstIn ms) (secondIn ms)
-  done-moved q o p d = rw (o, p, m .types, m .elements, verdict-moved m q, m .placed, m .first, m .second) d
+  pub done-moved : {ws : List Name} {r : End} {t : Tab} {cells : List ℕ} {gs : Rows} {top high peak ret got : ℕ} {su : List ℕ} {i e M : ℕ} {q : Answer} → Tells ns (q ≡ answer.Wrong)
+      → peak ≡ high → got ≡ ret → Done ws r t (tabIn cells ns) gs top high ret su i e M (endCode q ns) (placeIn ns) (firstIn ns) (secondIn ns)
+      → Done ws r t (tabIn cells ms) gs top peak got su i e M (endCode q ms) (placeIn ms) (firstIn ms) (secondIn ms)
+  done-moved {q = q} k o p d = rw (o, p, m .types, m .elements, end-moved m q, m .placed, m .first, m .second) d
 
-module _ {ns ms : List ℕ} {q code place a b : ℕ} (f : Refused ns ms q code place a b) (h : place < 4294967296) (h₁ : a < 4294967296) (h₂ : b < 4294967296) where
+module _ {ns ms : List ℕ} {code place a b : ℕ} (f : Refused ns ms code place a b) (h : place < 4294967296) (h₁ : a < 4294967296) (h₂ : b < 4294967296) where
+  pub done-noted : {ws : List Name} {r : End} {t : Tab} {cells : List ℕ} {gs : Rows} {top high peak ret got : ℕ} {su : List ℕ} {i e M : ℕ}
+      → peak ≡ high → got ≡ ret → Done ws r t (tabIn cells ns) gs top high ret su i e M code place a b
+      → Done ws r t (tabIn cells ms) gs top peak got su i e M code (placeIn ms) (firstIn ms) (secondIn ms)
+  done-noted o p d = rw (o, p, f .types-kept, f .elements-kept, f .placed h, f .first h₁, f .second h₂) d
+
   pub done-refused : {ws : List Name} {r : End} {t : Tab} {cells : List ℕ} {gs : Rows} {top high peak ret got : ℕ} {su : List ℕ} {i e M : ℕ}
       → peak ≡ high → got ≡ ret → Done ws r t (tabIn cells ns) gs top high ret su i e M code place a b
-      → Done ws r t (tabIn cells ms) gs top peak got su i e M (verdict q ms) (placeIn ms) (firstIn ms) (secondIn ms)
-  done-refused o p d = rw (o, p, f .types-kept, f .elements-kept, refused-verdict f, f .placed h, f .first h₁, f .second h₂) d
+      → Done ws r t (tabIn cells ms) gs top peak got su i e M (codeIn ms) (placeIn ms) (firstIn ms) (secondIn ms)
+  done-refused o p d = rw (f .coded) (done-noted o p d)
 
   pub assigned-refused : {ws : List Name} {r : Ty → End} {t : Tab} {cells : List ℕ} {gs : Rows} {top : ℕ} {su : List ℕ} {i e M : ℕ}
       → Assigned ws r t (tabIn cells ns) gs top su i e M code place a b
-      → Assigned ws r t (tabIn cells ms) gs top su i e M (verdict q ms) (placeIn ms) (firstIn ms) (secondIn ms)
-  assigned-refused d = rw (f .types-kept, f .elements-kept, refused-verdict f, f .placed h, f .first h₁, f .second h₂) d
+      → Assigned ws r t (tabIn cells ms) gs top su i e M (codeIn ms) (placeIn ms) (firstIn ms) (secondIn ms)
+  assigned-refused d = rw (f .types-kept, f .elements-kept, f .coded, f .placed h, f .first h₁, f .second h₂) d
 
   pub iterated-refused : {bs : List ℕ} {d : ℕ} {t : Tab} {cells : List ℕ} {fs : Rows} {top : ℕ} {su : List ℕ} {i e M number : ℕ}
       → Iterated bs d t (tabIn cells ns) fs top su i e M code place number a b
-      → (code ≡ 0 → ⊥) → Iterated bs d t (tabIn cells ms) fs top su i e M (verdict q ms) (placeIn ms) q (firstIn ms) (secondIn ms)
-  iterated-refused i z =
-      rw (f .types-kept, f .elements-kept, refused-verdict f, f .placed h, f .first h₁, f .second h₂)
-      (record { well = λ x. absurd (z x); ill = i .ill; below = λ x. absurd (z x); named = i .named; left = i .left; typing = i .typing })
+      → Iterated bs d t (tabIn cells ms) fs top su i e M (codeIn ms) (placeIn ms) number (firstIn ms) (secondIn ms)
+  iterated-refused d = rw (f .types-kept, f .elements-kept, f .coded, f .placed h, f .first h₁, f .second h₂) d
 
 -- ---- Break and Continue
 
-pub outside-well : {ns : List ℕ} {loop : Bool} {code i : ℕ} → Noting ns → loop ≡ true → Outside ns ns loop code i 0
-outside-well {ns} n e = record {
-  kept = record { long = n .long; ret = refl; top = refl; refuses = λ o z. omega arith };
-  types = refl;
-  elements = refl;
-  well = λ _. verdict-zero ns;
-  ill = λ o. never (sym o ∙ e);
-}
-
-pub outside-ill : {ns ms : List ℕ} {loop : Bool} {code i r : ℕ} → i < 2048 → (code ≡ 0 → ⊥) → loop ≡ false → Refused ns ms r code i 0 0 → Outside ns ms loop code i r
-outside-ill h z e f = record {
-  kept = refused-kept z f;
-  types = f .types-kept;
-  elements = f .elements-kept;
-  well = λ o. never (sym e ∙ o);
-  ill = λ _. (refused-verdict f, f .placed (omega arith), f .first (omega arith), f .second (omega arith));
-}
-
-pub outside-done : {ws : List Name} {x : End} {t u : Tab} {gs : Rows} {top high ret : ℕ} {su : List ℕ} {i e M : ℕ} (loop : Bool) (c : ℕ) {code place a b : ℕ}
-    → (loop ≡ true → code ≡ 0) → (loop ≡ false → (code ≡ c) × (place ≡ i) × (a ≡ 0) × (b ≡ 0))
-    → Done ws x t u gs top high ret su i e M (if loop then 0 else c) i 0 0 → Done ws x t u gs top high ret su i e M code place a b
+pub outside-well : {ns : List ℕ} (loop : Bool) (code : ℕ) {i : ℕ} → loop ≡ true → Settled ns ns outcome.Ok (if loop then 0 else code) i 0 0
 unfolding if_then_else_
-outside-done true c p q d = done-any refl (p refl) d
-outside-done false c p q d = let o = q refl in rw (o .0, o .1, o .2, o .3) d
+outside-well loop code e = rw e settled-well
+
+pub outside-ill : {ns ms : List ℕ} (loop : Bool) {code i : ℕ} → (code ≡ 0 → ⊥) → loop ≡ false → Refused ns ms code i 0 0
+    → Settled ns ms outcome.Err (if loop then 0 else code) i 0 0
+unfolding if_then_else_
+outside-ill loop z e f = rw e (settled-ill z f)
+
+outside-typing : (loop : Bool) (code : ℕ) → (code ≡ 9 → ⊥) → (if loop then 0 else code) ≡ 9 → ⊥
+unfolding if_then_else_
+outside-typing true code n z = absurd (omega arith)
+outside-typing false code n z = n z
+
+module _ {ns ms : List ℕ} {o : Outcome} {code place : ℕ} (s : Settled ns ms o code place 0 0) where
+  -- the statement ended as it was decided
+  pub done-settled : {ws : List Name} {r : End} {t : Tab} {cells : List ℕ} {gs : Rows} {top : ℕ} {su : List ℕ} {i e M : ℕ} → place < 4294967296
+      → Done ws r t (tabIn cells ns) gs top (topIn ns) (retIn ns) su i e M code place 0 0
+      → Done ws r t (tabIn cells ms) gs top (topIn ms) (retIn ms) su i e M (codeOf o ms) (placeIn ms) (firstIn ms) (secondIn ms)
+  done-settled h d = elim (ℕ-discrete code 0) [
+    | yes z ↦ rw (s .well z .0, s .well z .1) (done-any z refl d)
+    | no z ↦ let f = s .ill z .1 in rw (s .ill z .0) (done-refused f h (omega arith) (omega arith) (f .top) (f .ret) d)
+  ]
+
+  tells-settled : Noting ns → (code ≡ 9 → ⊥) → Tells ms (o ≡ outcome.Err)
+  tells-settled n y = elim (ℕ-discrete code 0) [
+    | yes z ↦ rw (s .well z .1) (tells-ok n (λ e. settled-err s e z))
+    | no z ↦ tells-refused z y (s .ill z .1)
+  ]
+
+pub tells-outside : {ns ms : List ℕ} {o : Outcome} (loop : Bool) (code : ℕ) {place : ℕ} → Settled ns ms o (if loop then 0 else code) place 0 0 → Noting ns
+    → (code ≡ 9 → ⊥) → Tells ms (o ≡ outcome.Err)
+tells-outside loop code s n y = tells-settled s n (outside-typing loop code y)

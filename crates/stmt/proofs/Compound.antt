@@ -1,38 +1,34 @@
 -- While, For and Def.
-use mathlib.Core.Path.{_≡_, refl, sym, ap, _∙_}
+use mathlib.Core.Path.{_≡_, refl, sym, _∙_}
 use mathlib.Core.Bool.{Bool, true, false}
-use mathlib.Core.List.{List, [], _∷_, tail}
-use mathlib.Core.Option.{some, none}
+use mathlib.Core.List.{List, _∷_}
 use Prim.Native.Nat.{ℕ, zero, suc, _+_, _-_, _≤_, _<_}
 use native.Mathlib.Omega.{arith}
 use native.Mathlib.Decide.{ℕ-discrete}
-use native.Mathlib.Numerals.{sub-one, add-one}
+use native.Mathlib.Numerals.{add-one}
 use borrow.Author.Tests.{lt-ltb, le-ltb}
-use lib.Dec.{ltb}
-use lib.ListN.{length, getD, set, replicate}
+use lib.ListN.{set, replicate}
 use Rattle.meaning.specs.Base.{_or_, if_then_else_, choose, isIn, ifSome}
-use Rattle.meaning.specs.Types.{Ty, unknown}
 use Rattle.meaning.specs.Tree.{place}
-use Rattle.meaning.specs.Image.{Name, nodeCount, nodesOf, nodeOf, namesOf, depth}
+use Rattle.meaning.specs.Image.{Name, nodeCount, nodesOf, nodeOf, namesOf}
 use Rattle.meaning.specs.Decode.{stopOf, past, paramsFrom, exprAt, blockAt}
-use Rattle.meaning.specs.Message.{aType, refusal}
-use Rattle.meaning.specs.Frames.{Frame, Frames, empty, write}
-use Rattle.meaning.specs.Rules.{elementOf, check}
-use Rattle.meaning.specs.Walk.{Setting, dropping, State, state, withFrames, withReturns, End, done, wrong, tooDeep, _>>=_, after, checked, condition, overElements, withParams, enter, popped, ifRoom, act, body}
+use Rattle.meaning.specs.Frames.{empty, write}
+use Rattle.meaning.specs.Rules.{check}
+use Rattle.meaning.specs.Walk.{Setting, dropping, state, withFrames, withReturns, End, _>>=_, after, checked, overElements, withParams, enter, popped, ifRoom, act}
 use Rattle.meaning.proofs.Decoding.{while-at, for-at, def-at}
 use Rattle.meaning.proofs.Faults.{Sound}
-use Rattle.types.specs.Table.{Tab, Wf, Grown, denote}
-use Rattle.types.specs.Reading.{perhaps, ElementOf}
+use Rattle.types.specs.Table.{Tab, denote}
+use Rattle.types.specs.Reading.{ElementOf}
 use Rattle.types.proofs.Laws.{unknown-number}
 use Rattle.types.proofs.Answers.{perhaps-yes, perhaps-no}
 use Rattle.frames.specs.Env.{Rows, cellRoom, framesOf, Fit, Bound}
-use Rattle.frames.proofs.Laws.{frames-grown, fit-grown, frames-clear, frames-pop, length-frames, fit-clear, fit-top}
+use Rattle.frames.proofs.Laws.{frames-grown, frames-clear, frames-pop, length-frames, fit-clear, fit-top}
 use Rattle.rules.specs.Outcome.{typesNamed, pieces}
 use Rattle.expr.specs.Contract.{Ready, At}
 use Rattle.expr.specs.Contract.{Done as Typed}
 use Rattle.targets.specs.Ending.{ended, Named, Left, Assigned}
-use Rattle.stmt.specs.Contract.{stateOf, acted, bodyAt, conditionAt, Standing, Stmt, Pair, Within, Fine, Done, Entered, Iterated}
-use Rattle.stmt.proofs.Laws.{ended-done, ended-wrong, was-done, was-deep, was-wrong, too-deep, named-well, left-refl, left-trans, left-wider, left-rows, fine-wider, ready-within, ready-next, typing, check-left, check-named, check-well, check-ill, place-at, wide-at, few-nodes, within-all, within-end, within-child, within-at, pair-while, pair-for, count-def, arg-small}
+use Rattle.stmt.specs.Contract.{stateOf, acted, bodyAt, conditionAt, Standing, Stmt, Pair, Within, Params, Done, Entered, Iterated}
+use Rattle.stmt.proofs.Laws.{ended-done, ended-wrong, was-done, was-deep, was-wrong, too-deep, named-well, left-trans, left-wider, left-rows, ready-within, ready-next, typing, check-left, check-named, check-well, check-ill, place-at, wide-at, within-all, within-end, within-child, within-at, pair-while, pair-for, count-def, arg-small}
 
 -- ---- what a For walks over
 
@@ -232,14 +228,23 @@ module _ {bs : List ℕ} {nodes : ℕ} {t : Tab} {fs : Rows} {top : ℕ} {st : L
 
 -- ---- Def
 
+-- what is left behind m of the last children
+within-past : {bs : List ℕ} {i : ℕ} → Sound bs → (m : ℕ) {j : ℕ} → Within bs i j (m + 1) → Within bs i (past (nodesOf bs) m j) 1
+unfolding past
+within-past s zero w = w
+within-past s (suc m) w = let o : suc m + 1 - 1 ≡ m + 1 = omega arith in within-past s m (rw o at (within-child s w (omega arith) .3))
+
 module _ {bs : List ℕ} {nodes : ℕ} {t : Tab} {fs : Rows} {top : ℕ} {st : List ℕ} {ret i d n : ℕ} (r : Standing bs nodes fs top t st ret i (stopOf (nodesOf bs) i)) (q : Stmt bs i d 11) (m : n ≡ nodeOf (nodesOf bs) i .children) where
   pub def-some : 1 ≤ n
   def-some = rw m (count-def (r .ready .sound) q)
 
-  pub def-within : Within bs i (i + 1) (n - 1 + 1)
+  def-within : Within bs i (i + 1) (n - 1 + 1)
   def-within =
       let o : n - 1 + 1 ≡ n = omega (arith, def-some) in
       rw (o, m) (within-all (r .ready .sound) i (q .there))
+
+  pub def-params : {j : ℕ} → j ≡ i + 1 → Params bs j (n - 1)
+  def-params o = record { parent = i; within = rw o def-within }
 
   def-is : (setting : Setting) (loop : Bool) → acted bs setting loop d i (stateOf t fs top ret)
       ≡ ifRoom i (stateOf t fs top ret)
@@ -253,8 +258,14 @@ module _ {bs : List ℕ} {nodes : ℕ} {t : Tab} {fs : Rows} {top : ℕ} {st : L
   def-deep o setting loop = too-deep refl (def-is setting loop ∙ rw (length-frames t fs top, le-ltb (top + 1) 8 (omega arith))) (q .there)
 
   -- the new row, cleared and with the parameters bound
-  module _ {cs es : Rows} {k : ℕ} (o : top < 7) (c : cs ≡ set fs (top + 1) (replicate 128 0)) (y : Entered cs es (top + 1) (paramsFrom (nodesOf bs) (n - 1) (i + 1)))
-      (w : (k ≡ past (nodesOf bs) (n - 1) (i + 1)) × Within bs i k 1) where
+  module _ {cs es : Rows} {j k : ℕ} (o : top < 7) (c : cs ≡ set fs (top + 1) (replicate 128 0)) (here : j ≡ i + 1) (y′ : Entered cs es (top + 1) (paramsFrom (nodesOf bs) (n - 1) j))
+      (w′ : k ≡ past (nodesOf bs) (n - 1) j) where
+    y : Entered cs es (top + 1) (paramsFrom (nodesOf bs) (n - 1) (i + 1))
+    y = rw here at y′
+
+    w : (k ≡ past (nodesOf bs) (n - 1) (i + 1)) × Within bs i k 1
+    w = let e = rw here at w′ in (e, rw e (within-past (r .ready .sound) (n - 1) def-within))
+
     cleared : Fit t cs (top + 1)
     cleared = rw c (fit-clear (r .ready .fit) (omega arith))
 

@@ -1,41 +1,39 @@
 -- How the parts of the walk end, and where the nodes of a sound image stand.
-use mathlib.Core.Path.{_≡_, refl, sym, ap, _∙_}
+use mathlib.Core.Path.{_≡_, refl, sym, _∙_}
 use mathlib.Core.Bool.{Bool, true, false}
 use mathlib.Core.List.{List, [], _∷_}
 use mathlib.Core.Logic.{_⊎_, inl, inr}
 use Prim.Native.Nat.{ℕ, zero, suc, _+_, _-_, _≤_, _<_}
 use native.Mathlib.Omega.{arith}
 use native.Mathlib.Decide.{ℕ-discrete}
-use native.Mathlib.Numerals.{sub-one, add-one}
+use native.Mathlib.Numerals.{add-one}
 use borrow.Author.Tests.{eq-eqb, ne-eqb, eqb-true, leb-true}
-use lib.Dec.{eqb, leb, ltb}
+use lib.Dec.{eqb}
 use lib.ListN.{length}
 use Rattle.meaning.specs.Base.{_or_, if_then_else_, choose, isIn}
 use Rattle.meaning.specs.Types.{Ty}
 use Rattle.meaning.specs.Tree.{Expr, place}
-use Rattle.meaning.specs.Image.{Name, nameCount, nodeCount, nodesFrom, nodesOf, nodeOf, namesOf, depth, argBelow, countStands}
+use Rattle.meaning.specs.Image.{Name, nameCount, nodeCount, nodesFrom, nodesOf, nodeOf, depth, argBelow, countStands}
 use Rattle.meaning.specs.Decode.{stopOf, exprAt}
 use Rattle.meaning.specs.Message.{refusal}
-use Rattle.meaning.specs.Frames.{Frames}
-use Rattle.meaning.specs.Operators.{Checked, ok, refused}
 use Rattle.meaning.specs.Rules.{check}
 use Rattle.meaning.specs.Walk.{dropping, State, state, End, done, wrong, tooDeep, typed, onward}
-use Rattle.meaning.proofs.Codes.{Fair, fair-typing, check-fair}
+use Rattle.meaning.proofs.Codes.{fair-typing, check-fair}
 use Rattle.meaning.proofs.Faults.{Sound, sizes}
-use Rattle.meaning.proofs.Nesting.{Nested, sound-nested, nodes-many, node-stands, Children, child, children, children-le, children-end, deeper}
-use Rattle.types.specs.Table.{Tab, Wf, Grown, denote}
+use Rattle.meaning.proofs.Nesting.{Nested, sound-nested, nodes-many, node-stands, child, children, children-le, children-end, deeper}
+use Rattle.types.specs.Table.{Tab, denote}
 use Rattle.types.proofs.Laws.{grown-refl, grown-trans}
 use Rattle.frames.specs.Env.{Rows, framesOf, Fit}
 use Rattle.frames.proofs.Laws.{frames-grown, fit-grown}
 use Rattle.rules.specs.Outcome.{typesNamed, pieces}
+use Rattle.image.specs.Parts.{Moved}
+use Rattle.image.specs.declared.Cursor.{Cursor}
+use Rattle.image.specs.declared.Read.{Read}
+use Rattle.image.proofs.Moving.{stops}
 use Rattle.expr.specs.Contract.{Ready, At}
 use Rattle.expr.specs.Contract.{Done as Typed}
 use Rattle.targets.specs.Ending.{ended, Named, Left, Assigned}
-use Rattle.stmt.specs.Contract.{stateOf, settingIf, Standing, Stmt, Pair, Within, Fine, Done}
-
-pub never : {A : Type 0} → _≡_ {A = Bool} false true → A
-unfolding if_then_else_
-never e = let z : _≡_ {A = ℕ} 0 1 = ap (λ (b : Bool). if b then 1 else 0) e in absurd (omega arith)
+use Rattle.stmt.specs.Contract.{stateOf, settingIf, Stmt, Pair, Within, Fine, Done}
 
 -- ---- the setting: code that is told whether it is plain drops exactly if it is
 
@@ -185,6 +183,20 @@ ready-within r p q = record {
   stack-room = omega (arith, r .stack-room);
 }
 
+-- the same by an equal start of the node area
+pub ready-nodes : {bs : List ℕ} {nodes from : ℕ} {fs : Rows} {top : ℕ} {t : Tab} {st : List ℕ} {i e : ℕ}
+    → from ≡ nodesFrom bs → Ready bs nodes fs top t st 0 i e → Ready bs from fs top t st 0 i e
+ready-nodes o r = record {
+  sound = r .sound;
+  nodes-at = o;
+  wf = r .wf;
+  fit = r .fit;
+  stack = r .stack;
+  types-room = r .types-room;
+  elements-room = r .elements-room;
+  stack-room = r .stack-room;
+}
+
 pub ready-next : {bs : List ℕ} {nodes : ℕ} {fs gs : Rows} {top high : ℕ} {t u : Tab} {st su : List ℕ} {i j e : ℕ}
     → Ready bs nodes fs top t st 0 i e → Left t u gs high su i j → i ≤ j → Ready bs nodes gs high u su 0 j e
 ready-next r l h = record {
@@ -236,6 +248,11 @@ pub place-at : (bs : List ℕ) (d i : ℕ) → place (exprAt (nodesOf bs) d i) �
 unfolding exprAt place
 place-at bs zero i = refl
 place-at bs (suc d) i = refl
+
+-- behind a first child
+pub second-of : {bs : List ℕ} {c : Cursor} {r q : Read} → Moved bs c r (c .at + 1) → Moved bs (r .cursor) q (nodeOf (nodesOf bs) (r .cursor .at) .stop)
+    → q .cursor .at ≡ stopOf (nodesOf bs) (c .at + 1)
+second-of m n = rw (m .at) at (stops n)
 
 abbrev Rows-below : ℕ → List (ℕ × ℕ) → Type 0
 Rows-below m [] = Unit {0}

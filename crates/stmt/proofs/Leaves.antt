@@ -3,38 +3,36 @@ use mathlib.Core.Path.{_≡_, refl, sym, ap, _∙_}
 use mathlib.Core.Bool.{Bool, true, false}
 use mathlib.Core.List.{List, [], _∷_}
 use mathlib.Core.Logic.{_⊎_, inl, inr}
-use mathlib.Core.Option.{some, none}
-use Prim.Native.Nat.{ℕ, zero, suc, _+_, _-_, _≤_, _<_}
+use mathlib.Core.Option.{some}
+use Prim.Native.Nat.{ℕ, _+_, _-_, _≤_, _<_}
 use native.Mathlib.Omega.{arith}
 use native.Mathlib.Decide.{ℕ-discrete}
-use native.Mathlib.Numerals.{sub-one, add-one}
-use borrow.Author.Tests.{eq-eqb, ne-eqb}
-use lib.Dec.{eqb}
-use lib.ListN.{length, getD, set}
+use native.Mathlib.Numerals.{add-one}
+use borrow.Author.Tests.{ne-eqb}
+use lib.ListN.{set}
 use Rattle.meaning.specs.Base.{_or_, if_then_else_, choose, isIn, ifSome}
 use Rattle.meaning.specs.Types.{Ty, unknown, bool, plain}
-use Rattle.meaning.specs.Tree.{place, pass}
-use Rattle.meaning.specs.Image.{Name, nodeCount, nodesOf, nodeOf, namesOf, depth}
+use Rattle.meaning.specs.Tree.{place}
+use Rattle.meaning.specs.Image.{Name, nodeCount, nodesOf, nodeOf, namesOf}
 use Rattle.meaning.specs.Decode.{stopOf, past, paramsFrom, exprAt, blockAt, actAt}
-use Rattle.meaning.specs.Message.{aType, refusal}
 use Rattle.meaning.specs.Frames.{Frame, Frames, write}
 use Rattle.meaning.specs.Rules.{check}
-use Rattle.meaning.specs.Walk.{Setting, State, state, End, done, wrong, refuse, agreed, checked, condition, assignTo, returnRule, onlyIn, withParams, act}
+use Rattle.meaning.specs.Walk.{Setting, state, End, done, refuse, checked, condition, assignTo, returnRule, onlyIn, withParams, act}
 use Rattle.meaning.proofs.Choices.{same-yes, same-no}
-use Rattle.meaning.proofs.Decoding.{break-at, continue-at, pass-at, class-at, assign-at, expression-at, return-at, params-down, params-none, past-down, past-none}
+use Rattle.meaning.proofs.Decoding.{break-at, continue-at, pass-at, class-at, assign-at, expression-at, return-at, params-down, past-down}
 use Rattle.meaning.proofs.Faults.{Sound}
-use Rattle.types.specs.Table.{Tab, Wf, Grown, denote}
-use Rattle.types.specs.Reading.{perhaps, Agreement}
-use Rattle.types.proofs.Laws.{grown-refl, grown-trans, plain-number, unknown-number}
+use Rattle.types.specs.Table.{Tab, Wf, denote}
+use Rattle.types.specs.Reading.{Agreement}
+use Rattle.types.proofs.Laws.{grown-trans, plain-number, unknown-number}
 use Rattle.types.proofs.Answers.{perhaps-yes, perhaps-no}
 use Rattle.frames.specs.Env.{Rows, framesOf, Fit, Bound}
-use Rattle.frames.proofs.Laws.{frames-grown, fit-grown}
+use Rattle.frames.proofs.Laws.{frames-grown}
 use Rattle.rules.specs.Outcome.{typesNamed, pieces}
 use Rattle.expr.specs.Contract.{Ready, At}
 use Rattle.expr.specs.Contract.{Done as Typed}
-use Rattle.targets.specs.Ending.{ended, Named, Left, Assigned}
-use Rattle.stmt.specs.Contract.{stateOf, acted, conditionAt, evaluatedAt, assignedAt, returnedAt, Standing, Stmt, Bodiless, Pair, Within, Fine, Done, Entered}
-use Rattle.stmt.proofs.Laws.{ended-done, ended-wrong, named-none, named-well, left-refl, left-wider, done-wider, done-as, ready-within, typing, check-left, check-named, check-well, check-ill, place-at, wide-at, within-le, within-end, within-child, one-child, arg-small}
+use Rattle.targets.specs.Ending.{ended, Left, Assigned}
+use Rattle.stmt.specs.Contract.{stateOf, acted, conditionAt, evaluatedAt, assignedAt, returnedAt, Standing, Stmt, Bodiless, Pair, Params, Fine, Done, Entered}
+use Rattle.stmt.proofs.Laws.{ended-done, ended-wrong, named-none, named-well, left-refl, left-wider, done-wider, done-as, ready-within, typing, check-left, check-named, check-well, check-ill, place-at, wide-at, within-child, one-child, arg-small}
 
 -- the number of Bool
 bool-number : {t : Tab} → Wf t → denote t 2 ≡ bool
@@ -345,29 +343,29 @@ module _ {bs : List ℕ} {nodes : ℕ} {t : Tab} {fs : Rows} {top : ℕ} {st : L
 
 -- ---- parameters
 
--- gs is fs with the parameters before j bound; `left` more start at j
-pub record Entering (bs : List ℕ) (i n : ℕ) (fs gs : Rows) (top j left : ℕ) : Type 0 where
-  pub within : Within bs i j (left + 1)
-  pub ends : past (nodesOf bs) left j ≡ past (nodesOf bs) n (i + 1)
+-- gs is fs with the parameters from k to j bound; `left` more start at j
+pub record Entering (bs : List ℕ) (k n : ℕ) (fs gs : Rows) (top j left : ℕ) : Type 0 where
+  pub params : Params bs j left
+  pub ends : past (nodesOf bs) left j ≡ past (nodesOf bs) n k
   pub so-far : Frame → Frame
   pub says : (t : Tab) (f : Frame) (Γ : Frames) → Wf t → Fit t fs top → framesOf t fs top ≡ f ∷ Γ → framesOf t gs top ≡ so-far f ∷ Γ
-  pub rest : (f : Frame) → withParams (paramsFrom (nodesOf bs) n (i + 1)) f ≡ withParams (paramsFrom (nodesOf bs) left j) (so-far f)
+  pub rest : (f : Frame) → withParams (paramsFrom (nodesOf bs) n k) f ≡ withParams (paramsFrom (nodesOf bs) left j) (so-far f)
   pub fit : (t : Tab) → Wf t → Fit t fs top → Fit t gs top
 
-pub entering-first : {bs : List ℕ} {i n : ℕ} (fs : Rows) (top : ℕ) → Within bs i (i + 1) (n + 1) → Entering bs i n fs fs top (i + 1) n
-entering-first fs top w = record { within = w; ends = refl; so-far = λ f. f; says = λ t f Γ w h e. e; rest = λ f. refl; fit = λ t w h. h }
+pub entering-first : {bs : List ℕ} {k n : ℕ} (fs : Rows) (top : ℕ) → Params bs k n → Entering bs k n fs fs top k n
+entering-first fs top p = record { params = p; ends = refl; so-far = λ f. f; says = λ t f Γ w h e. e; rest = λ f. refl; fit = λ t w h. h }
 
-module _ {bs : List ℕ} {i n : ℕ} {fs gs : Rows} {top j left : ℕ} (s : Sound bs) (l : Entering bs i n fs gs top j left) (p : 0 < left) where
+module _ {bs : List ℕ} {k n : ℕ} {fs gs : Rows} {top j left : ℕ} (s : Sound bs) (l : Entering bs k n fs gs top j left) (p : 0 < left) where
   pub entering-here : (j < nodeCount bs) × (nodeOf (nodesOf bs) j .arg < 128)
-  entering-here = let h = within-child s (l .within) (omega arith) .2 in (h, arg-small s j h)
+  entering-here = let h = within-child s (l .params .within) (omega arith) .2 in (h, arg-small s j h)
 
-  pub entering-next : {x k : ℕ} {hs : Rows} → x ≡ nodeOf (nodesOf bs) j .arg → k ≡ stopOf (nodesOf bs) j → Bound gs hs top x 0
-      → Entering bs i n fs hs top k (left - 1)
+  pub entering-next : {x e : ℕ} {hs : Rows} → x ≡ nodeOf (nodesOf bs) j .arg → e ≡ stopOf (nodesOf bs) j → Bound gs hs top x 0
+      → Entering bs k n fs hs top e (left - 1)
   unfolding withParams write
-  entering-next {x} {k} {hs} a b c =
+  entering-next {x} {e} {hs} a b c =
       let o : left + 1 - 1 ≡ left - 1 + 1 = omega arith in
       rw b (record {
-        within = rw o at (within-child s (l .within) (omega arith) .3);
+        params = record { parent = l .params .parent; within = rw o at (within-child s (l .params .within) (omega arith) .3) };
         ends = sym (past-down (nodesOf bs) left j p) ∙ l .ends;
         so-far = λ f. set (l .so-far f) x (some unknown);
         says = λ t f Γ w h e. c .says t (l .fit t w h) ∙ rw (l .says t f Γ w h e, unknown-number w);
@@ -375,16 +373,12 @@ module _ {bs : List ℕ} {i n : ℕ} {fs gs : Rows} {top j left : ℕ} (s : Soun
         fit = λ t w h. c .fit t (l .fit t w h) (omega (arith, w .base));
       })
 
-module _ {bs : List ℕ} {i n : ℕ} {fs gs : Rows} {top j left : ℕ} (l : Entering bs i n fs gs top j left) (p : left ≤ 0) where
-  pub entering-last : (j ≡ past (nodesOf bs) n (i + 1)) × Within bs i j 1
+module _ {bs : List ℕ} {k n : ℕ} {fs gs : Rows} {top j left : ℕ} (l : Entering bs k n fs gs top j left) (p : left ≤ 0) where
+  pub entering-last : j ≡ past (nodesOf bs) n k
   unfolding past
-  entering-last =
-      let o : left ≡ 0 = omega arith in
-      let e = rw o at (l .ends) in
-      let w = rw o at (l .within) in
-      (e, w)
+  entering-last = let o : left ≡ 0 = omega arith in rw o at (l .ends)
 
-  pub entering-end : Entered fs gs top (paramsFrom (nodesOf bs) n (i + 1))
+  pub entering-end : Entered fs gs top (paramsFrom (nodesOf bs) n k)
   unfolding paramsFrom withParams
   entering-end =
       let o : left ≡ 0 = omega arith in

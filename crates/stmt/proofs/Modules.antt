@@ -1,19 +1,18 @@
 -- The module's statements.
 use mathlib.Core.Path.{_≡_, refl, sym, ap, _∙_}
-use mathlib.Core.Bool.{Bool, true, false}
+use mathlib.Core.Bool.{false}
 use mathlib.Core.List.{List, [], _∷_, map}
 use mathlib.Core.Option.{none}
 use Prim.Native.Nat.{ℕ, zero, suc, _+_, _-_, _≤_, _<_}
 use native.Mathlib.Omega.{arith}
 use native.Mathlib.Decide.{ℕ-discrete}
 use borrow.Author.Tests.{lt-ltb}
-use lib.Dec.{leb, ltb}
 use lib.ListN.{length, replicate, length-replicate, getD-replicate}
 use Rattle.meaning.specs.Base.{_and_, if_then_else_}
 use Rattle.meaning.specs.Types.{Ty, unknown}
-use Rattle.meaning.specs.Image.{Node, Name, nodeCount, nodesFrom, nodesOf, nodeOf, namesOf, depth}
-use Rattle.meaning.specs.Decode.{stopOf, stmtAt, blockAt, stmtsFrom, treeOf}
-use Rattle.meaning.specs.Walk.{Setting, State, state, End, done, wrong, tooDeep, _>>=_, walk, program, start}
+use Rattle.meaning.specs.Image.{Node, nodeCount, nodesFrom, nodesOf, nodeOf, namesOf, depth}
+use Rattle.meaning.specs.Decode.{stopOf, stmtAt, stmtsFrom, treeOf}
+use Rattle.meaning.specs.Walk.{Setting, state, _>>=_, program, start}
 use Rattle.meaning.specs.Answer.{walked}
 use Rattle.meaning.proofs.Decoding.{stmts-down}
 use Rattle.meaning.proofs.Faults.{Sound, sizes}
@@ -24,7 +23,7 @@ use Rattle.frames.specs.Env.{Rows, slot, frameOf, below, framesOf, Fit}
 use Rattle.frames.proofs.Laws.{zeros}
 use Rattle.meaning.specs.Frames.{empty}
 use Rattle.expr.specs.Contract.{Ready, At}
-use Rattle.targets.specs.Ending.{ended, Named, Left}
+use Rattle.targets.specs.Ending.{Left}
 use Rattle.stmt.specs.Contract.{stateOf, walkedAt, Standing, Within, Done, Started, Ran}
 use Rattle.stmt.proofs.Laws.{ended-done, ended-deep, ended-wrong, was-done, was-deep, was-wrong, named-well, left-refl, left-trans, left-wider, ready-within, ready-next, few-nodes, wide-at, within-all, within-le, within-child, within-at, stop-is}
 use Rattle.stmt.proofs.Bodies.{block-down}

@@ -18,9 +18,13 @@ use Rattle.meaning.proofs.Faults.{Sound}
 use Rattle.meaning.proofs.Nesting.{Children}
 use Rattle.types.specs.Table.{Tab, capacity, Wf, Grown, denote}
 use Rattle.frames.specs.Env.{Rows, framesOf, Fit}
-use Rattle.nodes.specs.Notes.{err, typesIn, elementsIn, codeIn, placeIn, firstIn, secondIn, verdict, Noting, Kept}
+use Rattle.state.specs.Notes.{codeIn, Noting}
+use Rattle.state.specs.declared.Outcome.{Outcome}
+use Rattle.state.specs.declared.Outcome.the-variants as outcome
 use Rattle.expr.specs.Contract.{Ready, At}
 use Rattle.targets.specs.Ending.{ended, Named, Left}
+use Rattle.stmt.specs.declared.End.{End as Answer}
+use Rattle.stmt.specs.declared.End.the-variants as answer
 
 -- the state that rows and a return type's number stand for
 abbrev pub stateOf : Tab → Rows → ℕ → ℕ → State
@@ -75,20 +79,24 @@ armedAt bs setting loop d n i s =
     then on (exprAt (nodesOf bs) d i) (blockAt (nodesOf bs) d (stopOf (nodesOf bs) i))
     else otherwise (blockAt (nodesOf bs) d i)) s
 
--- ---- the notes
+-- ---- the walk's answers, and the notes
 
--- what a result r tells of the notes: a refusal has a code
-pub record Tells (ms : List ℕ) (r : ℕ) : Type 0 where
+-- an answer in the scope's numbers: 0, the code that is noted, or 9
+abbrev pub endCode : Answer → List ℕ → ℕ
+endCode answer.Done ms = 0
+endCode answer.Wrong ms = codeIn ms
+endCode answer.TooDeep ms = 9
+
+-- the answer of a statement that cannot need a frame
+abbrev pub endOf : Outcome → Answer
+endOf outcome.Ok = answer.Done
+endOf outcome.Err = answer.Wrong
+
+-- what is left of the notes: if there is a typing refusal, its code is noted
+pub record Tells (ms : List ℕ) (refused : Type 0) : Type 0 where
   pub noting : Noting ms
-  pub refuses : r ≡ err → codeIn ms ≡ 0 → ⊥
-
--- a Break or Continue at node i, by its code: all is well in a loop, and else it is refused
-pub record Outside (ns ms : List ℕ) (loop : Bool) (code i r : ℕ) : Type 0 where
-  pub kept : Kept ns ms r
-  pub types : typesIn ms ≡ typesIn ns
-  pub elements : elementsIn ms ≡ elementsIn ns
-  pub well : loop ≡ true → verdict r ms ≡ 0
-  pub ill : loop ≡ false → (verdict r ms ≡ code) × (placeIn ms ≡ i) × (firstIn ms ≡ 0) × (secondIn ms ≡ 0)
+  pub coded : refused → codeIn ms ≡ 0 → ⊥
+  pub typing : refused → codeIn ms ≡ 9 → ⊥
 
 -- ---- what is asked
 
@@ -127,6 +135,11 @@ pub record Within (bs : List ℕ) (i j n : ℕ) : Type 0 where
   pub there : i < nodeCount bs
   pub behind : i < j
   pub children : Children (nodesOf bs) (nodeOf (nodesOf bs) i) j n
+
+-- n Params of a Def start at j, and its Block stands behind them
+pub record Params (bs : List ℕ) (j n : ℕ) : Type 0 where
+  pub parent : ℕ
+  pub within : Within bs parent j (n + 1)
 
 -- ---- what is left, unless a Def needed a ninth frame
 

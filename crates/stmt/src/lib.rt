@@ -1,56 +1,52 @@
 // The walk over the statements: T's tc_stmt and typecheck_program.
-// A result is OK, or ERR where something was refused: the notes then have the code (9 for a Def that needs a ninth frame, else a typing
-// code), its node and the numbers that a message needs. The notes also have the counts of the table, the return type so far and the newest
-// frame's row (crates/nodes/specs/Notes.antt).
-// There is one walk for both settings of document 02: `plain` goes with every statement, and where it is false, the setting is strict.
+// A statement that cannot need a frame answers `state::Outcome`, and one that can `End`; what was refused, and where, is
+// noted. The notes also have the counts of the table, the return type so far and the newest frame's row (crates/state).
+// There is one walk for both settings of document 02: `plain` goes with every statement, and where it is false, the
+// setting is strict.
 ghost use mathlib.Core.Path.{_≡_};
-ghost use Prim.Native.Nat.{_+_, _-_, _<_};
-ghost use Rattle.meaning.specs.Limits.{mostNodes, mostFrames};
-ghost use Rattle.meaning.specs.Image.{nodeCount, nodesFrom, nodesOf};
-ghost use Rattle.meaning.specs.Decode.{stopOf, past, paramsFrom};
-ghost use Rattle.meaning.proofs.Faults.{Sound, Headed};
+ghost use Prim.Native.Nat.{_-_};
+ghost use Rattle.meaning.specs.Base.{if_then_else_};
 ghost use Rattle.types.specs.Table.{tab};
-ghost use Rattle.nodes.specs.Notes.{Noting};
-ghost use Rattle.nodes.specs.Lent.{lent};
-ghost use Rattle.image.specs.Parts.{On};
-ghost use Rattle.stmt.specs.Contract.{settingIf, conditionAt, evaluatedAt, assignedAt, returnedAt, armBlock};
-ghost use Rattle.stmt.specs.Contract.{Outside, Within, Entered, Started, Ran};
+ghost use Rattle.state.specs.Notes.{Noting};
+ghost use Rattle.state.specs.Answer.{Settled};
+ghost use Rattle.state.specs.Lent.{lent};
+ghost use Rattle.stmt.specs.Contract.{settingIf, conditionAt, evaluatedAt, assignedAt};
+ghost use Rattle.stmt.specs.Contract.{endCode, endOf, Started, Ran};
 ghost use Rattle.stmt.specs.Clauses.{Checkable, Paired, Returnable, Simple, Walkable, OfKind, InIf};
-ghost use Rattle.stmt.specs.Clauses.{Ends, Iterates, Walks, WalksStmt, WalksBlock, Acts, ActsAnywhere, ActsEither, WalksArm};
-use expr::expr;
-use frames::ABSENT;
+ghost use Rattle.stmt.specs.Clauses.{AtArm, AtParams};
+ghost use Rattle.stmt.specs.Clauses.{Ends, Iterates, Returns, ActsEither, Enters, AfterArm};
+ghost use Rattle.stmt.specs.Clauses.{WalksStmt, WalksBlock, Acts, ActsAnywhere, WalksArm};
+use expr::tc_expr;
 use frames::Frames;
 use frames::Merge;
+use frames::NO_NAMES;
 use frames::bind;
 use frames::clear;
 use frames::commit;
 use frames::note_branch;
 use image::Cursor;
 use image::kinds;
-use image::node_at;
 use limits::DEEPEST;
 use limits::MOST_FRAMES;
 use limits::MOST_NAMES;
-use nodes::CODE;
-use nodes::ELEMENTS;
-use nodes::ERR;
-use nodes::FIRST;
-use nodes::NOTED;
-use nodes::Notes;
-use nodes::OK;
-use nodes::PLACE;
-use nodes::RETURNS;
-use nodes::SECOND;
-use nodes::Stack;
-use nodes::TOP;
-use nodes::TYPES;
-use nodes::counts_of;
-use nodes::refused;
-use nodes::small;
-use nodes::stop_of;
 use rules::codes;
-use targets::Outcome;
-use targets::assign;
+use state::CODE;
+use state::ELEMENTS;
+use state::FIRST;
+use state::NOTED;
+use state::Notes;
+use state::Outcome;
+use state::PLACE;
+use state::RETURNS;
+use state::SECOND;
+use state::Stack;
+use state::TOP;
+use state::TYPES;
+use state::Typed;
+use state::counts_of;
+use state::refuse;
+use state::small;
+use targets::tc_assign_target;
 use types;
 use types::Counts;
 use types::agreed;
@@ -62,10 +58,21 @@ const LAST_FRAME: usize = MOST_FRAMES - 1;
 // The levels that are left below the module's Block.
 const BELOW_MODULE: usize = DEEPEST - 1;
 
+// A branch of an If has a condition and a Block; the last may be a Block alone.
+const ARM: usize = 2;
+
 // A table starts with the plain types alone, and a return type as Unknown.
 const PLAIN_TYPES: u32 = types::STRUCTURED as u32;
 
 const NOT_RETURNED: u32 = types::UNKNOWN as u32;
+
+// How a statement ended, in the words of `meaning/specs/Walk`: all well, a typing refusal, or a Def that needs a ninth
+// frame. The last ends the walk "even in a body whose errors are dropped". What was refused is noted.
+pub enum End {
+    Done,
+    Wrong,
+    TooDeep,
+}
 
 fn wide(x: u32) -> usize
     ensures { λ r. ⌜ r ≡ x ⌝ }
@@ -73,193 +80,177 @@ fn wide(x: u32) -> usize
     x as usize
 }
 
+// The end of a statement that cannot need a frame.
+fn end_of(o: Outcome) -> End
+    ensures { λ r. ⌜ r ≡ endOf o ⌝ }
+{
+    match o {
+        Outcome::Ok => End::Done,
+        Outcome::Err => End::Wrong,
+    }
+}
+
 // ---- statements without a body
 
 // "A condition must be Bool itself".
-fn condition(
+fn ensure_bool(
     image: &[u8],
-    nodes: usize,
+    here: Cursor,
     rows: &Frames,
     top: usize,
     table: &mut [u16],
     notes: &mut Notes,
     stack: &mut Stack,
-    at: usize,
     depth: usize,
-) -> usize
-    requires { ⌜ Checkable (now image) nodes top at depth (lent (now rows) (now table) (now notes) (now stack)) ⌝ }
-    ensures { λ r. ⌜ Ends (now (image .entry)) top at r
+) -> Outcome
+    requires { ⌜ Checkable (now image) here top depth (lent (now rows) (now table) (now notes) (now stack)) ⌝ }
+    ensures { λ r. ⌜ Ends (now (image .entry)) here top r
         (lent (now (rows .entry)) (now (table .entry)) (now (notes .entry)) (now (stack .entry)))
         (lent (now (rows .entry)) (now (table .exit)) (now (notes .exit)) (now (stack .exit)))
-        (conditionAt (now (image .entry)) depth at) ⌝ }
+        (conditionAt (now (image .entry)) depth (here .at)) ⌝ }
 {
-    let v = expr(image, nodes, rows, top, table, notes, stack, 0, at, depth);
-    if v == ERR {
-        return v;
+    let v = tc_expr(image, here, rows, top, table, notes, stack, 0, depth);
+    let Typed::Ok(ty) = v else {
+        return Outcome::Err;
+    };
+    if ty != types::BOOL {
+        refuse(notes, codes::CONDITION, here.at, 0, 0);
+        return Outcome::Err;
     }
-    if v != types::BOOL {
-        return refused(notes, codes::CONDITION, at, 0, 0);
-    }
-    OK
+    Outcome::Ok
 }
 
-// The Assign at node `at`: its value, the second child, and then its target.
+// An Assign: its value, the second child, is checked before its target.
 fn assignment(
     image: &[u8],
-    nodes: usize,
+    here: Cursor,
     rows: &mut Frames,
     top: usize,
     table: &mut [u16],
     notes: &mut Notes,
     stack: &mut Stack,
-    at: usize,
     depth: usize,
-) -> usize
-    requires { ⌜ Paired (now image) nodes top at depth (lent (now rows) (now table) (now notes) (now stack)) ⌝ }
-    ensures { λ r. ⌜ Ends (now (image .entry)) top at r
+) -> Outcome
+    requires { ⌜ Paired (now image) here top depth (lent (now rows) (now table) (now notes) (now stack)) ⌝ }
+    ensures { λ r. ⌜ Ends (now (image .entry)) here top r
         (lent (now (rows .entry)) (now (table .entry)) (now (notes .entry)) (now (stack .entry)))
         (lent (now (rows .exit)) (now (table .exit)) (now (notes .exit)) (now (stack .exit)))
-        (assignedAt (now (image .entry)) depth at) ⌝ }
+        (assignedAt (now (image .entry)) depth (here .at)) ⌝ }
 {
-    let first = at + 1;
-    let second = stop_of(image, nodes, first);
-    let v = expr(
-        image,
-        nodes,
-        rows,
-        top,
-        table,
-        notes,
-        stack,
-        0,
-        second,
-        depth,
-    );
-    if v == ERR {
-        return v;
-    }
-    let target = Cursor { at: first, nodes };
-    let r = assign(image, target, rows, top, table, notes, stack, v, depth);
-    let Outcome::Ok = r else {
-        return ERR;
+    let read = here.next(image);
+    let target = read.cursor;
+    let passed = target.over(image);
+    let value = passed.cursor;
+    let v = tc_expr(image, value, rows, top, table, notes, stack, 0, depth);
+    let Typed::Ok(ty) = v else {
+        return Outcome::Err;
     };
-    OK
+    tc_assign_target(image, target, rows, top, table, notes, stack, ty, depth)
 }
 
-// A Return of the value at node `at`.
+// A Return of the value at the cursor.
 fn give(
     image: &[u8],
-    nodes: usize,
+    here: Cursor,
     rows: &Frames,
     top: usize,
     table: &mut [u16],
     notes: &mut Notes,
     stack: &mut Stack,
-    at: usize,
     depth: usize,
-) -> usize
-    requires { ⌜ Returnable (now image) nodes top at depth (lent (now rows) (now table) (now notes) (now stack)) ⌝ }
-    ensures { λ r. ⌜ Walks (now (image .entry)) top at r
+) -> Outcome
+    requires { ⌜ Returnable (now image) here top depth (lent (now rows) (now table) (now notes) (now stack)) ⌝ }
+    ensures { λ r. ⌜ Returns (now (image .entry)) here top depth r
         (lent (now (rows .entry)) (now (table .entry)) (now (notes .entry)) (now (stack .entry)))
-        (lent (now (rows .entry)) (now (table .exit)) (now (notes .exit)) (now (stack .exit)))
-        (returnedAt (now (image .entry)) depth at) ⌝ }
+        (lent (now (rows .entry)) (now (table .exit)) (now (notes .exit)) (now (stack .exit))) ⌝ }
 {
-    let v = expr(image, nodes, rows, top, table, notes, stack, 0, at, depth);
-    if v == ERR {
-        return v;
-    }
+    let v = tc_expr(image, here, rows, top, table, notes, stack, 0, depth);
+    let Typed::Ok(ty) = v else {
+        return Outcome::Err;
+    };
     let ret = wide(notes[RETURNS]);
-    let both = agreed(ret, v);
+    let both = agreed(ret, ty);
     if both.there {
         notes[RETURNS] = small(both.number);
-        return OK;
+        return Outcome::Ok;
     }
-    refused(notes, codes::INCONSISTENT_RETURN, at, ret, v)
+    refuse(notes, codes::INCONSISTENT_RETURN, here.at, ret, ty);
+    Outcome::Err
 }
 
-// A Break or Continue at node `at`: one outside a loop is refused by the code.
-fn outside(notes: &mut Notes, looped: bool, code: u32, at: usize) -> usize
-    requires { ⌜ Noting (now notes) ⌝ }
-    requires { ⌜ (at < mostNodes) × (code ≡ 0 → ⊥) ⌝ }
-    ensures { λ r. ⌜ Outside (now (notes .entry)) (now (notes .exit)) looped code at r ⌝ }
+// A Break or Continue: outside a loop it is refused by the code.
+fn outside(notes: &mut Notes, code: u32, place: usize, looped: bool) -> Outcome
+    requires { ⌜ Noting (now notes) × (code ≡ 0 → ⊥) ⌝ }
+    ensures { λ r. ⌜ Settled (now (notes .entry)) (now (notes .exit)) r (if looped then 0 else code) place 0 0 ⌝ }
 {
     if looped {
-        return OK;
+        return Outcome::Ok;
     }
-    refused(notes, code, at, 0, 0)
+    refuse(notes, code, place, 0, 0);
+    Outcome::Err
 }
 
-// An Expr whose value is at node `at`.
+// An Expr of the value at the cursor.
 fn evaluate(
     image: &[u8],
-    nodes: usize,
+    here: Cursor,
     rows: &Frames,
     top: usize,
     table: &mut [u16],
     notes: &mut Notes,
     stack: &mut Stack,
-    at: usize,
     depth: usize,
-) -> usize
-    requires { ⌜ Checkable (now image) nodes top at depth (lent (now rows) (now table) (now notes) (now stack)) ⌝ }
-    ensures { λ r. ⌜ Ends (now (image .entry)) top at r
+) -> Outcome
+    requires { ⌜ Checkable (now image) here top depth (lent (now rows) (now table) (now notes) (now stack)) ⌝ }
+    ensures { λ r. ⌜ Ends (now (image .entry)) here top r
         (lent (now (rows .entry)) (now (table .entry)) (now (notes .entry)) (now (stack .entry)))
         (lent (now (rows .entry)) (now (table .exit)) (now (notes .exit)) (now (stack .exit)))
-        (evaluatedAt (now (image .entry)) depth at) ⌝ }
+        (evaluatedAt (now (image .entry)) depth (here .at)) ⌝ }
 {
-    let v = expr(image, nodes, rows, top, table, notes, stack, 0, at, depth);
-    if v == ERR {
-        return v;
-    }
-    OK
+    let v = tc_expr(image, here, rows, top, table, notes, stack, 0, depth);
+    let Typed::Ok(_) = v else {
+        return Outcome::Err;
+    };
+    Outcome::Ok
 }
 
-// The statement at node `at`, if it has no body; `depth` is left for its children.
+// A statement without a body; `depth` is left for its children.
 fn simple(
     image: &[u8],
-    nodes: usize,
+    here: Cursor,
     rows: &mut Frames,
     top: usize,
     table: &mut [u16],
     notes: &mut Notes,
     stack: &mut Stack,
-    at: usize,
-    kind: u32,
     depth: usize,
     looped: bool,
-) -> usize
-    requires { ⌜ Simple (now image) nodes top at kind depth (lent (now rows) (now table) (now notes) (now stack)) ⌝ }
-    ensures { λ r. ⌜ ActsEither (now (image .entry)) top at depth looped r
+) -> Outcome
+    requires { ⌜ Simple (now image) here top depth (lent (now rows) (now table) (now notes) (now stack)) ⌝ }
+    ensures { λ r. ⌜ ActsEither (now (image .entry)) here top depth looped r
         (lent (now (rows .entry)) (now (table .entry)) (now (notes .entry)) (now (stack .entry)))
         (lent (now (rows .exit)) (now (table .exit)) (now (notes .exit)) (now (stack .exit))) ⌝ }
 {
+    let read = here.next(image);
+    let node = read.node;
+    let kind = node.kind;
+    let first = read.cursor;
     match kind {
-        kinds::BREAK => outside(notes, looped, codes::BREAK, at),
-        kinds::CONTINUE => outside(notes, looped, codes::CONTINUE, at),
-        kinds::ASSIGN => assignment(image, nodes, rows, top, table, notes, stack, at, depth),
-        kinds::EXPR => evaluate(image, nodes, rows, top, table, notes, stack, at + 1, depth),
-        kinds::RETURN => give(image, nodes, rows, top, table, notes, stack, at + 1, depth),
-        _ => OK,
+        kinds::BREAK => outside(notes, codes::BREAK, here.at, looped),
+        kinds::CONTINUE => outside(notes, codes::CONTINUE, here.at, looped),
+        kinds::ASSIGN => assignment(image, here, rows, top, table, notes, stack, depth),
+        kinds::EXPR => evaluate(image, first, rows, top, table, notes, stack, depth),
+        kinds::RETURN => give(image, first, rows, top, table, notes, stack, depth),
+        _ => Outcome::Ok,
     }
 }
 
-// The parameters of the Def at node `at`, as Unknown in the row `top`; and the node after them.
-fn parameters(
-    image: &[u8],
-    nodes: usize,
-    rows: &mut Frames,
-    top: usize,
-    at: usize,
-    n: usize,
-) -> usize
-    requires { ⌜ Sound (now image) ⌝ }
-    requires { ⌜ (nodes ≡ nodesFrom (now image)) × (top < mostFrames) × Within (now image) at (at + 1) (n + 1) ⌝ }
-    ensures { λ r. ⌜ (r ≡ past (nodesOf (now (image .entry))) n (at + 1)) × Within (now (image .entry)) at r 1 ⌝ }
-    ensures { λ _. ⌜ Entered (now (rows .entry)) (now (rows .exit)) top (paramsFrom (nodesOf (now (image .entry))) n (at + 1)) ⌝ }
+// The n Params from the cursor on, as Unknown in the row `top`; and the cursor behind them.
+fn parameters(image: &[u8], from: Cursor, rows: &mut Frames, top: usize, n: usize) -> Cursor
+    requires { ⌜ AtParams (now image) from top n ⌝ }
+    ensures { λ r. ⌜ Enters (now (image .entry)) from top n r (now (rows .entry)) (now (rows .exit)) ⌝ }
 {
-    let def = Cursor { at, nodes };
-    let read = def.next(image);
-    let mut next = read.cursor;
+    let mut next = from;
     let mut left = n;
     while 0 < left {
         let passed = next.over(image);
@@ -268,45 +259,43 @@ fn parameters(
         next = passed.cursor;
         left -= 1;
     }
-    next.at
+    next
 }
 
 // ---- statements with a body
 
-// What a walk over the value at node `at` gives: code 24 where it gives nothing.
+// What a walk over the value at the cursor gives: code 24 where it gives nothing.
 fn elements(
     image: &[u8],
-    nodes: usize,
+    here: Cursor,
     rows: &Frames,
     top: usize,
     table: &mut [u16],
     notes: &mut Notes,
     stack: &mut Stack,
-    at: usize,
     depth: usize,
-) -> usize
-    requires { ⌜ Checkable (now image) nodes top at depth (lent (now rows) (now table) (now notes) (now stack)) ⌝ }
-    ensures { λ r. ⌜ Iterates (now (image .entry)) top at depth r
+) -> Typed
+    requires { ⌜ Checkable (now image) here top depth (lent (now rows) (now table) (now notes) (now stack)) ⌝ }
+    ensures { λ r. ⌜ Iterates (now (image .entry)) here top depth r
         (lent (now (rows .entry)) (now (table .entry)) (now (notes .entry)) (now (stack .entry)))
         (lent (now (rows .entry)) (now (table .exit)) (now (notes .exit)) (now (stack .exit))) ⌝ }
 {
-    let v = expr(image, nodes, rows, top, table, notes, stack, 0, at, depth);
-    if v == ERR {
+    let v = tc_expr(image, here, rows, top, table, notes, stack, 0, depth);
+    let Typed::Ok(ty) = v else {
         return v;
-    }
-    let element = element_of(table, v);
+    };
+    let element = element_of(table, ty);
     if element.there {
-        return element.number;
+        return Typed::Ok(element.number);
     }
-    refused(notes, codes::NOT_ITERABLE, at, v, 0)
+    refuse(notes, codes::NOT_ITERABLE, here.at, ty, 0);
+    Typed::Err
 }
 
 // The cursor moved over the branch that it stands at, of `left` nodes of an If.
 fn after_arm(image: &[u8], here: Cursor, left: usize) -> Cursor
-    requires { ⌜ Headed (now image) ⌝ }
-    requires { ⌜ On (now image) here × (armBlock (now image) left (here .at) < nodeCount (now image)) ⌝ }
-    ensures { λ r. ⌜ r .at ≡ stopOf (nodesOf (now (image .entry))) (armBlock (now (image .entry)) left (here .at)) ⌝ }
-    ensures { λ r. ⌜ r .nodes ≡ nodesFrom (now (image .entry)) ⌝ }
+    requires { ⌜ AtArm (now image) here left ⌝ }
+    ensures { λ r. ⌜ AfterArm (now (image .entry)) here left r ⌝ }
 {
     let first = here.over(image);
     let block = first.cursor;
@@ -317,159 +306,125 @@ fn after_arm(image: &[u8], here: Cursor, left: usize) -> Cursor
     block
 }
 
-// Two less, or none.
+// The nodes of an If that are left behind a branch.
 fn fewer(left: usize) -> usize
     ensures { λ r. ⌜ r ≡ left - 2 ⌝ }
 {
-    if left < 2 {
-        return OK;
+    if left < ARM {
+        return 0;
     }
-    left - 2
+    left - ARM
 }
 
-// The statement at node `at`, at most `depth` deep.
-fn stmt(
+// The statement at the cursor, at most `depth` deep.
+fn tc_stmt(
     image: &[u8],
-    nodes: usize,
+    here: Cursor,
     rows: &mut Frames,
     table: &mut [u16],
     notes: &mut Notes,
     stack: &mut Stack,
-    at: usize,
     depth: usize,
     looped: bool,
     plain: bool,
-) -> usize
-    requires { ⌜ Walkable (now image) nodes at depth (lent (now rows) (now table) (now notes) (now stack)) ⌝ }
-    ensures { λ r. ⌜ WalksStmt (now (image .entry)) at depth looped plain r
+) -> End
+    requires { ⌜ Walkable (now image) here depth (lent (now rows) (now table) (now notes) (now stack)) ⌝ }
+    ensures { λ r. ⌜ WalksStmt (now (image .entry)) here depth looped plain r
         (lent (now (rows .entry)) (now (table .entry)) (now (notes .entry)) (now (stack .entry)))
         (lent (now (rows .exit)) (now (table .exit)) (now (notes .exit)) (now (stack .exit))) ⌝ }
 {
-    let node = node_at(image, nodes, at);
+    let read = here.next(image);
+    let node = read.node;
     let kind = node.kind;
     let d = depth - 1;
-    let top = wide(notes[TOP]);
     match kind {
-        kinds::IF => choices(
-            image,
-            nodes,
-            rows,
-            table,
-            notes,
-            stack,
-            at,
-            d,
-            looped,
-            plain,
-        ),
-        kinds::WHILE => repeat(image, nodes, rows, table, notes, stack, at, d, plain),
-        kinds::FOR => each(image, nodes, rows, table, notes, stack, at, d, plain),
-        kinds::DEF => define(image, nodes, rows, table, notes, stack, at, d, plain),
-        _ => simple(
-            image,
-            nodes,
-            rows,
-            top,
-            table,
-            notes,
-            stack,
-            at,
-            kind,
-            d,
-            looped,
-        ),
+        kinds::IF => choices(image, here, rows, table, notes, stack, d, looped, plain),
+        kinds::WHILE => repeat(image, here, rows, table, notes, stack, d, plain),
+        kinds::FOR => each(image, here, rows, table, notes, stack, d, plain),
+        kinds::DEF => define(image, here, rows, table, notes, stack, d, plain),
+        _ => {
+            let top = wide(notes[TOP]);
+            let r = simple(image, here, rows, top, table, notes, stack, d, looped);
+            end_of(r)
+        }
     }
 }
 
-// The Block at node `at`; its typing errors are dropped, or the first is returned.
+// The Block at the cursor; its typing errors are dropped, or the first is returned.
 fn block(
     image: &[u8],
-    nodes: usize,
+    here: Cursor,
     rows: &mut Frames,
     table: &mut [u16],
     notes: &mut Notes,
     stack: &mut Stack,
-    at: usize,
     depth: usize,
     looped: bool,
     drops: bool,
     plain: bool,
-) -> usize
-    requires { ⌜ Walkable (now image) nodes at depth (lent (now rows) (now table) (now notes) (now stack)) ⌝ }
-    ensures { λ r. ⌜ WalksBlock (now (image .entry)) at depth looped drops plain r
+) -> End
+    requires { ⌜ Walkable (now image) here depth (lent (now rows) (now table) (now notes) (now stack)) ⌝ }
+    ensures { λ r. ⌜ WalksBlock (now (image .entry)) here depth looped drops plain r
         (lent (now (rows .entry)) (now (table .entry)) (now (notes .entry)) (now (stack .entry)))
         (lent (now (rows .exit)) (now (table .exit)) (now (notes .exit)) (now (stack .exit))) ⌝ }
 {
-    let here = Cursor { at, nodes };
     let read = here.next(image);
     let node = read.node;
     let d = depth - 1;
     let mut next = read.cursor;
     let mut left = node.children as usize;
     while 0 < left {
-        let r = stmt(
-            image,
-            nodes,
-            rows,
-            table,
-            notes,
-            stack,
-            next.at,
-            d,
-            looped,
-            plain,
-        );
-        if r == ERR {
-            if notes[CODE] == codes::NINTH_FRAME {
-                return r;
+        let r = tc_stmt(image, next, rows, table, notes, stack, d, looped, plain);
+        match r {
+            End::Done => {}
+            End::Wrong => {
+                if !drops {
+                    return r;
+                }
             }
-            if !drops {
-                return r;
-            }
+            End::TooDeep => return r,
         }
         let passed = next.over(image);
         next = passed.cursor;
         left -= 1;
     }
-    OK
+    End::Done
 }
 
-// The If at node `at`: its branches, each on a copy of the frames, and then the merge.
+// An If: its branches, each on a copy of the frames, and then the merge, which is refused at the first condition.
 fn choices(
     image: &[u8],
-    nodes: usize,
+    here: Cursor,
     rows: &mut Frames,
     table: &mut [u16],
     notes: &mut Notes,
     stack: &mut Stack,
-    at: usize,
     depth: usize,
     looped: bool,
     plain: bool,
-) -> usize
-    requires { ⌜ OfKind 8 (now image) nodes at depth (lent (now rows) (now table) (now notes) (now stack)) ⌝ }
-    ensures { λ r. ⌜ Acts (now (image .entry)) at depth looped plain r
+) -> End
+    requires { ⌜ OfKind 8 (now image) here depth (lent (now rows) (now table) (now notes) (now stack)) ⌝ }
+    ensures { λ r. ⌜ Acts (now (image .entry)) here depth looped plain r
         (lent (now (rows .entry)) (now (table .entry)) (now (notes .entry)) (now (stack .entry)))
         (lent (now (rows .exit)) (now (table .exit)) (now (notes .exit)) (now (stack .exit))) ⌝ }
 {
-    let mut merged = [ABSENT; MOST_NAMES];
+    let mut merged = NO_NAMES;
     let mut clashes = [false; MOST_NAMES];
-    let here = Cursor { at, nodes };
     let read = here.next(image);
     let node = read.node;
+    let condition = read.cursor;
     let top = wide(notes[TOP]);
-    let mut next = read.cursor;
+    let mut next = condition;
     let mut left = node.children as usize;
     while 0 < left {
         let mut branch = *rows;
         let r = one_arm(
             image,
-            nodes,
+            next,
             &mut branch,
             table,
             notes,
             stack,
-            next.at,
             left,
             depth,
             looped,
@@ -477,55 +432,57 @@ fn choices(
         );
         let high = wide(notes[TOP]);
         notes[TOP] = small(top);
-        if r == ERR {
+        let End::Done = r else {
             return r;
-        }
+        };
         note_branch(rows, top, &branch, high, &mut merged, &mut clashes);
         next = after_arm(image, next, left);
         left = fewer(left);
     }
     let merge = commit(rows, top, &merged, &clashes);
     match merge {
-        Merge::Whole => OK,
-        Merge::Clash(name) => refused(notes, codes::INCOMPATIBLE_BRANCHES, at + 1, name, 0),
+        Merge::Whole => End::Done,
+        Merge::Clash(name) => {
+            refuse(notes, codes::INCOMPATIBLE_BRANCHES, condition.at, name, 0);
+            End::Wrong
+        }
     }
 }
 
-// The branch at node `at`, of `left` nodes of an If: its condition, if it has one, and its Block, whose errors plain drops.
+// A branch, of `left` nodes of an If: its condition, if it has one, and its Block, whose errors plain drops.
 fn one_arm(
     image: &[u8],
-    nodes: usize,
+    here: Cursor,
     rows: &mut Frames,
     table: &mut [u16],
     notes: &mut Notes,
     stack: &mut Stack,
-    at: usize,
     left: usize,
     depth: usize,
     looped: bool,
     plain: bool,
-) -> usize
-    requires { ⌜ InIf (now image) nodes at left depth (lent (now rows) (now table) (now notes) (now stack)) ⌝ }
-    ensures { λ r. ⌜ WalksArm (now (image .entry)) at left depth looped plain r
+) -> End
+    requires { ⌜ InIf (now image) here left depth (lent (now rows) (now table) (now notes) (now stack)) ⌝ }
+    ensures { λ r. ⌜ WalksArm (now (image .entry)) here left depth looped plain r
         (lent (now (rows .entry)) (now (table .entry)) (now (notes .entry)) (now (stack .entry)))
         (lent (now (rows .exit)) (now (table .exit)) (now (notes .exit)) (now (stack .exit))) ⌝ }
 {
     let drops = plain;
     if 1 < left {
         let top = wide(notes[TOP]);
-        let o = condition(image, nodes, rows, top, table, notes, stack, at, depth);
-        if o == ERR {
-            return o;
-        }
-        let b = stop_of(image, nodes, at);
+        let o = ensure_bool(image, here, rows, top, table, notes, stack, depth);
+        let Outcome::Ok = o else {
+            return End::Wrong;
+        };
+        let passed = here.over(image);
+        let body = passed.cursor;
         return block(
             image,
-            nodes,
+            body,
             rows,
             table,
             notes,
             stack,
-            b,
             depth,
             looped,
             drops,
@@ -534,12 +491,11 @@ fn one_arm(
     }
     block(
         image,
-        nodes,
+        here,
         rows,
         table,
         notes,
         stack,
-        at,
         depth,
         looped,
         drops,
@@ -547,89 +503,91 @@ fn one_arm(
     )
 }
 
-// The Def at node `at`: its body on a frame more, which a failure leaves.
+// A Def: its body on a frame more, which a failure leaves.
 fn define(
     image: &[u8],
-    nodes: usize,
+    here: Cursor,
     rows: &mut Frames,
     table: &mut [u16],
     notes: &mut Notes,
     stack: &mut Stack,
-    at: usize,
     depth: usize,
     plain: bool,
-) -> usize
-    requires { ⌜ OfKind 11 (now image) nodes at depth (lent (now rows) (now table) (now notes) (now stack)) ⌝ }
-    ensures { λ r. ⌜ ActsAnywhere (now (image .entry)) at depth plain r
+) -> End
+    requires { ⌜ OfKind 11 (now image) here depth (lent (now rows) (now table) (now notes) (now stack)) ⌝ }
+    ensures { λ r. ⌜ ActsAnywhere (now (image .entry)) here depth plain r
         (lent (now (rows .entry)) (now (table .entry)) (now (notes .entry)) (now (stack .entry)))
         (lent (now (rows .exit)) (now (table .exit)) (now (notes .exit)) (now (stack .exit))) ⌝ }
 {
     let top = wide(notes[TOP]);
     let ret = notes[RETURNS];
     if LAST_FRAME <= top {
-        return refused(notes, codes::NINTH_FRAME, at, 0, 0);
+        refuse(notes, codes::NINTH_FRAME, here.at, 0, 0);
+        return End::TooDeep;
     }
-    let node = node_at(image, nodes, at);
+    let read = here.next(image);
+    let node = read.node;
+    let first = read.cursor;
     let n = node.children as usize;
     clear(rows, top + 1);
-    let b = parameters(image, nodes, rows, top + 1, at, n - 1);
+    let body = parameters(image, first, rows, top + 1, n - 1);
     notes[TOP] = small(top + 1);
     notes[RETURNS] = NOT_RETURNED;
     let r = block(
         image,
-        nodes,
+        body,
         rows,
         table,
         notes,
         stack,
-        b,
         depth,
         false,
         false,
         plain,
     );
     notes[RETURNS] = ret;
-    if r == ERR {
+    let End::Done = r else {
         return r;
-    }
+    };
     notes[TOP] = notes[TOP] - 1;
-    OK
+    End::Done
 }
 
-// The For at node `at`: its body on a copy of the frames, of which nothing stays; its errors are returned.
+// A For: its body on a copy of the frames, of which nothing stays; its errors are returned.
 fn each(
     image: &[u8],
-    nodes: usize,
+    here: Cursor,
     rows: &Frames,
     table: &mut [u16],
     notes: &mut Notes,
     stack: &mut Stack,
-    at: usize,
     depth: usize,
     plain: bool,
-) -> usize
-    requires { ⌜ OfKind 10 (now image) nodes at depth (lent (now rows) (now table) (now notes) (now stack)) ⌝ }
-    ensures { λ r. ⌜ ActsAnywhere (now (image .entry)) at depth plain r
+) -> End
+    requires { ⌜ OfKind 10 (now image) here depth (lent (now rows) (now table) (now notes) (now stack)) ⌝ }
+    ensures { λ r. ⌜ ActsAnywhere (now (image .entry)) here depth plain r
         (lent (now (rows .entry)) (now (table .entry)) (now (notes .entry)) (now (stack .entry)))
         (lent (now (rows .entry)) (now (table .exit)) (now (notes .exit)) (now (stack .exit))) ⌝ }
 {
     let top = wide(notes[TOP]);
-    let v = elements(image, nodes, rows, top, table, notes, stack, at + 1, depth);
-    if v == ERR {
-        return v;
-    }
-    let node = node_at(image, nodes, at);
+    let read = here.next(image);
+    let node = read.node;
+    let iterable = read.cursor;
+    let v = elements(image, iterable, rows, top, table, notes, stack, depth);
+    let Typed::Ok(ty) = v else {
+        return End::Wrong;
+    };
     let mut inner = *rows;
-    bind(&mut inner, top, node.arg as usize, v);
-    let b = stop_of(image, nodes, at + 1);
+    bind(&mut inner, top, node.arg as usize, ty);
+    let passed = iterable.over(image);
+    let body = passed.cursor;
     let r = block(
         image,
-        nodes,
+        body,
         &mut inner,
         table,
         notes,
         stack,
-        b,
         depth,
         true,
         false,
@@ -639,39 +597,40 @@ fn each(
     r
 }
 
-// The While at node `at`: its body on a copy of the frames, of which nothing stays; plain drops its errors.
+// A While: its body on a copy of the frames, of which nothing stays; plain drops its errors.
 fn repeat(
     image: &[u8],
-    nodes: usize,
+    here: Cursor,
     rows: &Frames,
     table: &mut [u16],
     notes: &mut Notes,
     stack: &mut Stack,
-    at: usize,
     depth: usize,
     plain: bool,
-) -> usize
-    requires { ⌜ OfKind 9 (now image) nodes at depth (lent (now rows) (now table) (now notes) (now stack)) ⌝ }
-    ensures { λ r. ⌜ ActsAnywhere (now (image .entry)) at depth plain r
+) -> End
+    requires { ⌜ OfKind 9 (now image) here depth (lent (now rows) (now table) (now notes) (now stack)) ⌝ }
+    ensures { λ r. ⌜ ActsAnywhere (now (image .entry)) here depth plain r
         (lent (now (rows .entry)) (now (table .entry)) (now (notes .entry)) (now (stack .entry)))
         (lent (now (rows .entry)) (now (table .exit)) (now (notes .exit)) (now (stack .exit))) ⌝ }
 {
     let top = wide(notes[TOP]);
-    let o = condition(image, nodes, rows, top, table, notes, stack, at + 1, depth);
-    if o == ERR {
-        return o;
-    }
+    let read = here.next(image);
+    let condition = read.cursor;
+    let o = ensure_bool(image, condition, rows, top, table, notes, stack, depth);
+    let Outcome::Ok = o else {
+        return End::Wrong;
+    };
     let mut inner = *rows;
     let drops = plain;
-    let b = stop_of(image, nodes, at + 1);
+    let passed = condition.over(image);
+    let body = passed.cursor;
     let r = block(
         image,
-        nodes,
+        body,
         &mut inner,
         table,
         notes,
         stack,
-        b,
         depth,
         true,
         drops,
@@ -693,8 +652,19 @@ pub struct Walked {
     pub top: usize,
 }
 
+// The code of an end, as document 01 numbers them.
+fn code_of(end: End, notes: &Notes) -> u32
+    ensures { λ r. ⌜ r ≡ endCode end (now (notes .entry)) ⌝ }
+{
+    match end {
+        End::Done => 0,
+        End::Wrong => notes[CODE],
+        End::TooDeep => codes::NINTH_FRAME,
+    }
+}
+
 // The module's statements: errors are returned, and each has a return type of its own.
-pub fn program(
+pub fn typecheck_program(
     image: &[u8],
     frames: &mut Frames,
     table: &mut [u16],
@@ -712,35 +682,33 @@ pub fn program(
     notes[ELEMENTS] = 0;
     notes[TOP] = 0;
     let module = Cursor::first(image);
-    let nodes = module.nodes;
     let read = module.next(image);
     let node = read.node;
     let mut next = read.cursor;
     let mut left = node.children as usize;
     while 0 < left {
         notes[RETURNS] = NOT_RETURNED;
-        let r = stmt(
+        let r = tc_stmt(
             image,
-            nodes,
+            next,
             frames,
             table,
             &mut notes,
             stack,
-            next.at,
             BELOW_MODULE,
             false,
             plain,
         );
-        if r == ERR {
+        let End::Done = r else {
             return Walked {
-                code: notes[CODE],
+                code: code_of(r, &notes),
                 place: wide(notes[PLACE]),
                 a: wide(notes[FIRST]),
                 b: wide(notes[SECOND]),
                 counts: counts_of(&notes),
                 top: wide(notes[TOP]),
             };
-        }
+        };
         let passed = next.over(image);
         next = passed.cursor;
         left -= 1;

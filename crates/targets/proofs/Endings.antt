@@ -15,8 +15,8 @@ use Rattle.types.proofs.Laws.{grown-refl, grown-trans}
 use Rattle.frames.specs.Env.{Rows, framesOf, Fit}
 use Rattle.rules.specs.Outcome.{pieces}
 use Rattle.rules.proofs.Outcomes.{names-none}
-use Rattle.nodes.specs.Notes.{codeIn, placeIn, firstIn, secondIn, tabIn, verdict, Refused}
-use Rattle.nodes.proofs.Noting.{refused-verdict, refused-pieces, refused-first, refused-second, refused-small}
+use Rattle.state.specs.Notes.{codeIn, placeIn, firstIn, secondIn, tabIn, Refused}
+use Rattle.state.proofs.Noting.{refused-pieces, refused-first, refused-second, refused-small}
 use Rattle.targets.specs.Ending.{ended, Named, Left, Assigned}
 
 -- ---- an end, by its code
@@ -82,8 +82,8 @@ assigned-well {ws} {u = u} {gs} {top} {code = code} {place} {a} {b} {code′} {p
   typing = λ q. absurd (omega arith);
 }
 
-pub assigned-noted : {ws : List Name} {r : Ty → End} {t : Tab} {cells ns ms : List ℕ} {gs : Rows} {top : ℕ} {su : List ℕ} {i e M code place a b q : ℕ} → M ≤ 4294967296
-    → (code ≡ 0 → ⊥) → Assigned ws r t (tabIn cells ns) gs top su i e M code place a b → Refused ns ms q code place a b
+pub assigned-noted : {ws : List Name} {r : Ty → End} {t : Tab} {cells ns ms : List ℕ} {gs : Rows} {top : ℕ} {su : List ℕ} {i e M code place a b : ℕ} → M ≤ 4294967296
+    → (code ≡ 0 → ⊥) → Assigned ws r t (tabIn cells ns) gs top su i e M code place a b → Refused ns ms code place a b
     → Assigned ws r t (tabIn cells ms) gs top su i e M (codeIn ms) (placeIn ms) (firstIn ms) (secondIn ms)
 assigned-noted {ws} {cells = cells} {ns} {ms} {gs} {top} {code = code} {place} {a} {b} l z x f =
     let u = tabIn cells ns in
@@ -104,8 +104,3 @@ assigned-noted {ws} {cells = cells} {ns} {ms} {gs} {top} {code = code} {place} {
       left = x .left;
       typing = x .typing;
     }
-
-pub assigned-refused : {ws : List Name} {r : Ty → End} {t : Tab} {cells ns ms : List ℕ} {gs : Rows} {top : ℕ} {su : List ℕ} {i e M code place a b q : ℕ} → M ≤ 4294967296
-    → (code ≡ 0 → ⊥) → Assigned ws r t (tabIn cells ns) gs top su i e M code place a b → Refused ns ms q code place a b
-    → Assigned ws r t (tabIn cells ms) gs top su i e M (verdict q ms) (placeIn ms) (firstIn ms) (secondIn ms)
-assigned-refused l z x f = rw (refused-verdict f ∙ sym (f .coded)) (assigned-noted l z x f)

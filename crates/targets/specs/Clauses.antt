@@ -10,13 +10,14 @@ use Rattle.meaning.specs.Walk.{End, done, checked, assignTo, assignEach}
 use Rattle.types.specs.Table.{denote}
 use Rattle.frames.specs.Env.{Rows}
 use Rattle.image.specs.declared.Cursor.{Cursor}
-use Rattle.nodes.specs.Notes.{typesIn, placeIn, firstIn, secondIn}
-use Rattle.nodes.specs.Lent.{Lent, tableOf, stateIn}
+use Rattle.state.specs.Notes.{typesIn, placeIn, firstIn, secondIn, Kept}
+use Rattle.state.specs.Answer.{codeOf, Settled}
+use Rattle.state.specs.Lent.{Lent, tableOf, stateIn}
+use Rattle.state.specs.declared.Outcome.{Outcome}
+use Rattle.state.specs.declared.Outcome.the-variants as outcome
 use Rattle.expr.specs.Contract.{At}
 use Rattle.expr.specs.Clauses.{Asked}
-use Rattle.targets.specs.declared.Outcome.{Outcome}
 use Rattle.targets.specs.Ending.{Assigned}
-use Rattle.targets.specs.Answer.{codeOf, Held, Settled}
 use Rattle.targets.specs.Spreading.{Written, spread, Spreads, Unpacks, Within}
 
 -- ---- what is asked
@@ -65,7 +66,7 @@ abbrev pub Ends : List ℕ → Cursor → ℕ → Outcome → Lent → Lent → 
 Ends bs c top o w v r =
     Assigned (namesOf bs) r (tableOf w) (tableOf v) (v .rows) top (v .stack) (c .at) (stopOf (nodesOf bs) (c .at)) (nodeCount bs)
     (codeOf o (v .notes)) (placeIn (v .notes)) (firstIn (v .notes)) (secondIn (v .notes))
-    × Held (w .notes) (v .notes) o
+    × Kept (w .notes) (v .notes) (o ≡ outcome.Err)
 
 abbrev pub Checks : List ℕ → Cursor → ℕ → ℕ → Outcome → Lent → Lent → Type 0
 Checks bs c top d o w v = Ends bs c top o w v λ y.

@@ -10,7 +10,7 @@ use Rattle.meaning.specs.Types.{Ty}
 use Rattle.meaning.specs.Image.{Name}
 use Rattle.meaning.specs.Message.{refusal}
 use Rattle.meaning.specs.Walk.{State, state, End, done, wrong, tooDeep}
-use Rattle.types.specs.Table.{Tab, Grown, denote}
+use Rattle.types.specs.Table.{Tab, Grown}
 use Rattle.frames.specs.Env.{Rows, framesOf, Fit}
 use Rattle.rules.specs.Outcome.{typesNamed, pieces}
 

@@ -1,4 +1,3 @@
 pub mod Ending
 pub mod Spreading
-pub mod Answer
 pub mod Clauses

@@ -3,22 +3,24 @@ ghost use mathlib.Core.Path.{_≡_};
 ghost use Prim.Native.Nat.{_<_};
 ghost use Rattle.meaning.specs.Limits.{mostNames, mostFrames};
 ghost use Rattle.rules.specs.Leaves.{Known};
-ghost use Rattle.nodes.specs.Notes.{err, Noting, Refused};
-ghost use Rattle.nodes.specs.Lent.{lent};
+ghost use Rattle.state.specs.Notes.{Noting};
+ghost use Rattle.state.specs.Lent.{lent};
 ghost use Rattle.types.specs.Table.{mostNumbers};
 ghost use Rattle.targets.specs.Spreading.{Sharing, Share};
-ghost use Rattle.targets.specs.Clauses.{Checkable, Assignable, Single, Spreadable, AssignsName, UnpacksInto, Checks, Assigns, AssignsEach};
-use expr::expr;
+ghost use Rattle.targets.specs.Clauses.{Checkable, Assignable, Single, Spreadable};
+ghost use Rattle.targets.specs.Clauses.{AssignsName, UnpacksInto, Checks, Assigns, AssignsEach};
+use expr::tc_expr;
 use frames::Frames;
 use frames::bind;
 use frames::lookup;
 use image::Cursor;
 use image::kinds;
-use nodes::ERR;
-use nodes::Notes;
-use nodes::Stack;
-use nodes::refused;
 use rules::codes;
+use state::Notes;
+use state::Outcome;
+use state::Stack;
+use state::Typed;
+use state::refuse;
 use types;
 use types::agreed;
 use types::count_of;
@@ -26,21 +28,8 @@ use types::element_at;
 use types::kind_of;
 use types::part_of;
 
-// How a target ended: T's `SemanticResult<()>`. What an Err refuses is noted.
-pub enum Outcome {
-    Ok,
-    Err,
-}
-
-fn refuse(notes: &mut Notes, code: u32, place: usize, a: usize, b: usize) -> Outcome
-    requires { ⌜ Noting (now notes) ⌝ }
-    ensures { λ r. ⌜ (r ≡ Outcome.Err) × Refused (now (notes .entry)) (now (notes .exit)) err code place a b ⌝ }
-{
-    refused(notes, code, place, a, b);
-    Outcome::Err
-}
-
-// "Absent or Unknown takes the new type; Unknown keeps the old one; otherwise equal or 25": type `ty` for name x, at node `at`.
+// "Absent or Unknown takes the new type; Unknown keeps the old one; otherwise equal or 25": type `ty` for name x, at
+// node `at`.
 fn assign_name(
     frames: &mut Frames,
     top: usize,
@@ -51,7 +40,8 @@ fn assign_name(
 ) -> Outcome
     requires { ⌜ Noting (now notes) ⌝ }
     requires { ⌜ (top < mostFrames) × (x < mostNames) × (ty < mostNumbers) ⌝ }
-    ensures { λ r. ⌜ AssignsName top at x ty r (now (frames .entry)) (now (frames .exit)) (now (notes .entry)) (now (notes .exit)) ⌝ }
+    ensures { λ r. ⌜ AssignsName top at x ty r (now (frames .entry)) (now (frames .exit))
+        (now (notes .entry)) (now (notes .exit)) ⌝ }
 {
     let old = lookup(frames, top, x);
     let both = agreed(old, ty);
@@ -59,7 +49,8 @@ fn assign_name(
         bind(frames, top, x, both.number);
         return Outcome::Ok;
     }
-    refuse(notes, codes::CANNOT_ASSIGN, at, ty, old)
+    refuse(notes, codes::CANNOT_ASSIGN, at, ty, old);
+    Outcome::Err
 }
 
 // Whether type `ty` can be unpacked into the k targets of the Tuple at node `at`: a List and Unknown into any number.
@@ -76,9 +67,13 @@ fn unpack(table: &[u16], notes: &mut Notes, at: usize, ty: usize, k: u32) -> Out
             if n == k {
                 return Outcome::Ok;
             }
-            refuse(notes, codes::UNPACK_LENGTH, at, n, k)
+            refuse(notes, codes::UNPACK_LENGTH, at, n, k);
+            Outcome::Err
         }
-        _ => refuse(notes, codes::UNPACK_NON_ITERABLE, at, ty, 0),
+        _ => {
+            refuse(notes, codes::UNPACK_NON_ITERABLE, at, ty, 0);
+            Outcome::Err
+        }
     }
 }
 
@@ -110,21 +105,10 @@ fn check_only(
         (lent (now (frames .entry)) (now (table .entry)) (now (notes .entry)) (now (stack .entry)))
         (lent (now (frames .entry)) (now (table .exit)) (now (notes .exit)) (now (stack .exit))) ⌝ }
 {
-    let v = expr(
-        image,
-        here.nodes,
-        frames,
-        top,
-        table,
-        notes,
-        stack,
-        0,
-        here.at,
-        depth,
-    );
-    if v == ERR {
+    let r = tc_expr(image, here, frames, top, table, notes, stack, 0, depth);
+    let Typed::Ok(_) = r else {
         return Outcome::Err;
-    }
+    };
     Outcome::Ok
 }
 
@@ -153,12 +137,15 @@ fn single(
         kinds::ATTRIBUTE | kinds::INDEX => {
             check_only(image, here, frames, top, table, notes, stack, depth)
         }
-        _ => refuse(notes, codes::INVALID_TARGET, here.at, 0, 0),
+        _ => {
+            refuse(notes, codes::INVALID_TARGET, here.at, 0, 0);
+            Outcome::Err
+        }
     }
 }
 
-// Assigns a value of type `ty` to the target at the cursor (T's tc_assign_target).
-pub fn assign(
+// Assigns a value of type `ty` to the target at the cursor.
+pub fn tc_assign_target(
     image: &[u8],
     here: Cursor,
     frames: &mut Frames,
@@ -198,7 +185,8 @@ pub fn assign(
     )
 }
 
-// "Tuple targets bind left to right, and those bound before an error stay bound": the n targets of the Tuple at the cursor.
+// "Tuple targets bind left to right, and those bound before an error stay bound": the n targets of the Tuple at the
+// cursor.
 fn assign_each(
     image: &[u8],
     here: Cursor,
@@ -221,7 +209,7 @@ fn assign_each(
     let mut j: usize = 0;
     while j < n {
         let part = part_for(table, ty, j);
-        let r = assign(image, next, frames, top, table, notes, stack, part, depth);
+        let r = tc_assign_target(image, next, frames, top, table, notes, stack, part, depth);
         let Outcome::Ok = r else {
             return r;
         };

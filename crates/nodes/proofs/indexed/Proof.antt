@@ -9,19 +9,19 @@ use Rattle.nodes.proofs.decided.Reads as decided-reads
 use Rattle.nodes.proofs.index_place.Reads as index-place-reads
 use Rattle.rules.proofs.index.Reads as index-reads
 
--- src/lib.rt:247:9
+-- src/lib.rt:128:9
 index-requires : tie.Need-index-requires
 index-requires c κs = search needs
 
--- src/lib.rt:248:23
+-- src/lib.rt:129:23
 index-place-requires : tie.Need-index-place-requires
 index-place-requires c κs = search needs
 
--- src/lib.rt:248:5
+-- src/lib.rt:129:5
 decided-requires : tie.Need-decided-requires
 decided-requires c κs = search needs
 
--- src/lib.rt:235:1
+-- src/lib.rt:123:1
 returns : tie.Need-returns
 returns c =
     indexed-at (c .before .before .before .index .ensures) (c .before .index-place .ensures) (c .decided .ensures)

@@ -32,17 +32,23 @@ returns : tie.Need-returns
 returns c =
     binary-gives _ (c .before .before .before .kind-of .ensures) (c .before .before .kind-of2 .ensures) (c .before .answer-of .ensures) (c .if1 .taken)
 
+refused-requires : tie.Need-refused-requires
+refused-requires c κs = search needs
+
 returns-2 : tie.Need-returns-2
 returns-2 c =
-    binary-refuses _ (c .before .before .before .before .kind-of .ensures) (c .before .before .before .kind-of2 .ensures) (c .before .before .answer-of .ensures) (c .if2 .taken)
+    rw (c .refused .ensures) (binary-refuses _ (c .before .before .before .before .before .kind-of .ensures) (c .before .before .before .before .kind-of2 .ensures) (c .before .before .before .answer-of .ensures) (c .before .if2 .taken))
 
 returns-3 : tie.Need-returns-3
 returns-3 c =
     binary-equal _ (c .before .before .before .before .before .kind-of .ensures) (c .before .before .before .before .kind-of2 .ensures) (c .before .before .before .answer-of .ensures) (omega arith) (c .if3 .taken)
 
+refused-requires-2 : tie.Need-refused-requires-2
+refused-requires-2 c κs = search needs
+
 returns-4 : tie.Need-returns-4
 returns-4 c =
-    binary-differs _ (c .before .before .before .before .before .kind-of .ensures) (c .before .before .before .before .kind-of2 .ensures) (c .before .before .before .answer-of .ensures) (omega arith) (c .if3 .left)
+    rw (c .refused2 .ensures) (binary-differs _ (c .before .before .before .before .before .before .kind-of .ensures) (c .before .before .before .before .before .kind-of2 .ensures) (c .before .before .before .before .answer-of .ensures) (omega arith) (c .before .if3 .left))
 
 pub binary-spec : {M : Type 1} → statement M
 binary-spec =
@@ -55,6 +61,8 @@ binary-spec =
     answer-of-requires
     cast-t11
     returns
+    refused-requires
     returns-2
     returns-3
+    refused-requires-2
     returns-4)

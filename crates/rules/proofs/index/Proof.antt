@@ -36,6 +36,9 @@ common-of-requires c κs =
 expect-requires-3 : tie.Need-expect-requires-3
 expect-requires-3 c κs = search needs
 
+refused-requires : tie.Need-refused-requires
+refused-requires c κs = search needs
+
 returns : tie.Need-returns
 returns c =
     index-unknown (c .before .kind-of .ensures) _ (c .match .keys1)
@@ -58,8 +61,8 @@ returns-5 c =
 
 returns-6 : tie.Need-returns-6
 returns-6 c =
-    let r = c .match .rest in
-    index-other (c .before .kind-of .ensures) _ (r .0 .0 .0 .0 .1) (r .0 .0 .0 .1) (r .0 .0 .1) (r .0 .1) (r .1)
+    let r = c .before .match .rest in
+    rw (c .refused .ensures) (index-other (c .before .before .kind-of .ensures) _ (r .0 .0 .0 .0 .1) (r .0 .0 .0 .1) (r .0 .0 .1) (r .0 .1) (r .1))
 
 pub index-spec : {M : Type 1} → statement M
 index-spec =
@@ -74,6 +77,7 @@ index-spec =
     key-requires
     common-of-requires
     expect-requires-3
+    refused-requires
     returns
     returns-2
     returns-3

@@ -13,15 +13,13 @@ returns : tie.Need-returns
 returns c =
     sized-yes (c .before .before .kind-of .ensures) (c .before .has-length .ensures) (c .if1 .taken)
 
+refused-requires : tie.Need-refused-requires
+refused-requires c κs = search needs
+
 returns-2 : tie.Need-returns-2
 returns-2 c =
-    sized-no (c .before .before .kind-of .ensures) (c .before .has-length .ensures) (c .if1 .left)
+    rw (c .refused .ensures) (sized-no (c .before .before .before .kind-of .ensures) (c .before .before .has-length .ensures) (c .before .if1 .left))
 
 pub len-spec : {M : Type 1} → statement M
 len-spec =
-    tie.close
-    (tie.spec
-    kind-of-requires
-    has-length-requires
-    returns
-    returns-2)
+    tie.close (tie.spec kind-of-requires has-length-requires returns refused-requires returns-2)

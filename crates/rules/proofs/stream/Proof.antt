@@ -22,12 +22,15 @@ returns c =
 second-code-requires : tie.Need-second-code-requires
 second-code-requires c κs = search needs
 
+refused-requires : tie.Need-refused-requires
+refused-requires c κs = search needs
+
 same-length-2 : tie.Need-same-length-2
 same-length-2 c = search needs
 
 returns-2 : tie.Need-returns-2
 returns-2 c =
-    second-refuses _ (c .before .before .before .before .before .pre) (c .before .before .streamed-of .ensures) (c .second-code .ensures) (c .before .if1 .left)
+    rw (c .refused .ensures) (second-refuses _ (c .before .before .before .before .before .before .pre) (c .before .before .before .streamed-of .ensures) (c .before .second-code .ensures) (c .before .before .if1 .left))
 
 pub stream-spec : {M : Type 1} → statement M
 stream-spec =
@@ -38,5 +41,6 @@ stream-spec =
     same-length
     returns
     second-code-requires
+    refused-requires
     same-length-2
     returns-2)

@@ -24,9 +24,12 @@ returns : tie.Need-returns
 returns c =
     unary-gives _ (c .before .before .kind-of .ensures) (c .before .unary-answer-of .ensures) (c .if1 .taken)
 
+refused-requires : tie.Need-refused-requires
+refused-requires c κs = search needs
+
 returns-2 : tie.Need-returns-2
 returns-2 c =
-    unary-refuses _ (c .before .before .kind-of .ensures) (c .before .unary-answer-of .ensures) (c .if1 .left)
+    rw (c .refused .ensures) (unary-refuses _ (c .before .before .before .kind-of .ensures) (c .before .before .unary-answer-of .ensures) (c .before .if1 .left))
 
 pub unary-spec : {M : Type 1} → statement M
 unary-spec =
@@ -37,4 +40,5 @@ unary-spec =
     unary-answer-of-requires
     cast-t8
     returns
+    refused-requires
     returns-2)

@@ -1,7 +1,7 @@
 -- `stmt::evaluate` meets its contract: each way out is one law of Leaves.
-use Rattle.nodes.proofs.Noting.{kept-as, went-ill, went-well}
-use Rattle.stmt.proofs.Cells.{verdict-zero}
+use Rattle.state.proofs.Noting.{kept-as, kept-ok, outcome-apart}
 use Rattle.stmt.proofs.Laws.{assigned-any}
+use Rattle.stmt.proofs.Cells.{checks-err, checks-ok}
 use Rattle.stmt.proofs.Leaves.{evaluate-bad, evaluate-done}
 use mathlib.Core.Path.{refl}
 use native.Mathlib.Omega.{arith}
@@ -11,32 +11,31 @@ use Rattle.stmt.proofs.evaluate.Tie as tie
 use Rattle.stmt.proofs.evaluate.Reads as reads
 use Rattle.stmt.proofs.evaluate.Lts as lts
 
-expr-requires : tie.Need-expr-requires
-expr-requires c κs =
-    (c .before .before .before .before .before .pre .0, (c .before .before .before .before .before .pre .1 .0, c .before .before .before .before .before .pre .1 .1))
+tc-expr-requires : tie.Need-tc-expr-requires
+tc-expr-requires c κs =
+    c .before .before .before .before .before .pre
+
+enum-told : tie.Need-enum-told
+enum-told c = search needs
+
+enum-told-2 : tie.Need-enum-told-2
+enum-told-2 c = search needs
 
 same-length : tie.Need-same-length
 same-length c = search needs
 
 returns : tie.Need-returns
 returns c =
-    (evaluate-bad (c .before .before .before .before .before .before .before .before .before .pre .1 .0) (c .before .before .before .before .before .before .before .before .before .pre .1 .1) (c .before .before .before .expr .ensures .0) (went-ill (c .before .before .before .expr .ensures .1) (c .if1 .taken)), c .before .before .before .expr .ensures .1)
+    (evaluate-bad (c .before .before .before .before .before .before .before .before .before .before .pre .1 .0) (c .before .before .before .before .before .before .before .before .before .before .pre .1 .1) (checks-err _ (c .enum-told2 .given .1) (c .before .before .before .before .tc-expr .ensures .0)) ((c .before .before .before .before .tc-expr .ensures .1) .coded (c .enum-told2 .given .1)), kept-as (λ _. (c .enum-told2 .given .1)) (c .before .before .before .before .tc-expr .ensures .1))
 
 same-length-2 : tie.Need-same-length-2
 same-length-2 c = search needs
 
 returns-2 : tie.Need-returns-2
-returns-2 c = (
-  assigned-any refl (verdict-zero _) (evaluate-done (c .before .before .before .before .before .before .before .before .before .pre .1 .0) (c .before .before .before .before .before .before .before .before .before .pre .1 .1) (c .before .before .before .expr .ensures .0) (went-well (c .before .before .before .expr .ensures .1) (c .if1 .left))),
-  kept-as (omega arith) (c .before .before .before .expr .ensures .1),
-)
+returns-2 c =
+    (assigned-any refl refl (evaluate-done (c .before .before .before .before .before .before .before .before .before .before .pre .1 .0) (c .before .before .before .before .before .before .before .before .before .before .pre .1 .1) (checks-ok _ (c .enum-told .given .1) (c .before .before .before .before .tc-expr .ensures .0)) refl), kept-ok (λ e. outcome-apart e) (c .before .before .before .before .tc-expr .ensures .1))
 
 pub evaluate-spec : {M : Type 1} → statement M
 evaluate-spec =
     tie.close
-    (tie.spec
-    expr-requires
-    same-length
-    returns
-    same-length-2
-    returns-2)
+    (tie.spec tc-expr-requires enum-told enum-told-2 same-length returns same-length-2 returns-2)

@@ -1,7 +1,7 @@
 -- `stmt::give` meets its contract: each way out is one law of Leaves.
-use Rattle.nodes.proofs.Noting.{kept-noting, refused-kept, went-ill, went-well}
-use Rattle.stmt.proofs.Cells.{agreement-from, done-ends, done-refused, moved-noting, refused-from, ret-set, small-agreed, small-node, small-old, small-type, tab-moved, tells-kept, tells-zero, verdict-zero}
-use Rattle.stmt.proofs.Laws.{done-any}
+use Rattle.state.proofs.Noting.{kept-as, kept-noting, outcome-apart}
+use Rattle.stmt.proofs.Laws.{done-any, typing}
+use Rattle.stmt.proofs.Cells.{agreement-from, checks-err, checks-ok, done-ends, done-refused, moved-noting, refused-from, ret-set, small-agreed, small-node, small-old, small-type, tab-moved, tells-kept, tells-ok, tells-refused}
 use Rattle.stmt.proofs.Leaves.{give-agreed, give-bad, give-wrong}
 use mathlib.Core.Path.{_∙_, refl, sym}
 use native.Mathlib.Omega.{arith}
@@ -11,20 +11,24 @@ use Rattle.stmt.proofs.give.Tie as tie
 use Rattle.stmt.proofs.give.Reads as reads
 use Rattle.stmt.proofs.give.Lts as lts
 
-expr-requires : tie.Need-expr-requires
-expr-requires c κs =
-    (c .before .before .before .before .before .pre .0, (c .before .before .before .before .before .pre .1 .0 .ready, c .before .before .before .before .before .pre .1 .1 .0))
+tc-expr-requires : tie.Need-tc-expr-requires
+tc-expr-requires c κs =
+    (c .before .before .before .before .before .pre .0, ((c .before .before .before .before .before .pre .1 .0 .ready), (c .before .before .before .before .before .pre .1 .1 .0)))
+
+enum-known-v : tie.Need-enum-known-v
+enum-known-v c = search needs
+
+enum-told : tie.Need-enum-told
+enum-told c = search needs
 
 same-length : tie.Need-same-length
 same-length c = search needs
 
 returns : tie.Need-returns
-returns c =
-    let k = c .before .before .before .expr .ensures .1 in (
-      done-ends refl (k .top ∙ sym (c .before .before .before .before .before .before .before .before .before .pre .1 .1 .1)) (k .ret)
-          (give-bad (c .before .before .before .before .before .before .before .before .before .pre .1 .0 .ready) (c .before .before .before .before .before .before .before .before .before .pre .1 .1 .0) (c .before .before .before .expr .ensures .0) (c .before .before .before .before .before .before .before .before .before .pre .1 .0 .kept) (went-ill k (c .if1 .taken))),
-      tells-kept k,
-    )
+returns c = (
+  done-ends refl ((c .before .before .before .before .tc-expr .ensures .1) .top ∙ (sym (c .before .before .before .before .before .before .before .before .before .before .pre .1 .1 .1))) ((c .before .before .before .before .tc-expr .ensures .1) .ret) (give-bad (c .before .before .before .before .before .before .before .before .before .before .pre .1 .0 .ready) (c .before .before .before .before .before .before .before .before .before .before .pre .1 .1 .0) (checks-err _ (c .enum-told .given .1) (c .before .before .before .before .tc-expr .ensures .0)) (c .before .before .before .before .before .before .before .before .before .before .pre .1 .0 .kept) ((c .before .before .before .before .tc-expr .ensures .1) .coded (c .enum-told .given .1))),
+  tells-kept (kept-as (λ _. (c .enum-told .given .1)) (c .before .before .before .before .tc-expr .ensures .1)) (λ _. typing _ ((c .before .before .before .before .before .before .before .before .before .before .pre .1 .0 .ready) .fit) (checks-err _ (c .enum-told .given .1) (c .before .before .before .before .tc-expr .ensures .0))),
+)
 
 element-copy-out-wide : tie.Need-element-copy-out-wide
 element-copy-out-wide c = search needs
@@ -39,9 +43,7 @@ agreed-requires c κs =
 
 small-requires : tie.Need-small-requires
 small-requires c κs =
-    let k = c .before .before .before .before .before .before .before .expr .ensures .1 in
-    let o = agreement-from (c .before .before .wide .ensures ∙ k .ret) (c .before .agreed .ensures) in
-    small-agreed (c .before .before .before .before .before .before .before .expr .ensures .0) (went-well k (c .before .before .before .before .if1 .left)) (c .before .before .before .before .before .before .before .before .before .before .before .before .before .pre .1 .0 .kept) o
+    small-agreed (checks-ok _ (c .before .before .before .before .before .v .given .1) (c .before .before .before .before .before .before .before .before .before .tc-expr .ensures .0)) refl (c .before .before .before .before .before .before .before .before .before .before .before .before .before .before .before .pre .1 .0 .kept) (agreement-from (c .before .before .wide .ensures ∙ (c .before .before .before .before .before .before .before .before .before .tc-expr .ensures .1) .ret) (c .before .agreed .ensures))
 
 element-write-notes : tie.Need-element-write-notes
 element-write-notes c = search needs
@@ -51,40 +53,33 @@ same-length-2 c = search needs
 
 returns-2 : tie.Need-returns-2
 returns-2 c =
-    let k = c .before .before .before .before .before .before .before .before .expr .ensures .1 in
-    let o = agreement-from (c .before .before .before .wide .ensures ∙ k .ret) (c .before .before .agreed .ensures) in
-    let s = ret-set (kept-noting k) (c .small .ensures) in (
-      done-any refl (verdict-zero _)
-          (done-ends (tab-moved (s .moved) _) (s .top-kept ∙ k .top ∙ sym (c .before .before .before .before .before .before .before .before .before .before .before .before .before .before .pre .1 .1 .1)) (s .ret-is)
-          (give-agreed (c .before .before .before .before .before .before .before .before .before .before .before .before .before .before .pre .1 .0 .ready) (c .before .before .before .before .before .before .before .before .before .before .before .before .before .before .pre .1 .1 .0) (c .before .before .before .before .before .before .before .before .expr .ensures .0) (c .before .before .before .before .before .before .before .before .before .before .before .before .before .before .pre .1 .0 .kept) (went-well k (c .before .before .before .before .before .if1 .left)) o (c .before .if2 .taken))),
-      tells-zero (moved-noting (s .moved)),
+    let s = ret-set (kept-noting (c .before .before .before .before .before .before .before .before .before .before .tc-expr .ensures .1)) (c .small .ensures) in (
+      done-any refl refl (done-ends (tab-moved (s .moved) _) (s .top-kept ∙ (c .before .before .before .before .before .before .before .before .before .before .tc-expr .ensures .1) .top ∙ (sym (c .before .before .before .before .before .before .before .before .before .before .before .before .before .before .before .before .pre .1 .1 .1))) (s .ret-is) (give-agreed (c .before .before .before .before .before .before .before .before .before .before .before .before .before .before .before .before .pre .1 .0 .ready) (c .before .before .before .before .before .before .before .before .before .before .before .before .before .before .before .before .pre .1 .1 .0) (checks-ok _ (c .before .before .before .before .before .before .v .given .1) (c .before .before .before .before .before .before .before .before .before .before .tc-expr .ensures .0)) (c .before .before .before .before .before .before .before .before .before .before .before .before .before .before .before .before .pre .1 .0 .kept) refl (agreement-from (c .before .before .before .wide .ensures ∙ (c .before .before .before .before .before .before .before .before .before .before .tc-expr .ensures .1) .ret) (c .before .before .agreed .ensures)) (c .before .if1 .taken))),
+      tells-ok (moved-noting (s .moved)) (λ e. outcome-apart e),
     )
 
-refused-requires : tie.Need-refused-requires
-refused-requires c κs =
-    kept-noting (c .before .before .before .before .before .before .before .before .expr .ensures .1)
+refuse-requires : tie.Need-refuse-requires
+refuse-requires c κs =
+    kept-noting (c .before .before .before .before .before .before .before .before .before .before .tc-expr .ensures .1)
 
 same-length-3 : tie.Need-same-length-3
 same-length-3 c = search needs
 
 returns-3 : tie.Need-returns-3
 returns-3 c =
-    let k = c .before .before .before .before .before .before .before .before .before .expr .ensures .1 in
-    let e = c .before .before .before .before .wide .ensures ∙ k .ret in
-    let v = went-well k (c .before .before .before .before .before .before .if1 .left) in
-    let o = agreement-from e (c .before .before .before .agreed .ensures) in
-    let f = refused-from e (c .refused .ensures) in (
-      done-refused f (small-node (c .before .before .before .before .before .before .before .before .before .before .before .before .before .before .before .pre .1 .0 .ready .sound) (c .before .before .before .before .before .before .before .before .before .before .before .before .before .before .before .pre .1 .1 .0 .there)) (small-old (c .before .before .before .before .before .before .before .before .before .expr .ensures .0) (c .before .before .before .before .before .before .before .before .before .before .before .before .before .before .before .pre .1 .0 .kept)) (small-type (c .before .before .before .before .before .before .before .before .before .expr .ensures .0) v)
-          (f .top ∙ k .top ∙ sym (c .before .before .before .before .before .before .before .before .before .before .before .before .before .before .before .pre .1 .1 .1)) (f .ret ∙ k .ret)
-          (give-wrong (c .before .before .before .before .before .before .before .before .before .before .before .before .before .before .before .pre .1 .0 .ready) (c .before .before .before .before .before .before .before .before .before .before .before .before .before .before .before .pre .1 .1 .0) (c .before .before .before .before .before .before .before .before .before .expr .ensures .0) (c .before .before .before .before .before .before .before .before .before .before .before .before .before .before .before .pre .1 .0 .kept) v o (c .before .before .if2 .left)),
-      tells-kept (refused-kept (λ z. omega arith) f),
+    let f = refused-from (c .before .before .before .before .wide .ensures ∙ (c .before .before .before .before .before .before .before .before .before .before .before .tc-expr .ensures .1) .ret) (c .refuse .ensures) in (
+      done-refused f (small-node ((c .before .before .before .before .before .before .before .before .before .before .before .before .before .before .before .before .before .pre .1 .0 .ready) .sound) ((c .before .before .before .before .before .before .before .before .before .before .before .before .before .before .before .before .before .pre .1 .1 .0) .there)) (small-old (checks-ok _ (c .before .before .before .before .before .before .before .v .given .1) (c .before .before .before .before .before .before .before .before .before .before .before .tc-expr .ensures .0)) (c .before .before .before .before .before .before .before .before .before .before .before .before .before .before .before .before .before .pre .1 .0 .kept)) (small-type (checks-ok _ (c .before .before .before .before .before .before .before .v .given .1) (c .before .before .before .before .before .before .before .before .before .before .before .tc-expr .ensures .0)) refl) (f .top ∙ (c .before .before .before .before .before .before .before .before .before .before .before .tc-expr .ensures .1) .top ∙ (sym (c .before .before .before .before .before .before .before .before .before .before .before .before .before .before .before .before .before .pre .1 .1 .1))) (f .ret ∙ (c .before .before .before .before .before .before .before .before .before .before .before .tc-expr .ensures .1) .ret)
+          (give-wrong (c .before .before .before .before .before .before .before .before .before .before .before .before .before .before .before .before .before .pre .1 .0 .ready) (c .before .before .before .before .before .before .before .before .before .before .before .before .before .before .before .before .before .pre .1 .1 .0) (checks-ok _ (c .before .before .before .before .before .before .before .v .given .1) (c .before .before .before .before .before .before .before .before .before .before .before .tc-expr .ensures .0)) (c .before .before .before .before .before .before .before .before .before .before .before .before .before .before .before .before .before .pre .1 .0 .kept) refl (agreement-from (c .before .before .before .before .wide .ensures ∙ (c .before .before .before .before .before .before .before .before .before .before .before .tc-expr .ensures .1) .ret) (c .before .before .before .agreed .ensures)) (c .before .before .if1 .left)),
+      tells-refused (λ z. omega arith) (λ z. omega arith) f,
     )
 
 pub give-spec : {M : Type 1} → statement M
 give-spec =
     tie.close
     (tie.spec
-    expr-requires
+    tc-expr-requires
+    enum-known-v
+    enum-told
     same-length
     returns
     element-copy-out-wide
@@ -94,6 +89,6 @@ give-spec =
     element-write-notes
     same-length-2
     returns-2
-    refused-requires
+    refuse-requires
     same-length-3
     returns-3)

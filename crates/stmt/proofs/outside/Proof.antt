@@ -9,20 +9,15 @@ use Rattle.stmt.proofs.outside.Lts as lts
 
 returns : tie.Need-returns
 returns c =
-    outside-well (c .before .pre .0) (c .if1 .taken)
+    outside-well _ (c .before .args .code) (c .if1 .taken)
 
-refused-requires : tie.Need-refused-requires
-refused-requires c κs =
+refuse-requires : tie.Need-refuse-requires
+refuse-requires c κs =
     c .before .before .pre .0
 
 returns-2 : tie.Need-returns-2
 returns-2 c =
-    outside-ill (c .before .before .before .pre .1 .0) (c .before .before .before .pre .1 .1) (c .before .before .if1 .left) (c .refused .ensures)
+    outside-ill _ (c .before .before .before .pre .1) (c .before .before .if1 .left) (c .refuse .ensures)
 
 pub outside-spec : {M : Type 1} → statement M
-outside-spec =
-    tie.close
-    (tie.spec
-    returns
-    refused-requires
-    returns-2)
+outside-spec = tie.close (tie.spec returns refuse-requires returns-2)

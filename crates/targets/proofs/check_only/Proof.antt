@@ -1,37 +1,45 @@
-use mathlib.Core.Path.{refl}
-use Rattle.nodes.proofs.Noting.{went-well}
-use Rattle.targets.proofs.Answers.{noted-code, held-well, held-ill}
+use Rattle.state.proofs.Noting.{kept-as, kept-ok, outcome-apart, typed-well}
 use Rattle.targets.proofs.Endings.{assigned-well}
 use Rattle.targets.proofs.Singles.{only-checked}
+use mathlib.Core.Path.{refl}
 use native.Mathlib.Omega.{arith}
 use borrow.Author.Needs.{needs}
 use Rattle.targets.proofs.check_only.Statement.{statement}
 use Rattle.targets.proofs.check_only.Tie as tie
 use Rattle.targets.proofs.check_only.Reads as reads
 use Rattle.targets.proofs.check_only.Lts as lts
-use Rattle.expr.proofs.expr.Reads as expr-reads
+use Rattle.expr.proofs.tc_expr.Reads as tc-expr-reads
 
--- src/lib.rt:140:9
-expr-requires : tie.Need-expr-requires
-expr-requires c κs = search needs
+-- src/lib.rt:105:9
+tc-expr-requires : tie.Need-tc-expr-requires
+tc-expr-requires c κs = search needs
 
--- src/lib.rt:142:9
+enum-told : tie.Need-enum-told
+enum-told c = search needs
+
+-- src/lib.rt:107:9
+enum-told-2 : tie.Need-enum-told-2
+enum-told-2 c = search needs
+
+-- src/lib.rt:107:9
 same-length : tie.Need-same-length
 same-length c = search needs
 
--- src/lib.rt:142:9
+-- src/lib.rt:107:9
 returns : tie.Need-returns
 returns c =
-    (rw (noted-code (c .before .before .before .expr .ensures .1) (c .if1 .taken)) at (only-checked _ (c .before .before .before .before .before .before .before .before .before .pre .1 .0 .fit) (c .before .before .before .expr .ensures .0)), held-ill (c .before .before .before .expr .ensures .1) (c .if1 .taken))
+    (rw (c .enum-told2 .given .1) at (only-checked _ (c .before .before .before .before .before .before .before .before .before .before .pre .1 .0 .fit) (c .before .before .before .before .tc-expr .ensures .0)), kept-as (λ e. c .enum-told2 .given .1) (c .before .before .before .before .tc-expr .ensures .1))
 
--- src/lib.rt:124:1
+-- src/lib.rt:90:1
 same-length-2 : tie.Need-same-length-2
 same-length-2 c = search needs
 
--- src/lib.rt:124:1
+-- src/lib.rt:90:1
 returns-2 : tie.Need-returns-2
 returns-2 c =
-    (assigned-well (went-well (c .before .before .before .expr .ensures .1) (c .if1 .left)) refl (only-checked _ (c .before .before .before .before .before .before .before .before .before .pre .1 .0 .fit) (c .before .before .before .expr .ensures .0)), held-well (c .before .before .before .expr .ensures .1))
+    (assigned-well (typed-well _ (c .enum-told .given .1)) refl (only-checked _ (c .before .before .before .before .before .before .before .before .before .before .pre .1 .0 .fit) (c .before .before .before .before .tc-expr .ensures .0)), kept-ok (λ e. outcome-apart e) (c .before .before .before .before .tc-expr .ensures .1))
 
 pub check-only-spec : {M : Type 1} → statement M
-check-only-spec = tie.close (tie.spec expr-requires same-length returns same-length-2 returns-2)
+check-only-spec =
+    tie.close
+    (tie.spec tc-expr-requires enum-told enum-told-2 same-length returns same-length-2 returns-2)

@@ -1,48 +1,48 @@
-use mathlib.Core.Logic.{inl, inr}
 use Rattle.rules.proofs.Outcomes.{known-room}
-use Rattle.targets.proofs.Unpacking.{known-count, unpacks-any, unpacks-tuple, unpacks-other, unpacks-not}
-use Rattle.targets.proofs.Answers.{settled-well, settled-ill}
+use Rattle.state.proofs.Noting.{settled-ill, settled-well}
+use Rattle.targets.proofs.Unpacking.{known-count, unpacks-any, unpacks-not, unpacks-other, unpacks-tuple}
+use mathlib.Core.Logic.{inl, inr}
 use native.Mathlib.Omega.{arith}
 use borrow.Author.Needs.{needs}
 use Rattle.targets.proofs.unpack.Statement.{statement}
 use Rattle.targets.proofs.unpack.Tie as tie
 use Rattle.targets.proofs.unpack.Reads as reads
 use Rattle.targets.proofs.unpack.Lts as lts
-use Rattle.targets.proofs.refuse.Reads as refuse-reads
+use Rattle.state.proofs.refuse.Reads as refuse-reads
 use Rattle.types.proofs.count_of.Reads as count-of-reads
 use Rattle.types.proofs.kind_of.Reads as kind-of-reads
 
--- src/lib.rt:71:11
+-- src/lib.rt:59:11
 kind-of-requires : tie.Need-kind-of-requires
 kind-of-requires c κs =
     known-room (c .before .pre .1)
 
--- src/lib.rt:74:17
+-- src/lib.rt:62:17
 count-of-requires : tie.Need-count-of-requires
 count-of-requires c κs =
     known-room (c .before .before .before .pre .1)
 
--- src/lib.rt:77:17
+-- src/lib.rt:65:17
 returns : tie.Need-returns
 returns c =
     record { code = 0; a = 0; b = 0; unpacks = unpacks-tuple _ (c .before .before .before .kind-of .ensures) (c .before .before .match .keys2) (c .before .count-of .ensures) (c .if1 .taken); settled = settled-well }
 
--- src/lib.rt:79:13
+-- src/lib.rt:67:13
 refuse-requires : tie.Need-refuse-requires
 refuse-requires c κs =
     c .before .before .before .before .before .before .pre .0
 
--- src/lib.rt:81:14
+-- src/lib.rt:71:13
 refuse-requires-2 : tie.Need-refuse-requires-2
 refuse-requires-2 c κs =
     c .before .before .before .before .pre .0
 
--- src/lib.rt:66:1
+-- src/lib.rt:54:1
 returns-2 : tie.Need-returns-2
 returns-2 c =
     record { code = 0; a = 0; b = 0; unpacks = unpacks-any _ (c .before .kind-of .ensures) (c .match .keys1); settled = settled-well }
 
--- src/lib.rt:66:1
+-- src/lib.rt:54:1
 returns-3 : tie.Need-returns-3
 returns-3 c =
     record {
@@ -54,7 +54,7 @@ returns-3 c =
       settled = settled-ill (λ e. absurd (omega arith)) (c .refuse .ensures);
     }
 
--- src/lib.rt:66:1
+-- src/lib.rt:54:1
 returns-4 : tie.Need-returns-4
 returns-4 c =
     record {

@@ -1,0 +1,3 @@
+-- Callers cite Plans.
+mod Builtins
+pub mod Plans

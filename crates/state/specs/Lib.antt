@@ -1,0 +1,4 @@
+pub mod Notes
+pub mod Answer
+pub mod Lent
+pub mod Giving

@@ -1,0 +1,181 @@
+-- `stmt::typecheck_program` meets its contract: what is left of the module ends as all of it ends; the measure is how many statements are left.
+use Prim.Native.Nat.{_+_}
+use Rattle.stmt.proofs.Cells.{end-other, end-well, moved-noting, ran-as, ret-clear, standing-as, standing-nodes, tab-moved, walked-from}
+use Rattle.stmt.proofs.Modules.{Running, running-at, running-end, running-first, running-here, running-next, running-out, running-standing}
+use Rattle.image.proofs.Moving.{stops}
+use Rattle.types.specs.Table.{tab}
+use Rattle.state.specs.Notes.{Noting, tabIn, topIn}
+use Rattle.stmt.specs.Contract.{settingIf}
+use Rattle.meaning.specs.Image.{nodesFrom}
+use mathlib.Core.Path.{_∙_, _≡_, ap, refl}
+use native.Mathlib.Omega.{arith}
+use borrow.Author.Needs.{needs}
+use Rattle.stmt.proofs.typecheck_program.Statement.{statement}
+use Rattle.stmt.proofs.typecheck_program.Tie as tie
+use Rattle.stmt.proofs.typecheck_program.Reads as reads
+use Rattle.stmt.proofs.typecheck_program.Lts as lts
+
+abbrev Inv-loop : tie.InvT-loop
+Inv-loop image frames₀ table₀ stack₀ plain notes₀ next₀ left₀ frames table stack notes next left =
+    Running image (settingIf plain) (next₀ .nodes) (tab table₀ 8 0) (tabIn table notes) frames (topIn notes) stack (next .at) left × Noting notes × (next .nodes ≡ nodesFrom image)
+
+abbrev μ-loop : tie.MeasureT-loop
+μ-loop image frames₀ table₀ stack₀ plain notes₀ next₀ left₀ frames table stack notes next left = left
+
+array-write-notes : tie.Need-array-write-notes Inv-loop μ-loop
+array-write-notes c = search needs
+
+array-write-notes-2 : tie.Need-array-write-notes-2 Inv-loop μ-loop
+array-write-notes-2 c = search needs
+
+array-write-notes-3 : tie.Need-array-write-notes-3 Inv-loop μ-loop
+array-write-notes-3 c = search needs
+
+first-requires : tie.Need-first-requires Inv-loop μ-loop
+first-requires c κs =
+    (c .before .before .pre .sound .headed)
+
+next-requires : tie.Need-next-requires Inv-loop μ-loop
+next-requires c κs =
+    ((c .before .before .before .pre .sound .headed), c .first .ensures .0)
+
+cast-left : tie.Need-cast-left Inv-loop μ-loop
+cast-left c = search needs
+
+loop-holds : tie.Need-loop-holds Inv-loop μ-loop
+loop-holds c =
+    let z = c .before .before .before .before .first .ensures .1 in (
+      rw (c .before .before .before .next .ensures .at ∙ ap (λ i. i + 1) z) (running-first (c .before .before .before .before .before .before .before .pre) (c .before .before .before .next .ensures .nodes) (ap (λ d. d .children) (rw z at (c .before .before .before .next .ensures .node)))),
+      record { long = refl },
+      c .before .before .before .next .ensures .nodes,
+    )
+
+array-write-notes-4 : tie.Need-array-write-notes-4 Inv-loop μ-loop
+array-write-notes-4 c = search needs
+
+tc-stmt-requires : tie.Need-tc-stmt-requires Inv-loop μ-loop
+tc-stmt-requires c κs = (
+  moved-noting ((ret-clear (c .before .before .before .before .before .loop .inv .1)) .moved),
+  (
+    standing-as (tab-moved ((ret-clear (c .before .before .before .before .before .loop .inv .1)) .moved) _) ((ret-clear (c .before .before .before .before .before .loop .inv .1)) .top-kept) ((ret-clear (c .before .before .before .before .before .loop .inv .1)) .ret-is)
+        (standing-nodes (c .before .before .before .before .before .loop .inv .2) (running-standing (c .before .before .before .before .before .loop .inv .0) (c .before .before .before .before .loop-test .taken))),
+    running-at (c .before .before .before .before .before .loop .inv .0) (c .before .before .before .before .loop-test .taken),
+  ),
+)
+
+enum-told : tie.Need-enum-told Inv-loop μ-loop
+enum-told c = search needs
+
+code-of-requires : tie.Need-code-of-requires Inv-loop μ-loop
+code-of-requires c κs =
+    search needs
+
+array-read-wide : tie.Need-array-read-wide Inv-loop μ-loop
+array-read-wide c = search needs
+
+wide-requires : tie.Need-wide-requires Inv-loop μ-loop
+wide-requires c κs =
+    search needs
+
+array-read-wide-2 : tie.Need-array-read-wide-2 Inv-loop μ-loop
+array-read-wide-2 c = search needs
+
+wide-requires-2 : tie.Need-wide-requires-2 Inv-loop μ-loop
+wide-requires-2 c κs =
+    search needs
+
+array-read-wide-3 : tie.Need-array-read-wide-3 Inv-loop μ-loop
+array-read-wide-3 c = search needs
+
+wide-requires-3 : tie.Need-wide-requires-3 Inv-loop μ-loop
+wide-requires-3 c κs =
+    search needs
+
+counts-of-requires : tie.Need-counts-of-requires Inv-loop μ-loop
+counts-of-requires c κs =
+    search needs
+
+array-read-wide-4 : tie.Need-array-read-wide-4 Inv-loop μ-loop
+array-read-wide-4 c = search needs
+
+wide-requires-4 : tie.Need-wide-requires-4 Inv-loop μ-loop
+wide-requires-4 c κs =
+    search needs
+
+same-length : tie.Need-same-length Inv-loop μ-loop
+same-length c = search needs
+
+returns : tie.Need-returns Inv-loop μ-loop
+returns c =
+    ran-as ((c .before .before .before .before .before .before .before .before .before .before .before .tc-stmt .ensures .1) .noting) (c .before .counts-of .ensures .0) (c .before .counts-of .ensures .1) (c .wide4 .ensures) (c .before .before .before .before .before .before .code-of .ensures) (c .before .before .before .before .before .wide .ensures) (c .before .before .before .before .wide2 .ensures) (c .before .before .before .wide3 .ensures)
+    (running-out (c .before .before .before .before .before .before .before .before .before .before .before .before .before .before .before .before .before .loop .inv .0) (c .before .before .before .before .before .before .before .before .before .before .before .before .before .before .before .before .loop-test .taken) (walked-from _ _ _ _ _ _ (tab-moved ((ret-clear (c .before .before .before .before .before .before .before .before .before .before .before .before .before .before .before .before .before .loop .inv .1)) .moved) _) ((ret-clear (c .before .before .before .before .before .before .before .before .before .before .before .before .before .before .before .before .before .loop .inv .1)) .top-kept) ((ret-clear (c .before .before .before .before .before .before .before .before .before .before .before .before .before .before .before .before .before .loop .inv .1)) .ret-is) (c .before .before .before .before .before .before .before .before .before .before .before .tc-stmt .ensures .0)) (end-other _ (c .before .before .before .before .before .before .before .before .before .before .before .tc-stmt .ensures .1) (c .before .before .before .before .before .before .before .before .match .keys2)))
+
+over-requires : tie.Need-over-requires Inv-loop μ-loop
+over-requires c κs =
+    ((c .before .before .before .before .before .before .before .before .before .before .before .before .before .before .before .before .before .before .pre .sound .headed), record { nodes = c .before .before .before .before .before .before .before .before .before .before .loop .inv .2; within = running-here (c .before .before .before .before .before .before .before .before .before .before .loop .inv .0) (c .before .before .before .before .before .before .before .before .before .loop-test .taken) })
+
+sub-left : tie.Need-sub-left Inv-loop μ-loop
+sub-left c = search needs
+
+loop-less : tie.Need-loop-less Inv-loop μ-loop
+loop-less c = search needs
+
+loop-again : tie.Need-loop-again Inv-loop μ-loop
+loop-again c =
+    (running-next (c .before .before .before .before .before .before .before .before .before .before .before .before .loop .inv .0) (c .before .before .before .before .before .before .before .before .before .before .before .loop-test .taken) (walked-from _ _ _ _ _ _ (tab-moved ((ret-clear (c .before .before .before .before .before .before .before .before .before .before .before .before .loop .inv .1)) .moved) _) ((ret-clear (c .before .before .before .before .before .before .before .before .before .before .before .before .loop .inv .1)) .top-kept) ((ret-clear (c .before .before .before .before .before .before .before .before .before .before .before .before .loop .inv .1)) .ret-is) (c .before .before .before .before .before .before .tc-stmt .ensures .0)) (stops (c .before .over .ensures)) (end-well _ (c .before .before .enum-told .given .1)), (c .before .before .before .before .before .before .tc-stmt .ensures .1) .noting, c .before .over .ensures .nodes)
+
+counts-of-requires-2 : tie.Need-counts-of-requires-2 Inv-loop μ-loop
+counts-of-requires-2 c κs =
+    search needs
+
+array-read-wide-5 : tie.Need-array-read-wide-5 Inv-loop μ-loop
+array-read-wide-5 c = search needs
+
+wide-requires-5 : tie.Need-wide-requires-5 Inv-loop μ-loop
+wide-requires-5 c κs =
+    search needs
+
+same-length-2 : tie.Need-same-length-2 Inv-loop μ-loop
+same-length-2 c = search needs
+
+returns-2 : tie.Need-returns-2 Inv-loop μ-loop
+returns-2 c =
+    ran-as (c .before .before .before .before .loop .inv .1) (c .before .counts-of2 .ensures .0) (c .before .counts-of2 .ensures .1) (c .wide5 .ensures) refl refl refl refl (running-end (c .before .before .before .before .loop .inv .0) (c .before .before .before .loop-test .left))
+
+pub typecheck-program-spec : {M : Type 1} → statement M
+typecheck-program-spec =
+    tie.close
+    (tie.spec
+    Inv-loop
+    μ-loop
+    array-write-notes
+    array-write-notes-2
+    array-write-notes-3
+    first-requires
+    next-requires
+    cast-left
+    loop-holds
+    array-write-notes-4
+    tc-stmt-requires
+    enum-told
+    code-of-requires
+    array-read-wide
+    wide-requires
+    array-read-wide-2
+    wide-requires-2
+    array-read-wide-3
+    wide-requires-3
+    counts-of-requires
+    array-read-wide-4
+    wide-requires-4
+    same-length
+    returns
+    over-requires
+    sub-left
+    loop-less
+    loop-again
+    counts-of-requires-2
+    array-read-wide-5
+    wide-requires-5
+    same-length-2
+    returns-2)
