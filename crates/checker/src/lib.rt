@@ -25,6 +25,7 @@ use names::list_names;
 use rules::codes;
 use sheet::NO_ENTRIES;
 use sheet::read;
+use stmt::End;
 use stmt::typecheck_program;
 use types::CELLS;
 use types::Counts;
@@ -138,24 +139,22 @@ fn walk_in(
     let mut frames = EMPTY;
     let mut stack = [FRESH; MOST_NODES];
     let w = typecheck_program(image, &mut frames, table, &mut stack, plain);
-    let code = w.code;
-    if code == 0 {
-        return accept(image, table, w.counts, &frames, w.top, sheet);
+    let end = w.end;
+    match end {
+        End::Done => accept(image, table, w.counts, &frames, w.top, sheet),
+        End::Wrong => refuse(
+            image,
+            nodes,
+            table,
+            w.counts,
+            w.code,
+            w.place,
+            w.a,
+            w.b,
+            message,
+        ),
+        End::TooDeep => Answer::NinthFrame(w.place),
     }
-    if code == codes::NINTH_FRAME {
-        return Answer::NinthFrame(w.place);
-    }
-    refuse(
-        image,
-        nodes,
-        table,
-        w.counts,
-        code,
-        w.place,
-        w.a,
-        w.b,
-        message,
-    )
 }
 
 // A filled array costs a store for each few cells, so that few nodes get a small table: room for the plain types and

@@ -30,7 +30,7 @@ use Rattle.targets.specs.Ending.{Assigned}
 use Rattle.stmt.specs.declared.End.{End as Answer}
 use Rattle.stmt.specs.declared.End.the-variants as answer
 use Rattle.stmt.proofs.End.{the-type}
-use Rattle.stmt.specs.Contract.{stateOf, acted, walkedAt, bodyAt, armedAt, endCode, endOf, Tells, Standing, Stmt, Done, Iterated, Ran}
+use Rattle.stmt.specs.Contract.{stateOf, acted, walkedAt, bodyAt, armedAt, endCode, endOf, endedAs, Tells, Standing, Stmt, Done, Iterated, Refuses, Ran}
 use Rattle.stmt.proofs.Laws.{few-nodes, done-any, ready-nodes}
 
 -- ---- stores to the cells of the return type and the newest frame
@@ -145,6 +145,28 @@ end-other answer.Done k (inl p) z = absurd (omega arith)
 end-other answer.Done k (inr p) z = absurd (omega arith)
 end-other answer.Wrong k p z = k .coded refl z
 end-other answer.TooDeep k p z = absurd (omega arith)
+
+-- where the code is handed out
+handed : (e : Answer) (ms : List ℕ) → endedAs e (codeIn ms) ≡ endCode e ms
+handed answer.Done ms = refl
+handed answer.Wrong ms = refl
+handed answer.TooDeep ms = refl
+
+pub end-handed : {e : Answer} {ms : List ℕ} → Tells ms (e ≡ answer.Wrong) → endedAs e (codeIn ms) ≡ endCode e ms
+end-handed {e} {ms} k = handed e ms
+
+pub tells-refuses : {e : Answer} {ms : List ℕ} → Tells ms (e ≡ answer.Wrong) → Refuses e (codeIn ms)
+tells-refuses k = record { coded = k .coded; typing = k .typing }
+
+pub done-refuses : {code : ℕ} → Refuses answer.Done code
+done-refuses = record { coded = λ e. done-apart e; typing = λ e. done-apart e }
+
+-- for the checker's cases
+pub ended-done : {e : Answer} (code : ℕ) → e ≡ answer.Done → endedAs e code ≡ 0
+ended-done code o = rw o
+
+pub ended-deep : {e : Answer} (code : ℕ) → e ≡ answer.TooDeep → endedAs e code ≡ 9
+ended-deep code o = rw o
 
 end-moved : {ns ms : List ℕ} → Moved ns ms → (e : Answer) → endCode e ms ≡ endCode e ns
 end-moved m answer.Done = refl

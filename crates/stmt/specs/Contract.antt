@@ -87,6 +87,12 @@ endCode answer.Done ms = 0
 endCode answer.Wrong ms = codeIn ms
 endCode answer.TooDeep ms = 9
 
+-- the same where the code was handed out
+abbrev pub endedAs : Answer → ℕ → ℕ
+endedAs answer.Done code = 0
+endedAs answer.Wrong code = code
+endedAs answer.TooDeep code = 9
+
 -- the answer of a statement that cannot need a frame
 abbrev pub endOf : Outcome → Answer
 endOf outcome.Ok = answer.Done
@@ -187,6 +193,11 @@ pub record Started (bs : List ℕ) (fs : Rows) (t : Tab) (st : List ℕ) : Type 
   pub module-frame : framesOf t fs 0 ≡ empty ∷ []
   pub stack : length st ≡ mostNodes
   pub room : nodeCount bs + 8 ≤ capacity t.cells
+
+-- a typing refusal has a code, and not that of a ninth frame
+pub record Refuses (e : Answer) (code : ℕ) : Type 0 where
+  pub coded : e ≡ answer.Wrong → code ≡ 0 → ⊥
+  pub typing : e ≡ answer.Wrong → code ≡ 9 → ⊥
 
 -- how the whole walk ended, y being the return type where it stood
 pub record Ran (bs : List ℕ) (setting : Setting) (t u : Tab) (gs : Rows) (top : ℕ) (su : List ℕ) (code place a b : ℕ) : Type 0 where

@@ -1,6 +1,6 @@
 // The walk over the statements: T's tc_stmt and typecheck_program.
-// A statement that cannot need a frame answers `state::Outcome`, and one that can `End`; what was refused, and where, is
-// noted. The notes also have the counts of the table, the return type so far and the newest frame's row (crates/state).
+// A statement that cannot need a frame answers `state::Outcome`, and one that can `End`; what was refused, and where,
+// is noted. The notes also have the counts of the table, the return type so far and the newest frame's row.
 // There is one walk for both settings of document 02: `plain` goes with every statement, and where it is false, the
 // setting is strict.
 ghost use mathlib.Core.Path.{_≡_};
@@ -11,7 +11,7 @@ ghost use Rattle.state.specs.Notes.{Noting};
 ghost use Rattle.state.specs.Answer.{Settled};
 ghost use Rattle.state.specs.Lent.{lent};
 ghost use Rattle.stmt.specs.Contract.{settingIf, conditionAt, evaluatedAt, assignedAt};
-ghost use Rattle.stmt.specs.Contract.{endCode, endOf, Started, Ran};
+ghost use Rattle.stmt.specs.Contract.{endOf, endedAs, Started, Refuses, Ran};
 ghost use Rattle.stmt.specs.Clauses.{Checkable, Paired, Returnable, Simple, Walkable, OfKind, InIf};
 ghost use Rattle.stmt.specs.Clauses.{AtArm, AtParams};
 ghost use Rattle.stmt.specs.Clauses.{Ends, Iterates, Returns, ActsEither, Enters, AfterArm};
@@ -642,25 +642,16 @@ fn repeat(
 
 // ---- the program
 
-// How the whole walk ended, the newest frame's row in `top`.
+// How the whole walk ended, and what was noted then: the code, node and numbers of a refusal, the counts of the table
+// and the newest frame's row.
 pub struct Walked {
+    pub end: End,
     pub code: u32,
     pub place: usize,
     pub a: usize,
     pub b: usize,
     pub counts: Counts,
     pub top: usize,
-}
-
-// The code of an end, as document 01 numbers them.
-fn code_of(end: End, notes: &Notes) -> u32
-    ensures { λ r. ⌜ r ≡ endCode end (now (notes .entry)) ⌝ }
-{
-    match end {
-        End::Done => 0,
-        End::Wrong => notes[CODE],
-        End::TooDeep => codes::NINTH_FRAME,
-    }
 }
 
 // The module's statements: errors are returned, and each has a return type of its own.
@@ -675,7 +666,8 @@ pub fn typecheck_program(
     ensures { λ r. ⌜ Ran (now (image .entry)) (settingIf plain)
         (tab (now (table .entry)) 8 0)
         (tab (now (table .exit)) (r .counts .types) (r .counts .elements))
-        (now (frames .exit)) (r .top) (now (stack .exit)) (r .code) (r .place) (r .a) (r .b) ⌝ }
+        (now (frames .exit)) (r .top) (now (stack .exit)) (endedAs (r .end) (r .code)) (r .place) (r .a) (r .b) ⌝ }
+    ensures { λ r. ⌜ Refuses (r .end) (r .code) ⌝ }
 {
     let mut notes = [1u32; NOTED];
     notes[TYPES] = PLAIN_TYPES;
@@ -701,7 +693,8 @@ pub fn typecheck_program(
         );
         let End::Done = r else {
             return Walked {
-                code: code_of(r, &notes),
+                end: r,
+                code: notes[CODE],
                 place: wide(notes[PLACE]),
                 a: wide(notes[FIRST]),
                 b: wide(notes[SECOND]),
@@ -714,6 +707,7 @@ pub fn typecheck_program(
         left -= 1;
     }
     Walked {
+        end: End::Done,
         code: 0,
         place: 0,
         a: 0,

@@ -1,4 +1,4 @@
--- `stmt::typecheck_program` meets its contract: what is left of the module ends as all of it ends; the measure is how many statements are left.
+use Rattle.stmt.proofs.Cells.{end-handed, tells-refuses, done-refuses}
 use Prim.Native.Nat.{_+_}
 use Rattle.stmt.proofs.Cells.{end-other, end-well, moved-noting, ran-as, ret-clear, standing-as, standing-nodes, tab-moved, walked-from}
 use Rattle.stmt.proofs.Modules.{Running, running-at, running-end, running-first, running-here, running-next, running-out, running-standing}
@@ -14,6 +14,12 @@ use Rattle.stmt.proofs.typecheck_program.Statement.{statement}
 use Rattle.stmt.proofs.typecheck_program.Tie as tie
 use Rattle.stmt.proofs.typecheck_program.Reads as reads
 use Rattle.stmt.proofs.typecheck_program.Lts as lts
+use Rattle.image.proofs.Cursor.first.Reads as first-reads
+use Rattle.image.proofs.Cursor.next.Reads as next-reads
+use Rattle.image.proofs.Cursor.over.Reads as over-reads
+use Rattle.state.proofs.counts_of.Reads as counts-of-reads
+use Rattle.stmt.proofs.tc_stmt.Reads as tc-stmt-reads
+use Rattle.stmt.proofs.wide.Reads as wide-reads
 
 abbrev Inv-loop : tie.InvT-loop
 Inv-loop image frames₀ table₀ stack₀ plain notes₀ next₀ left₀ frames table stack notes next left =
@@ -22,26 +28,33 @@ Inv-loop image frames₀ table₀ stack₀ plain notes₀ next₀ left₀ frames
 abbrev μ-loop : tie.MeasureT-loop
 μ-loop image frames₀ table₀ stack₀ plain notes₀ next₀ left₀ frames table stack notes next left = left
 
+-- src/lib.rt:673:5
 array-write-notes : tie.Need-array-write-notes Inv-loop μ-loop
 array-write-notes c = search needs
 
+-- src/lib.rt:674:5
 array-write-notes-2 : tie.Need-array-write-notes-2 Inv-loop μ-loop
 array-write-notes-2 c = search needs
 
+-- src/lib.rt:675:5
 array-write-notes-3 : tie.Need-array-write-notes-3 Inv-loop μ-loop
 array-write-notes-3 c = search needs
 
+-- src/lib.rt:676:9
 first-requires : tie.Need-first-requires Inv-loop μ-loop
 first-requires c κs =
     (c .before .before .pre .sound .headed)
 
+-- src/lib.rt:677:9
 next-requires : tie.Need-next-requires Inv-loop μ-loop
 next-requires c κs =
     ((c .before .before .before .pre .sound .headed), c .first .ensures .0)
 
+-- src/lib.rt:680:20
 cast-left : tie.Need-cast-left Inv-loop μ-loop
 cast-left c = search needs
 
+-- src/lib.rt:681:5
 loop-holds : tie.Need-loop-holds Inv-loop μ-loop
 loop-holds c =
     let z = c .before .before .before .before .first .ensures .1 in (
@@ -50,9 +63,11 @@ loop-holds c =
       c .before .before .before .next .ensures .nodes,
     )
 
+-- src/lib.rt:682:9
 array-write-notes-4 : tie.Need-array-write-notes-4 Inv-loop μ-loop
 array-write-notes-4 c = search needs
 
+-- src/lib.rt:683:13
 tc-stmt-requires : tie.Need-tc-stmt-requires Inv-loop μ-loop
 tc-stmt-requires c κs = (
   moved-noting ((ret-clear (c .before .before .before .before .before .loop .inv .1)) .moved),
@@ -66,81 +81,105 @@ tc-stmt-requires c κs = (
 enum-told : tie.Need-enum-told Inv-loop μ-loop
 enum-told c = search needs
 
-code-of-requires : tie.Need-code-of-requires Inv-loop μ-loop
-code-of-requires c κs =
-    search needs
+-- src/lib.rt:697:23
+array-read-t30 : tie.Need-array-read-t30 Inv-loop μ-loop
+array-read-t30 c = search needs
 
+-- src/lib.rt:698:29
 array-read-wide : tie.Need-array-read-wide Inv-loop μ-loop
 array-read-wide c = search needs
 
+-- src/lib.rt:698:24
 wide-requires : tie.Need-wide-requires Inv-loop μ-loop
 wide-requires c κs =
     search needs
 
+-- src/lib.rt:699:25
 array-read-wide-2 : tie.Need-array-read-wide-2 Inv-loop μ-loop
 array-read-wide-2 c = search needs
 
+-- src/lib.rt:699:20
 wide-requires-2 : tie.Need-wide-requires-2 Inv-loop μ-loop
 wide-requires-2 c κs =
     search needs
 
+-- src/lib.rt:700:25
 array-read-wide-3 : tie.Need-array-read-wide-3 Inv-loop μ-loop
 array-read-wide-3 c = search needs
 
+-- src/lib.rt:700:20
 wide-requires-3 : tie.Need-wide-requires-3 Inv-loop μ-loop
 wide-requires-3 c κs =
     search needs
 
+-- src/lib.rt:701:25
 counts-of-requires : tie.Need-counts-of-requires Inv-loop μ-loop
 counts-of-requires c κs =
     search needs
 
+-- src/lib.rt:702:27
 array-read-wide-4 : tie.Need-array-read-wide-4 Inv-loop μ-loop
 array-read-wide-4 c = search needs
 
+-- src/lib.rt:702:22
 wide-requires-4 : tie.Need-wide-requires-4 Inv-loop μ-loop
 wide-requires-4 c κs =
     search needs
 
+-- src/lib.rt:695:13
 same-length : tie.Need-same-length Inv-loop μ-loop
 same-length c = search needs
 
+-- src/lib.rt:695:13
 returns : tie.Need-returns Inv-loop μ-loop
-returns c =
-    ran-as ((c .before .before .before .before .before .before .before .before .before .before .before .tc-stmt .ensures .1) .noting) (c .before .counts-of .ensures .0) (c .before .counts-of .ensures .1) (c .wide4 .ensures) (c .before .before .before .before .before .before .code-of .ensures) (c .before .before .before .before .before .wide .ensures) (c .before .before .before .before .wide2 .ensures) (c .before .before .before .wide3 .ensures)
-    (running-out (c .before .before .before .before .before .before .before .before .before .before .before .before .before .before .before .before .before .loop .inv .0) (c .before .before .before .before .before .before .before .before .before .before .before .before .before .before .before .before .loop-test .taken) (walked-from _ _ _ _ _ _ (tab-moved ((ret-clear (c .before .before .before .before .before .before .before .before .before .before .before .before .before .before .before .before .before .loop .inv .1)) .moved) _) ((ret-clear (c .before .before .before .before .before .before .before .before .before .before .before .before .before .before .before .before .before .loop .inv .1)) .top-kept) ((ret-clear (c .before .before .before .before .before .before .before .before .before .before .before .before .before .before .before .before .before .loop .inv .1)) .ret-is) (c .before .before .before .before .before .before .before .before .before .before .before .tc-stmt .ensures .0)) (end-other _ (c .before .before .before .before .before .before .before .before .before .before .before .tc-stmt .ensures .1) (c .before .before .before .before .before .before .before .before .match .keys2)))
+returns c = (
+  ran-as ((c .before .before .before .before .before .before .before .before .before .tc-stmt .ensures .1) .noting) (c .before .counts-of .ensures .0) (c .before .counts-of .ensures .1) (c .wide4 .ensures) (end-handed (c .before .before .before .before .before .before .before .before .before .tc-stmt .ensures .1)) (c .before .before .before .before .before .wide .ensures) (c .before .before .before .before .wide2 .ensures) (c .before .before .before .wide3 .ensures)
+      (running-out (c .before .before .before .before .before .before .before .before .before .before .before .before .before .before .before .loop .inv .0) (c .before .before .before .before .before .before .before .before .before .before .before .before .before .before .loop-test .taken) (walked-from _ _ _ _ _ _ (tab-moved ((ret-clear (c .before .before .before .before .before .before .before .before .before .before .before .before .before .before .before .loop .inv .1)) .moved) _) ((ret-clear (c .before .before .before .before .before .before .before .before .before .before .before .before .before .before .before .loop .inv .1)) .top-kept) ((ret-clear (c .before .before .before .before .before .before .before .before .before .before .before .before .before .before .before .loop .inv .1)) .ret-is) (c .before .before .before .before .before .before .before .before .before .tc-stmt .ensures .0)) (end-other _ (c .before .before .before .before .before .before .before .before .before .tc-stmt .ensures .1) (c .before .before .before .before .before .before .match .keys2))),
+  tells-refuses (c .before .before .before .before .before .before .before .before .before .tc-stmt .ensures .1),
+)
 
+-- src/lib.rt:705:13
 over-requires : tie.Need-over-requires Inv-loop μ-loop
 over-requires c κs =
     ((c .before .before .before .before .before .before .before .before .before .before .before .before .before .before .before .before .before .before .pre .sound .headed), record { nodes = c .before .before .before .before .before .before .before .before .before .before .loop .inv .2; within = running-here (c .before .before .before .before .before .before .before .before .before .before .loop .inv .0) (c .before .before .before .before .before .before .before .before .before .loop-test .taken) })
 
+-- src/lib.rt:707:9
 sub-left : tie.Need-sub-left Inv-loop μ-loop
 sub-left c = search needs
 
+-- src/lib.rt:681:5
 loop-less : tie.Need-loop-less Inv-loop μ-loop
 loop-less c = search needs
 
+-- src/lib.rt:681:5
 loop-again : tie.Need-loop-again Inv-loop μ-loop
 loop-again c =
     (running-next (c .before .before .before .before .before .before .before .before .before .before .before .before .loop .inv .0) (c .before .before .before .before .before .before .before .before .before .before .before .loop-test .taken) (walked-from _ _ _ _ _ _ (tab-moved ((ret-clear (c .before .before .before .before .before .before .before .before .before .before .before .before .loop .inv .1)) .moved) _) ((ret-clear (c .before .before .before .before .before .before .before .before .before .before .before .before .loop .inv .1)) .top-kept) ((ret-clear (c .before .before .before .before .before .before .before .before .before .before .before .before .loop .inv .1)) .ret-is) (c .before .before .before .before .before .before .tc-stmt .ensures .0)) (stops (c .before .over .ensures)) (end-well _ (c .before .before .enum-told .given .1)), (c .before .before .before .before .before .before .tc-stmt .ensures .1) .noting, c .before .over .ensures .nodes)
 
+-- src/lib.rt:715:17
 counts-of-requires-2 : tie.Need-counts-of-requires-2 Inv-loop μ-loop
 counts-of-requires-2 c κs =
     search needs
 
+-- src/lib.rt:716:19
 array-read-wide-5 : tie.Need-array-read-wide-5 Inv-loop μ-loop
 array-read-wide-5 c = search needs
 
+-- src/lib.rt:716:14
 wide-requires-5 : tie.Need-wide-requires-5 Inv-loop μ-loop
 wide-requires-5 c κs =
     search needs
 
+-- src/lib.rt:658:1
 same-length-2 : tie.Need-same-length-2 Inv-loop μ-loop
 same-length-2 c = search needs
 
+-- src/lib.rt:658:1
 returns-2 : tie.Need-returns-2 Inv-loop μ-loop
-returns-2 c =
-    ran-as (c .before .before .before .before .loop .inv .1) (c .before .counts-of2 .ensures .0) (c .before .counts-of2 .ensures .1) (c .wide5 .ensures) refl refl refl refl (running-end (c .before .before .before .before .loop .inv .0) (c .before .before .before .loop-test .left))
+returns-2 c = (
+  ran-as (c .before .before .before .before .loop .inv .1) (c .before .counts-of2 .ensures .0) (c .before .counts-of2 .ensures .1) (c .wide5 .ensures) refl refl refl refl (running-end (c .before .before .before .before .loop .inv .0) (c .before .before .before .loop-test .left)),
+  done-refuses,
+)
 
 pub typecheck-program-spec : {M : Type 1} → statement M
 typecheck-program-spec =
@@ -158,7 +197,7 @@ typecheck-program-spec =
     array-write-notes-4
     tc-stmt-requires
     enum-told
-    code-of-requires
+    array-read-t30
     array-read-wide
     wide-requires
     array-read-wide-2
