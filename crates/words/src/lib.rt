@@ -1,11 +1,31 @@
-// Bytes and words: read, written, compared, copied, and numbers in decimal. Everything stands in a slice that the
-// caller lends.
+// Bytes and words: widened, read, written, compared, copied, and numbers in decimal. Everything stands in a slice that
+// the caller lends.
 ghost use mathlib.Core.Path.{_≡_};
 ghost use mathlib.Core.List.{[], _∷_};
 ghost use Prim.Native.Nat.{_+_, _<_, _≤_};
 ghost use lib.ListN.{length, take, drop};
 ghost use Rattle.meaning.specs.Base.{word, words, sameText, before as comesBefore, decimal};
 ghost use Rattle.words.specs.Words.{putAt};
+
+// ---- numbers made wider, one function for each width: as a call of its own, a number asks no proof that it fits
+
+pub fn wide8(b: u8) -> u32
+    ensures { λ r. ⌜ (r ≡ b) × (r < 256) ⌝ }
+{
+    b as u32
+}
+
+pub fn wide16(x: u16) -> usize
+    ensures { λ r. ⌜ (r ≡ x) × (r < 65536) ⌝ }
+{
+    x as usize
+}
+
+pub fn wide32(x: u32) -> usize
+    ensures { λ r. ⌜ (r ≡ x) × (r < 4294967296) ⌝ }
+{
+    x as usize
+}
 
 // ---- words of four bytes, the lowest byte first
 
@@ -16,21 +36,14 @@ const THIRD: u32 = BYTE * BYTE;
 
 const FOURTH: u32 = BYTE * BYTE * BYTE;
 
-// As a call of its own, a byte asks no proof that it fits a word.
-fn wide(b: u8) -> u32
-    ensures { λ r. ⌜ (r ≡ b) × (r < 256) ⌝ }
-{
-    b as u32
-}
-
 pub fn get_word(s: &[u8], at: usize) -> u32
     requires { ⌜ at + 4 ≤ length (now s) ⌝ }
     ensures { λ r. ⌜ r ≡ word (now (s .entry)) at ⌝ }
 {
-    let b0 = wide(s[at]);
-    let b1 = wide(s[at + 1]);
-    let b2 = wide(s[at + 2]);
-    let b3 = wide(s[at + 3]);
+    let b0 = wide8(s[at]);
+    let b1 = wide8(s[at + 1]);
+    let b2 = wide8(s[at + 2]);
+    let b3 = wide8(s[at + 3]);
     b0 + BYTE * b1 + THIRD * b2 + FOURTH * b3
 }
 
