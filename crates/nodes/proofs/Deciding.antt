@@ -19,7 +19,8 @@ use Rattle.meaning.proofs.Faults.{sizes}
 use Rattle.types.specs.Table.{Tab, tab, Wf, denote, Made}
 use Rattle.rules.specs.Outcome.{Decides, typesNamed, decisionCode, decisionNumber, decisionFirst, decisionSecond}
 use Rattle.rules.specs.declared.Decision.{Decision}
-use Rattle.rules.specs.Leaves.{Known, OfOne, OfTwo, OfNumber, Indexed, indexPlace, secondRule, Streams}
+use Rattle.types.specs.Reading.{Known}
+use Rattle.rules.specs.Leaves.{OfOne, OfTwo, OfNumber, Indexed, indexPlace, secondRule, Streams}
 use Rattle.rules.proofs.Outcomes.{known, was-ok}
 use Rattle.rules.proofs.Calls.{names-map, names-filter}
 use Rattle.image.specs.declared.Cursor.{Cursor}

@@ -13,13 +13,13 @@ use Rattle.meaning.specs.Message.{aType}
 use Rattle.meaning.specs.Operators.{ok, when}
 use Rattle.meaning.specs.Rules.{indexRule}
 use Rattle.types.specs.Table.{Tab, Wf, denote, Means}
-use Rattle.types.specs.Reading.{KindOf, PartOf, CommonOf, IsTuple}
+use Rattle.types.specs.Reading.{Known, KindOf, PartOf, CommonOf, IsTuple}
 use Rattle.types.proofs.Laws.{plain-number, unknown-number, same-unknown}
 use Rattle.types.proofs.Readers.{is-tuple}
 use Rattle.rules.specs.declared.Decision.{Decision}
 use Rattle.rules.specs.declared.Decision.the-variants.{«Type» as Typed, Refused}
 use Rattle.rules.specs.Outcome.{typesNamed, because, decisionCode, Decides}
-use Rattle.rules.specs.Leaves.{Known, Expected, Keyed, indexPlace, Indexed}
+use Rattle.rules.specs.Leaves.{Expected, Keyed, indexPlace, Indexed}
 use Rattle.rules.proofs.Outcomes.{accepts, refuses-one, refuses-two}
 use Rattle.rules.proofs.Arguments.{maybe-number}
 

@@ -10,12 +10,12 @@ use Rattle.meaning.specs.Types.{plain}
 use Rattle.meaning.specs.Decode.{binaryOf, unaryOf}
 use Rattle.meaning.specs.Operators.{ok, when, operatorAnswer, unaryAnswer, binaryRule, unaryRule}
 use Rattle.types.specs.Table.{Tab, Wf, denote}
-use Rattle.types.specs.Reading.{KindOf}
+use Rattle.types.specs.Reading.{Known, KindOf}
 use Rattle.types.proofs.Laws.{plain-number, same-number}
 use Rattle.operators.proofs.Laws.{kind-below, BinaryMeans, binary-means, UnaryMeans, unary-means}
 use Rattle.rules.specs.declared.Decision.the-variants.{«Type» as Typed, Refused}
 use Rattle.rules.specs.Outcome.{typesNamed, because}
-use Rattle.rules.specs.Leaves.{Known, OfOne, OfTwo}
+use Rattle.rules.specs.Leaves.{OfOne, OfTwo}
 use Rattle.rules.proofs.Outcomes.{accepts, refuses-one, refuses-two}
 
 -- the lookups take every kind that is read

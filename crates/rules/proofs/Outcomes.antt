@@ -4,6 +4,7 @@ use mathlib.Core.List.{List, [], _∷_}
 use Prim.Native.Nat.{ℕ, _≤_, _<_}
 use native.Mathlib.Omega.{arith}
 use borrow.Author.Tests.{eq-eqb, ne-eqb}
+use Rattle.types.specs.Reading.{Known}
 use Rattle.meaning.specs.Base.{if_then_else_, choose, base-open}
 use Rattle.meaning.specs.Image.{Name}
 use Rattle.meaning.specs.Message.{aType, refusal}
@@ -13,14 +14,9 @@ use Rattle.rules.specs.declared.Reason.{Reason}
 use Rattle.rules.specs.declared.Decision.{Decision}
 use Rattle.rules.specs.declared.Decision.the-variants.{«Type» as Typed, Refused}
 use Rattle.rules.specs.Outcome.{typesNamed, pieces, because, decisionCode, decided, Decides}
-use Rattle.rules.specs.Leaves.{Known}
 
 pub known : {t : Tab} {i : ℕ} → Wf t → i < t.n → Known t.cells i
 known {t} w h = record { table = t; cells = refl; wf = w; below = h }
-
--- what the readers ask of a number
-pub known-room : {cs : List ℕ} {i : ℕ} → Known cs i → i < capacity cs
-known-room {cs} {i} k = let h : i < capacity (k .table .cells) = omega (arith, k .below, k .wf .room) in rw (k .cells) at h
 
 -- ---- a decision's meaning, by its code
 

@@ -17,13 +17,6 @@ use Rattle.types.specs.Reading.{perhaps}
 use Rattle.rules.specs.declared.Decision.{Decision}
 use Rattle.rules.specs.Outcome.{typesNamed, decisionCode, decisionNumber, Decides}
 
--- i is a number of a table that the cells hold
-pub record Known (cs : List ℕ) (i : ℕ) : Type 0 where
-  pub table : Tab
-  pub cells : table.cells ≡ cs
-  pub wf : Wf table
-  pub below : i < table.n
-
 -- ---- what a rule gives at node n
 
 -- for the type i

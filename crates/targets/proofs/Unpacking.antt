@@ -11,10 +11,10 @@ use Rattle.meaning.specs.Base.{ifSome, orElse, if_then_else_, choose, base-open
 use Rattle.meaning.specs.Types.{Ty, unknown, kind, parts, part}
 use Rattle.meaning.specs.Walk.{State, End, unpacked, unpackInto}
 use Rattle.types.specs.Table.{Tab, capacity, Wf, Grown, denote}
-use Rattle.types.specs.Reading.{KindOf, PartOf, CountOf, ElementAt, IsElement}
-use Rattle.types.proofs.Laws.{unknown-number, record-kind, parts-many}
-use Rattle.types.proofs.Readers.{in-room, is-element}
-use Rattle.rules.specs.Leaves.{Known}
+use Rattle.types.specs.Reading.{Known, KindOf, PartOf, PartsOf, HasPart, PartAt}
+use Rattle.types.proofs.Laws.{unknown-number}
+use Rattle.types.proofs.Parts.{parts-few}
+use Rattle.types.proofs.Readers.{in-room}
 use Rattle.rules.specs.Outcome.{typesNamed, pieces}
 use Rattle.targets.specs.Spreading.{spread, Spreads, Unpacks, Sharing, Share}
 use Rattle.targets.proofs.Endings.{named-none}
@@ -69,12 +69,8 @@ names-27 : typesNamed 27 ≡ 1
 unfolding typesNamed base-open
 names-27 = refl
 
-pub known-count : {cs : List ℕ} {i x m : ℕ} → Known cs i → KindOf cs i x → x ≡ 10 → CountOf cs i m → m < 4294967296
-known-count {i = i} h told z c =
-    let t = h .table in
-    let q : kind (denote t i) ≡ 10 = sym (told .says t (h .cells) (h .wf) (h .below)) ∙ z in
-    let r = record-kind (h .wf) i (h .below) q in
-    omega (arith, c .says t (h .cells) (h .wf) (h .below) q, parts-many (h .wf) i (h .below) r, h .wf .low i (h .below) .inside r, h .wf .space, h .wf .most)
+pub known-count : {cs : List ℕ} {i m : ℕ} → Known cs i → PartsOf cs i m → m < 4294967296
+known-count {i = i} h c = omega (arith, c .says (h .table) (h .cells) (h .wf) (h .below), parts-few (h .wf) i (h .below))
 
 module _ {cs : List ℕ} {i x : ℕ} (k : ℕ) (told : KindOf cs i x) where
   kind-is : (t : Tab) → t.cells ≡ cs → Wf t → i < t.n → (c : ℕ) → x ≡ c → kind (denote t i) ≡ c
@@ -94,9 +90,9 @@ module _ {cs : List ℕ} {i x : ℕ} (k : ℕ) (told : KindOf cs i x) where
     typing = λ z. absurd (omega arith);
   }
 
-  module _ {m : ℕ} (y : x ≡ 10) (counted : CountOf cs i m) where
+  module _ {m : ℕ} (y : x ≡ 10) (counted : PartsOf cs i m) where
     many-is : (t : Tab) → t.cells ≡ cs → Wf t → i < t.n → m ≡ length (parts (denote t i))
-    many-is t e w b = counted .says t e w b (kind-is t e w b 10 y)
+    many-is t e w b = counted .says t e w b
 
     pub unpacks-tuple : m ≡ k → Unpacks cs i k 0 0 0
     unpacks-tuple h = record {
@@ -144,11 +140,13 @@ pub sharing-room : {cs : List ℕ} {i j : ℕ} → Sharing cs i j → i < capaci
 sharing-room s = rw (s .cells) at (in-room (s .wf) _ (s .below))
 
 module _ {cs : List ℕ} {i j x : ℕ} (told : KindOf cs i x) where
-  pub sharing-element : Sharing cs i j → x ≡ 10 → IsElement cs i j
+  pub sharing-element : Sharing cs i j → x ≡ 10 → HasPart cs i j
   sharing-element s z =
       let q : kind (denote (s .table) i) ≡ 10 = sym (told .says (s .table) (s .cells) (s .wf) (s .below)) ∙ z in
-      let l : j < length (parts (denote (s .table) i)) = rw (s .spreads .many q) (s .within) in
-      rw (s .cells) at (is-element (s .wf) i (s .below) q l)
+      record {
+        known = record { table = s .table; cells = s .cells; wf = s .wf; below = s .below };
+        within = rw (s .spreads .many q) (s .within);
+      }
 
   pub share-part : {r : ℕ} → x ≡ 8 → PartOf cs 0 i r → Share cs i j r
   share-part {r} z p = record {
@@ -157,12 +155,12 @@ module _ {cs : List ℕ} {i j x : ℕ} (told : KindOf cs i x) where
         rw (spread-is k (denote t i) _ (unpacked-list k (denote t i) q), getD-replicate k j (part 0 (denote t i)) unknown h) (p .says t e w b (λ c. omega arith));
   }
 
-  pub share-element : {r : ℕ} → x ≡ 10 → ElementAt cs i j r → Share cs i j r
+  pub share-element : {r : ℕ} → x ≡ 10 → PartAt cs i j r → Share cs i j r
   unfolding part
   share-element {r} z p = record {
     says = λ t k e w b s h.
         let q : kind (denote t i) ≡ 10 = sym (told .says t e w b) ∙ z in
-        rw (spread-is k (denote t i) _ (unpacked-tuple k (denote t i) q)) (p .says t e w b q);
+        rw (spread-is k (denote t i) _ (unpacked-tuple k (denote t i) q)) (p .says t e w b (rw (s .many q) h));
   }
 
   pub share-unknown : (x ≡ 8 → ⊥) → (x ≡ 10 → ⊥) → Share cs i j 0

@@ -1,8 +1,8 @@
 // Assignment to a target: T's tc_assign_target.
 ghost use mathlib.Core.Path.{_≡_};
 ghost use Prim.Native.Nat.{_<_};
+ghost use Rattle.types.specs.Reading.{Known};
 ghost use Rattle.meaning.specs.Limits.{mostNames, mostFrames};
-ghost use Rattle.rules.specs.Leaves.{Known};
 ghost use Rattle.state.specs.Notes.{Noting};
 ghost use Rattle.state.specs.Lent.{lent};
 ghost use Rattle.types.specs.Table.{mostNumbers};
@@ -23,10 +23,10 @@ use state::Typed;
 use state::refuse;
 use types;
 use types::agreed;
-use types::count_of;
-use types::element_at;
 use types::kind_of;
+use types::part_at;
 use types::part_of;
+use types::parts_of;
 
 // "Absent or Unknown takes the new type; Unknown keeps the old one; otherwise equal or 25": type `ty` for name x, at
 // node `at`.
@@ -62,7 +62,7 @@ fn unpack(table: &[u16], notes: &mut Notes, at: usize, ty: usize, k: u32) -> Out
     match kind_of(table, ty) {
         types::UNKNOWN | types::LIST => Outcome::Ok,
         types::TUPLE => {
-            let n = count_of(table, ty);
+            let n = parts_of(table, ty);
             let k = k as usize;
             if n == k {
                 return Outcome::Ok;
@@ -84,7 +84,7 @@ fn part_for(table: &[u16], ty: usize, j: usize) -> usize
 {
     match kind_of(table, ty) {
         types::LIST => part_of(table, ty),
-        types::TUPLE => element_at(table, ty, j),
+        types::TUPLE => part_at(table, ty, j),
         _ => types::UNKNOWN,
     }
 }

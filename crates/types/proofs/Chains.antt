@@ -8,17 +8,18 @@ use native.Mathlib.Decide.{decLt, ℕ-discrete}
 use borrow.Author.Tests.{ne-eqb}
 use lib.ListN.{length, getD, take, drop}
 use Rattle.meaning.specs.Base.{if_then_else_}
-use Rattle.types.specs.Table.{capacity, step, steps, recordHash, tupleHash, slotOf, slotAt, linkAt, Chains, Chained}
+use Rattle.types.specs.Layout.{firstIn, linkIn, elementsFrom, slotsFrom, slotsEnd}
+use Rattle.types.specs.Table.{capacity, step, steps, recordHash, tupleHash, slotOf, slotAt, Chains, Chained}
 use Rattle.types.specs.Steps.{RecordAt, TupleAt}
 use Rattle.types.proofs.Pieces.{piece-same, piece-cons}
 
 -- ---- slots
 
-pub slot-least : (cs : List ℕ) (h : ℕ) → 5 * capacity cs ≤ slotOf cs h
+pub slot-least : (cs : List ℕ) (h : ℕ) → slotsFrom cs ≤ slotOf cs h
 unfolding slotOf
 slot-least cs h = omega arith
 
-pub slot-most : (cs : List ℕ) (h : ℕ) → 0 < capacity cs → slotOf cs h < 6 * capacity cs
+pub slot-most : (cs : List ℕ) (h : ℕ) → 0 < capacity cs → slotOf cs h < slotsEnd cs
 unfolding slotOf
 slot-most cs h l = omega (arith, mod-lt h l)
 
@@ -30,13 +31,13 @@ pub slot-record : {cs : List ℕ} {k p q i : ℕ} → (k ≡ 10 → ⊥) → Rec
 unfolding slotAt if_then_else_
 slot-record {k = k} n r = rw (r .kind-is, r .first-is, r .second-is, ne-eqb k 10 n)
 
-pub slot-tuple : {cs st : List ℕ} {s q i : ℕ} → 4 * capacity cs + getD cs (4 * i + 1) 0 + q ≤ length cs → s + q ≤ length st → TupleAt cs st s q i
+pub slot-tuple : {cs st : List ℕ} {s q i : ℕ} → elementsFrom cs + firstIn cs i + q ≤ length cs → s + q ≤ length st → TupleAt cs st s q i
     → slotAt cs i ≡ slotOf cs (tupleHash (take q (drop s st)))
 unfolding slotAt if_then_else_
 slot-tuple {cs} {st} {s} {q} {i} h l r =
-    rw (r .kind-is, r .second-is, piece-same cs st (4 * capacity cs + getD cs (4 * i + 1) 0) s q h l (r .elements .at))
+    rw (r .kind-is, r .second-is, piece-same cs st (elementsFrom cs + firstIn cs i) s q h l (r .elements .at))
 
-own-least : (cs : List ℕ) (i : ℕ) → 5 * capacity cs ≤ slotAt cs i
+own-least : (cs : List ℕ) (i : ℕ) → slotsFrom cs ≤ slotAt cs i
 unfolding slotAt
 own-least cs i = slot-least cs _
 
@@ -54,22 +55,22 @@ chained-as c = c
 
 -- ds is cs with record n as the last one of slot's chain, and no other slot is changed
 pub record Headed (cs ds : List ℕ) (n slot : ℕ) : Type 0 where
-  pub least : 5 * capacity cs ≤ slot
-  pub most : slot < 6 * capacity cs
+  pub least : slotsFrom cs ≤ slot
+  pub most : slot < slotsEnd cs
   pub own : slotAt ds n ≡ slot
-  pub link : linkAt ds n ≡ getD cs slot 0
+  pub link : linkIn ds n ≡ getD cs slot 0
   pub head : getD ds slot 0 ≡ n
-  pub others : (x : ℕ) → 5 * capacity cs ≤ x → (x ≡ slot → ⊥) → getD ds x 0 ≡ getD cs x 0
+  pub others : (x : ℕ) → slotsFrom cs ≤ x → (x ≡ slot → ⊥) → getD ds x 0 ≡ getD cs x 0
 
 module _ {cs ds : List ℕ} {n slot : ℕ} (c : Chains cs n) (wide : capacity ds ≡ capacity cs) (own : (i : ℕ) → i < n → slotAt ds i ≡ slotAt cs i)
-    (link : (i : ℕ) → i < n → linkAt ds i ≡ linkAt cs i) (h : Headed cs ds n slot) where
-  more-heads : (x : ℕ) → 5 * capacity cs ≤ x → x < 6 * capacity cs → getD ds x 0 < n + 1
+    (link : (i : ℕ) → i < n → linkIn ds i ≡ linkIn cs i) (h : Headed cs ds n slot) where
+  more-heads : (x : ℕ) → slotsFrom cs ≤ x → x < slotsEnd cs → getD ds x 0 < n + 1
   more-heads x a b = elim (ℕ-discrete x slot) [
     | yes e ↦ rw (e, h .head) (omega arith)
     | no e ↦ omega (arith, h .others x a e, c .heads x a b)
   ]
 
-  more-head-own : (x : ℕ) → 5 * capacity cs ≤ x → x < 6 * capacity cs → 8 ≤ getD ds x 0 → slotAt ds (getD ds x 0) ≡ x
+  more-head-own : (x : ℕ) → slotsFrom cs ≤ x → x < slotsEnd cs → 8 ≤ getD ds x 0 → slotAt ds (getD ds x 0) ≡ x
   more-head-own x a b l = elim (ℕ-discrete x slot) [
     | yes e ↦ rw (e, h .head) (h .own)
     | no e ↦
@@ -90,7 +91,7 @@ module _ {cs ds : List ℕ} {n slot : ℕ} (c : Chains cs n) (wide : capacity ds
         rw (e, h .own, h .head) (omega arith)
   ]
 
-  more-links : (i : ℕ) → 8 ≤ i → i < n + 1 → linkAt ds i < i
+  more-links : (i : ℕ) → 8 ≤ i → i < n + 1 → linkIn ds i < i
   more-links i l b = elim (decLt i n) [
     | yes a ↦ rw (link i a) (c .links i l a)
     | no a ↦
@@ -98,20 +99,20 @@ module _ {cs ds : List ℕ} {n slot : ℕ} (c : Chains cs n) (wide : capacity ds
         rw (e, h .link) (c .heads slot (h .least) (h .most))
   ]
 
-  more-link-own : (i : ℕ) → 8 ≤ i → i < n + 1 → 8 ≤ linkAt ds i → slotAt ds (linkAt ds i) ≡ slotAt ds i
+  more-link-own : (i : ℕ) → 8 ≤ i → i < n + 1 → 8 ≤ linkIn ds i → slotAt ds (linkIn ds i) ≡ slotAt ds i
   more-link-own i l b m = elim (decLt i n) [
     | yes a ↦
         let k = link i a in
-        rw (k, own i a) (own (linkAt cs i) (omega (arith, c .links i l a)) ∙ c .link-own i l a (rw k at m))
+        rw (k, own i a) (own (linkIn cs i) (omega (arith, c .links i l a)) ∙ c .link-own i l a (rw k at m))
     | no a ↦
         let e : i ≡ n = omega arith in
-        let k : linkAt ds i ≡ getD cs slot 0 = rw e (h .link) in
+        let k : linkIn ds i ≡ getD cs slot 0 = rw e (h .link) in
         let z : slotAt ds (getD cs slot 0) ≡ slot =
         own (getD cs slot 0) (c .heads slot (h .least) (h .most)) ∙ c .head-own slot (h .least) (h .most) (rw k at m) in
         rw (k, e, h .own) z
   ]
 
-  more-link-last : (i j : ℕ) → 8 ≤ j → j < i → i < n + 1 → slotAt ds j ≡ slotAt ds i → j ≤ linkAt ds i
+  more-link-last : (i j : ℕ) → 8 ≤ j → j < i → i < n + 1 → slotAt ds j ≡ slotAt ds i → j ≤ linkIn ds i
   more-link-last i j l k b s = elim (decLt i n) [
     | yes a ↦ rw (link i a) (c .link-last i j l k a (sym (own j (omega arith)) ∙ s ∙ own i a))
     | no a ↦

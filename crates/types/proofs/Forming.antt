@@ -5,6 +5,7 @@ use Prim.Native.Nat.{ℕ, _+_, _*_, _≤_, _<_}
 use native.Mathlib.Omega.{arith}
 use native.Mathlib.Decide.{decLt}
 use Rattle.meaning.specs.Types.{kind, part}
+use Rattle.types.specs.Layout.{elementsFrom, slotsFrom}
 use Rattle.types.specs.Table.{Tab, tab, capacity, kindAt, firstAt, secondAt, recordHash, slotOf, built, shape, denote, Wf, Made}
 use Rattle.types.specs.Steps.{RecordAt, Found, Added, Asked}
 use Rattle.types.proofs.Room.{capacity-as}
@@ -82,7 +83,7 @@ module _ (t : Tab) (k p q : ℕ) (x : Asked t k p q) where
       let fi = v .here .first-is in
       let si = v .here .second-is in
       let s = says u t.n (v .here) in
-      let least : 5 * capacity t.cells ≤ slot = rw z (slot-least t.cells (recordHash k p q)) in
+      let least : slotsFrom t.cells ≤ slot = rw z (slot-least t.cells (recordHash k p q)) in
       next-made t u w
       (record {
         long = v .long;
@@ -91,7 +92,7 @@ module _ (t : Tab) (k p q : ℕ) (x : Asked t k p q) where
         wider = omega arith;
         space = w .space;
         records = v .before;
-        elements = λ j a. v .after (4 * capacity t.cells + j) (omega (arith, x .room)) (omega (arith, w .space));
+        elements = λ j a. v .after (elementsFrom t.cells + j) (omega (arith, x .room)) (omega (arith, w .space));
         low = record {
           known = omega (arith, x .most);
           none = λ e. absurd (omega (arith, x .least));

@@ -8,6 +8,7 @@ use borrow.Author.Tests.{ne-eqb}
 use lib.ListN.{length, getD}
 use Rattle.meaning.specs.Base.{if_then_else_}
 use Rattle.meaning.specs.Types.{Ty, tys}
+use Rattle.types.specs.Layout.{kindCell, firstCell, secondCell, linkCell, elementsFrom}
 use Rattle.types.specs.Table.{Tab, capacity, kindAt, firstAt, secondAt, elementAt, slotAt, shape, denote, Low, Chains, Chained, Wf, Grown, Made}
 use Rattle.types.proofs.Room.{capacity-within, capacity-as}
 use Rattle.types.proofs.Shapes.{shaped-cong}
@@ -23,8 +24,8 @@ pub record Next (t u : Tab) : Type 0 where
   pub room : u.n ≤ capacity t.cells
   pub wider : t.m ≤ u.m
   pub space : u.m ≤ capacity t.cells
-  pub records : (x : ℕ) → x < 4 * t.n → getD u.cells x 0 ≡ getD t.cells x 0
-  pub elements : (j : ℕ) → j < t.m → getD u.cells (4 * capacity t.cells + j) 0 ≡ elementAt t j
+  pub records : (x : ℕ) → x < kindCell t.n → getD u.cells x 0 ≡ getD t.cells x 0
+  pub elements : (j : ℕ) → j < t.m → getD u.cells (elementsFrom t.cells + j) 0 ≡ elementAt t j
   pub low : Low u t.n
   pub slot : ℕ
   pub headed : Headed t.cells u.cells t.n slot
@@ -35,17 +36,17 @@ module _ (t u : Tab) (w : Wf t) (x : Next t u) where
   as-wide = capacity-as t.cells u.cells (x .long)
 
   kind-kept : (i : ℕ) → i < t.n → kindAt u i ≡ kindAt t i
-  kind-kept i h = x .records (4 * i) (omega arith)
+  kind-kept i h = x .records (kindCell i) (omega arith)
 
   first-kept : (i : ℕ) → i < t.n → firstAt u i ≡ firstAt t i
-  first-kept i h = x .records (4 * i + 1) (omega arith)
+  first-kept i h = x .records (firstCell i) (omega arith)
 
   second-kept : (i : ℕ) → i < t.n → secondAt u i ≡ secondAt t i
-  second-kept i h = x .records (4 * i + 2) (omega arith)
+  second-kept i h = x .records (secondCell i) (omega arith)
 
   -- an element of an old Tuple
   element-kept : (i j : ℕ) → i < t.n → kindAt t i ≡ 10 → j < secondAt t i
-      → getD u.cells (4 * capacity t.cells + firstAt t i + j) 0 ≡ getD t.cells (4 * capacity t.cells + firstAt t i + j) 0
+      → getD u.cells (elementsFrom t.cells + firstAt t i + j) 0 ≡ getD t.cells (elementsFrom t.cells + firstAt t i + j) 0
   element-kept i j h e l = rw add-assoc (x .elements (firstAt t i + j) (omega (arith, w .low i h .inside e)))
 
   agree : (i : ℕ) → i < t.n → (f : ℕ → Ty) → shape u f i ≡ shape t f i
@@ -54,7 +55,7 @@ module _ (t u : Tab) (w : Wf t) (x : Next t u) where
       rw (as-wide, kind-kept i h, first-kept i h, second-kept i h)
       (shaped-cong (kindAt t i) (w .low i h .known) (λ e n. refl) (λ e. refl)
       (λ e. ap tys
-      (piece-map f f u.cells t.cells (4 * capacity t.cells + firstAt t i) (4 * capacity t.cells + firstAt t i) (secondAt t i)
+      (piece-map f f u.cells t.cells (elementsFrom t.cells + firstAt t i) (elementsFrom t.cells + firstAt t i) (secondAt t i)
       (omega (arith, w .low i h .inside e, w .space, x .long, capacity-within t.cells)) (omega (arith, w .low i h .inside e, w .space, capacity-within t.cells))
       (λ j l. ap f (element-kept i j h e l)))))
 
@@ -85,7 +86,7 @@ module _ (t u : Tab) (w : Wf t) (x : Next t u) where
           first-kept i h,
           second-kept i h,
           e,
-          piece-same u.cells t.cells (4 * capacity t.cells + firstAt t i) (4 * capacity t.cells + firstAt t i) (secondAt t i)
+          piece-same u.cells t.cells (elementsFrom t.cells + firstAt t i) (elementsFrom t.cells + firstAt t i) (secondAt t i)
               (omega (arith, w .low i h .inside e, w .space, x .long, capacity-within t.cells)) (omega (arith, w .low i h .inside e, w .space, capacity-within t.cells))
               (λ j l. element-kept i j h e l),
         )
@@ -123,7 +124,7 @@ module _ (t u : Tab) (w : Wf t) (x : Next t u) where
   next-chained : Chained u.cells u.n
   next-chained =
       let c : Chains u.cells (t.n + 1) =
-      chains-more (chains-of t.cells t.n (w .chained)) as-wide slot-kept (λ i h. x .records (4 * i + 3) (omega arith)) (x .headed) in
+      chains-more (chains-of t.cells t.n (w .chained)) as-wide slot-kept (λ i h. x .records (linkCell i) (omega arith)) (x .headed) in
       rw (x .count) (chained-as c)
 
   next-grown : Grown t u

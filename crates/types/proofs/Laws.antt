@@ -11,6 +11,7 @@ use lib.ListN.{length, getD, length-map, List·getD-map}
 use Rattle.meaning.specs.Base.{choose, if_then_else_}
 use Rattle.meaning.specs.Types.{unknown, list, dict, tuple, mapIter, filterIter, tys, same, kind, plain, parts, part}
 use Rattle.meaning.proofs.Choices.{same-yes, same-no, plain-kind}
+use Rattle.types.specs.Layout.{elementsFrom}
 use Rattle.types.specs.Table.{Tab, capacity, kindAt, firstAt, secondAt, elementsAt, shaped, shape, denote, Means, Wf, Grown}
 use Rattle.types.proofs.Room.{capacity-within}
 use Rattle.types.proofs.Shapes.{shaped-kind, shaped-first, shaped-second}
@@ -61,7 +62,7 @@ module _ {t : Tab} (w : Wf t) (i : ℕ) (h : i < t.n) where
   pub parts-many : kindAt t i ≡ 10 → length (parts (denote t i)) ≡ secondAt t i
   parts-many e =
       ap length (parts-of e) ∙ length-map (elementsAt t i) (denote t)
-      ∙ piece-long t.cells (4 * capacity t.cells + firstAt t i) (secondAt t i) (omega (arith, w .low i h .inside e, w .space, capacity-within t.cells))
+      ∙ piece-long t.cells (elementsFrom t.cells + firstAt t i) (secondAt t i) (omega (arith, w .low i h .inside e, w .space, capacity-within t.cells))
 
 -- ---- the plain types are their own numbers
 
@@ -108,13 +109,13 @@ module _ {t : Tab} (w : Wf t) (i : ℕ) (h : i < t.n) where
   }
 
   -- a Tuple's element j
-  pub element-part : (j : ℕ) → kindAt t i ≡ 10 → j < secondAt t i → Means t (getD t.cells (4 * capacity t.cells + firstAt t i + j) 0) (part j (denote t i))
+  pub element-part : (j : ℕ) → kindAt t i ≡ 10 → j < secondAt t i → Means t (getD t.cells (elementsFrom t.cells + firstAt t i + j) 0) (part j (denote t i))
   unfolding part
   element-part j k l = record {
     below = omega (arith, w .low i h .elements k j l);
     means =
         rw (parts-of w i h k)
-        (ap (denote t) (sym (piece-at t.cells (4 * capacity t.cells + firstAt t i) (secondAt t i) j l))
+        (ap (denote t) (sym (piece-at t.cells (elementsFrom t.cells + firstAt t i) (secondAt t i) j l))
         ∙ sym (List·getD-map (denote t) (elementsAt t i) j 0)
         ∙ ap (getD (map (denote t) (elementsAt t i)) j) (unknown-number w));
   }

@@ -1,7 +1,8 @@
--- Room, Laws, Forming, Readers and Answers are what callers cite.
+-- Room, Laws, Forming, Parts, Readers and Answers are what callers cite.
 pub mod Room
 pub mod Laws
 pub mod Forming
+pub mod Parts
 pub mod Readers
 pub mod Answers
 mod Shapes

@@ -4,15 +4,16 @@ use mathlib.Core.List.{List}
 use Prim.Native.Nat.{ℕ, _+_, _*_, _≤_, _<_}
 use native.Mathlib.Omega.{arith}
 use lib.ListN.{length, getD, replicate, length-replicate, getD-replicate}
+use Rattle.types.specs.Layout.{linkCell, slotsFrom, slotsEnd}
 use Rattle.types.specs.Table.{capacity, Fresh}
 
 -- five cells for a record and an element
-pub capacity-within : (cs : List ℕ) → 5 * capacity cs ≤ length cs
+pub capacity-within : (cs : List ℕ) → slotsFrom cs ≤ length cs
 unfolding capacity
 capacity-within cs = omega arith
 
 -- and one for a slot
-pub slots-within : (cs : List ℕ) → 6 * capacity cs ≤ length cs
+pub slots-within : (cs : List ℕ) → slotsEnd cs ≤ length cs
 unfolding capacity
 slots-within cs = omega arith
 
@@ -21,7 +22,7 @@ unfolding capacity
 capacity-as cs ds e = rw e
 
 -- the cells of record i are there
-pub record-within : (cs : List ℕ) {i : ℕ} → i < capacity cs → 4 * i + 3 < length cs
+pub record-within : (cs : List ℕ) {i : ℕ} → i < capacity cs → linkCell i < length cs
 record-within cs h = omega (arith, capacity-within cs)
 
 -- cells filled with one number below 8, as 1

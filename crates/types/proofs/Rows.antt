@@ -7,6 +7,7 @@ use native.Mathlib.Decide.{decLe}
 use lib.ListN.{length, getD, length-append, List·getD-append}
 use lib.Seq.{getD-at}
 use Rattle.meaning.specs.Types.{Ty, tys, unknown}
+use Rattle.types.specs.Layout.{elementsFrom}
 use Rattle.types.specs.Table.{Tab, capacity, kindAt, firstAt, secondAt, shape, trees, denote, Low}
 use Rattle.types.proofs.Room.{capacity-within}
 use Rattle.types.proofs.Shapes.{shaped-cong}
@@ -49,8 +50,8 @@ shape-cong t space f g i l h =
     shaped-cong (kindAt t i) (l .known)
     (λ e n. h _ (l .first e n))
     (λ e. h _ (l .second e))
-    (λ e. let a : 4 * capacity t.cells + firstAt t i + secondAt t i ≤ length t.cells = omega (arith, l .inside e, capacity-within t.cells) in
-    ap tys (piece-map f g t.cells t.cells (4 * capacity t.cells + firstAt t i) (4 * capacity t.cells + firstAt t i) (secondAt t i) a a (λ j k. h _ (l .elements e j k))))
+    (λ e. let a : elementsFrom t.cells + firstAt t i + secondAt t i ≤ length t.cells = omega (arith, l .inside e, capacity-within t.cells) in
+    ap tys (piece-map f g t.cells t.cells (elementsFrom t.cells + firstAt t i) (elementsFrom t.cells + firstAt t i) (secondAt t i) a a (λ j k. h _ (l .elements e j k))))
 
 pub denote-sound : (t : Tab) → Sound t → (i : ℕ) → i < t.n → denote t i ≡ shape t (denote t) i
 unfolding denote

@@ -6,7 +6,8 @@ use Prim.Native.Nat.{ℕ, _+_, _*_, _≤_, _<_}
 use lib.ListN.{length, getD, take, drop}
 use native.Mathlib.Omega.{arith}
 use native.Mathlib.Decide.{decLt, ℕ-discrete}
-use Rattle.types.specs.Table.{Tab, capacity, recordHash, tupleHash, slotOf, linkAt, Chains, Wf}
+use Rattle.types.specs.Layout.{linkCell, linkIn}
+use Rattle.types.specs.Table.{Tab, capacity, recordHash, tupleHash, slotOf, Chains, Wf}
 use Rattle.types.specs.Steps.{Asked, Listed, RecordAt, TupleAt, Told, Slot, Passed, Found}
 use Rattle.types.proofs.Room.{capacity-within, slots-within}
 use Rattle.types.proofs.Chains.{slot-least, slot-most, slot-record, slot-tuple}
@@ -32,7 +33,7 @@ module _ {P : ℕ → Type 0} {cs : List ℕ} {n slot : ℕ} (c : Chains cs n) (
   }
 
   -- between a number of the chain and its link no number is of the chain
-  pub passed-more : {i r : ℕ} {b : Bool} → Passed P cs n slot i → 8 ≤ i → Told (P i) b → b ≡ false → r ≡ linkAt cs i → Passed P cs n slot r
+  pub passed-more : {i r : ℕ} {b : Bool} → Passed P cs n slot i → 8 ≤ i → Told (P i) b → b ≡ false → r ≡ linkIn cs i → Passed P cs n slot r
   passed-more {i} p l t e f = record {
     below = omega (arith, f, c .links i l (p .below), p .below);
     own = λ h. rw f (c .link-own i l (p .below) (rw f at h)) ∙ p .own l;
@@ -73,7 +74,7 @@ tuple-slot {t} {st} {s} {q} l e = record {
 
 -- where a record is added, its link is in front of all slots
 pub add-room : {P : ℕ → Type 0} {t : Tab} {slot : ℕ} (long : ℕ) → long ≡ length t.cells → Wf t → t.n < capacity t.cells → Slot P t.cells t.n slot
-    → (4 * t.n + 3 < slot) × (slot < long) × (t.n < 65536)
+    → (linkCell t.n < slot) × (slot < long) × (t.n < 65536)
 add-room {t = t} long e w h s = (
   omega (arith, s .least),
   omega (arith, s .most, slots-within t.cells),

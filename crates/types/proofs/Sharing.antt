@@ -12,6 +12,7 @@ use lib.ListN.{length, getD, take, drop, drop-of-length-le}
 use lib.Seq.{drop-cons}
 use Rattle.meaning.specs.Base.{_and_, if_then_else_, all}
 use Rattle.meaning.specs.Types.{unknown, same, common}
+use Rattle.types.specs.Layout.{firstIn, secondIn, elementsFrom}
 use Rattle.types.specs.Table.{Tab, capacity, kindAt, firstAt, secondAt, elementsAt, denote, Wf}
 use Rattle.types.specs.Reading.{shared, CommonOf}
 use Rattle.types.proofs.Room.{capacity-within}
@@ -109,7 +110,7 @@ module _ {t : Tab} (w : Wf t) where
 
 -- ---- common_of
 
-pub common-told : (cs : List ℕ) (i a q r : ℕ) → a ≡ 4 * capacity cs + getD cs (4 * i + 1) 0 → q ≡ getD cs (4 * i + 2) 0
+pub common-told : (cs : List ℕ) (i a q r : ℕ) → a ≡ elementsFrom cs + firstIn cs i → q ≡ secondIn cs i
     → r ≡ shared (take q (drop a cs)) → CommonOf cs i r
 common-told cs i a q r ea eq er =
     record {
@@ -120,11 +121,11 @@ common-told cs i a q r ea eq er =
     }
   where
     own : (t : Tab) → t.cells ≡ cs → r ≡ shared (elementsAt t i)
-    own t e = er ∙ rw (ea, eq) (ap (λ (xs : List ℕ). shared (take (getD xs (4 * i + 2) 0) (drop (4 * capacity xs + getD xs (4 * i + 1) 0) xs))) (sym e))
+    own t e = er ∙ rw (ea, eq) (ap (λ (xs : List ℕ). shared (take (secondIn xs i) (drop (elementsFrom xs + firstIn xs i) xs))) (sym e))
 
     low : (t : Tab) → Wf t → i < t.n → kindAt t i ≡ 10 → (j : ℕ) → j < length (elementsAt t i) → getD (elementsAt t i) j 0 < t.n
     low t w h k j a =
         let l = w .low i h in
         let b : j < secondAt t i =
-        omega (arith, piece-long t.cells (4 * capacity t.cells + firstAt t i) (secondAt t i) (omega (arith, l .inside k, w .space, capacity-within t.cells))) in
-        omega (arith, piece-at t.cells (4 * capacity t.cells + firstAt t i) (secondAt t i) j b, l .elements k j b)
+        omega (arith, piece-long t.cells (elementsFrom t.cells + firstAt t i) (secondAt t i) (omega (arith, l .inside k, w .space, capacity-within t.cells))) in
+        omega (arith, piece-at t.cells (elementsFrom t.cells + firstAt t i) (secondAt t i) j b, l .elements k j b)

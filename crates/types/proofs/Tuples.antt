@@ -10,6 +10,7 @@ use lib.ListN.{length, getD, set, take, drop, length-set}
 use lib.Seq.{getD-set-same, getD-set-other}
 use Rattle.meaning.specs.Base.{choose, if_then_else_}
 use Rattle.meaning.specs.Types.{Ty, tuple, tys, kind, parts}
+use Rattle.types.specs.Layout.{kindIn, firstIn, secondIn, elementsFrom, slotsFrom}
 use Rattle.types.specs.Table.{Tab, tab, capacity, kindAt, firstAt, secondAt, tupleHash, slotOf, shaped, shape, denote, Made}
 use Rattle.types.specs.Steps.{Told, Found, Added, Listed, Equal, TupleAt, Copied}
 use Rattle.types.proofs.Room.{capacity-within, capacity-as}
@@ -38,8 +39,8 @@ copied-more {cs} {ds} {a} {st} {s} {j} c h = record {
 
 -- ---- whether a record is the Tuple asked for, where its kind and its count are
 
-pub tuple-told : {cs st : List ℕ} {i s q a : ℕ} {b : Bool} → getD cs (4 * i) 0 ≡ 10 → getD cs (4 * i + 2) 0 ≡ q
-    → a ≡ 4 * capacity cs + getD cs (4 * i + 1) 0 → Told (Equal cs a st s q) b → Told (TupleAt cs st s q i) b
+pub tuple-told : {cs st : List ℕ} {i s q a : ℕ} {b : Bool} → kindIn cs i ≡ 10 → secondIn cs i ≡ q
+    → a ≡ elementsFrom cs + firstIn cs i → Told (Equal cs a st s q) b → Told (TupleAt cs st s q i) b
 tuple-told {cs} {st} {i} {s} {q} k n e t =
     told-as (λ h. record { kind-is = k; second-is = n; elements = subst (λ x. Equal cs x st s q) e h })
     (λ m. subst (λ x. Equal cs x st s q) (sym e) (m .elements))
@@ -60,7 +61,7 @@ module _ (t : Tab) (st : List ℕ) (s q : ℕ) (x : Listed t st s q) where
   tuple-old r h e =
       let w = x .wf in
       let i = w .low r h .inside (e .kind-is) in
-      let m = meant t.cells (4 * capacity t.cells + firstAt t r) (omega (arith, w .space, e .second-is, capacity-within t.cells)) (e .elements) in
+      let m = meant t.cells (elementsFrom t.cells + firstAt t r) (omega (arith, w .space, e .second-is, capacity-within t.cells)) (e .elements) in
       made-old q w h (tuple-is w r h (e .kind-is) ∙ rw (e .second-is) (ap (λ ts. tuple (tys ts)) m))
 
   -- a number that means the type has its record, since equal types have equal numbers
@@ -70,7 +71,7 @@ module _ (t : Tab) (st : List ℕ) (s q : ℕ) (x : Listed t st s q) where
       let w = x .wf in
       let k : kindAt t i ≡ 10 = record-kind w i h (ap kind e) in
       let low = w .low i h in
-      let p = piece-inj (denote t) t.cells st (4 * capacity t.cells + firstAt t i) s (secondAt t i) q
+      let p = piece-inj (denote t) t.cells st (elementsFrom t.cells + firstAt t i) s (secondAt t i) q
       (omega (arith, low .inside k, w .space, capacity-within t.cells)) (x .inside)
       (sym (parts-of w i h k) ∙ ap parts e ∙ tuple-parts _) in
       record {
@@ -84,7 +85,7 @@ module _ (t : Tab) (st : List ℕ) (s q : ℕ) (x : Listed t st s q) where
       }
 
   pub tuple-new : {r slot : ℕ} {ds es : List ℕ} → Found (TupleAt t.cells st s q) t.n r → t.n ≤ r → slot ≡ slotOf t.cells (tupleHash (take q (drop s st)))
-      → {a : ℕ} → a ≡ 4 * capacity t.cells + t.m → Copied t.cells ds a st s q
+      → {a : ℕ} → a ≡ elementsFrom t.cells + t.m → Copied t.cells ds a st s q
       → Added ds es slot t.n 10 t.m q → Made t (tab es (t.n + 1) (t.m + q)) t.n (tuple (tys (map (denote t) (take q (drop s st))))) q
   unfolding shape shaped choose if_then_else_
   tuple-new {r} {slot} {ds} {es} f h z {a} from c v =
@@ -94,14 +95,14 @@ module _ (t : Tab) (st : List ℕ) (s q : ℕ) (x : Listed t st s q) where
       let fi = v .here .first-is in
       let si = v .here .second-is in
       let hash : ℕ = tupleHash (take q (drop s st)) in
-      let least : 5 * capacity t.cells ≤ slot = rw z (slot-least t.cells hash) in
+      let least : slotsFrom t.cells ≤ slot = rw z (slot-least t.cells hash) in
       let as-wide : capacity es ≡ capacity t.cells = capacity-as t.cells es (v .long ∙ c .long) in
-      let equal : Equal es (4 * capacity t.cells + t.m) st s q =
+      let equal : Equal es (elementsFrom t.cells + t.m) st s q =
       record {
-        at = λ j l. v .after (4 * capacity t.cells + t.m + j) (omega (arith, x .room)) (omega (arith, x .space)) ∙ rw from at (c .elements .at j l);
+        at = λ j l. v .after (elementsFrom t.cells + t.m + j) (omega (arith, x .room)) (omega (arith, x .space)) ∙ rw from at (c .elements .at j l);
       } in
-      let inside : 4 * capacity t.cells + t.m + q ≤ length es = omega (arith, v .long, c .long, x .space, capacity-within t.cells) in
-      let m = meant es (4 * capacity t.cells + t.m) inside equal in
+      let inside : elementsFrom t.cells + t.m + q ≤ length es = omega (arith, v .long, c .long, x .space, capacity-within t.cells) in
+      let m = meant es (elementsFrom t.cells + t.m) inside equal in
       let y : shape u (denote t) t.n ≡ asked = rw (as-wide, ki, fi, si) (ap (λ ts. tuple (tys ts)) m) in
       next-made t u w
       (record {
@@ -112,8 +113,8 @@ module _ (t : Tab) (st : List ℕ) (s q : ℕ) (x : Listed t st s q) where
         space = x .space;
         records = λ z l. v .before z l ∙ c .before z (omega (arith, x .room, from));
         elements = λ j l.
-            v .after (4 * capacity t.cells + j) (omega (arith, x .room)) (omega (arith, w .space))
-            ∙ c .before (4 * capacity t.cells + j) (omega (arith, from));
+            v .after (elementsFrom t.cells + j) (omega (arith, x .room)) (omega (arith, w .space))
+            ∙ c .before (elementsFrom t.cells + j) (omega (arith, from));
         low = record {
           known = omega arith;
           none = λ e. absurd (omega arith);

@@ -9,6 +9,7 @@ use lib.ListN.{getD}
 use Rattle.meaning.specs.Base.{choose, if_then_else_}
 use Rattle.meaning.specs.Types.{Ty, kind, plain, part}
 use Rattle.meaning.specs.Rules.{elementOf}
+use Rattle.types.specs.Layout.{kindIn}
 use Rattle.types.specs.Table.{Tab, Wf, denote}
 use Rattle.types.specs.Reading.{PartOf, CommonOf, perhaps, ElementOf}
 use Rattle.types.proofs.Shapes.{each-kind}
@@ -55,7 +56,7 @@ no-element ty =
 
 -- ---- element_of, by the kind k that it reads
 
-module _ (cs : List ℕ) (i k : ℕ) (read : k ≡ getD cs (4 * i) 0) where
+module _ (cs : List ℕ) (i k : ℕ) (read : k ≡ kindIn cs i) where
   own : (t : Tab) → t.cells ≡ cs → Wf t → i < t.n → kind (denote t i) ≡ k
   own t e w h = sym (kind-told cs i k read .says t e w h)
 

@@ -7,6 +7,7 @@ use borrow.Author.Count.{below-more}
 use lib.ListN.{length, getD, set, length-set}
 use lib.Seq.{getD-set-same, getD-set-other}
 use Rattle.meaning.specs.Types.{kind}
+use Rattle.types.specs.Layout.{kindCell, firstCell, secondCell, linkCell}
 use Rattle.types.specs.Table.{Tab, tab, capacity, kindAt, shape, denote, Low, Chains, Fresh, Wf}
 use Rattle.types.specs.Steps.{RecordAt, Written, Added, Started}
 use Rattle.types.proofs.Room.{capacity-as}
@@ -14,44 +15,44 @@ use Rattle.types.proofs.Shapes.{shaped-kind}
 use Rattle.types.proofs.Rows.{Sound, denote-sound}
 use Rattle.types.proofs.Chains.{chained-as}
 
-pub written : (cs : List ℕ) (i k p q : ℕ) → 4 * i + 2 < length cs
-    → Written cs (set (set (set cs (4 * i) k) (4 * i + 1) p) (4 * i + 2) q) i k p q
+pub written : (cs : List ℕ) (i k p q : ℕ) → secondCell i < length cs
+    → Written cs (set (set (set cs (kindCell i) k) (firstCell i) p) (secondCell i) q) i k p q
 written cs i k p q h =
-    let ds : List ℕ = set cs (4 * i) k in
-    let es : List ℕ = set ds (4 * i + 1) p in
-    let off : (x : ℕ) → (x ≡ 4 * i → ⊥) → (x ≡ 4 * i + 1 → ⊥) → (x ≡ 4 * i + 2 → ⊥) → getD (set es (4 * i + 2) q) x 0 ≡ getD cs x 0 =
-    λ x a b c. getD-set-other es (4 * i + 2) x q 0 c ∙ getD-set-other ds (4 * i + 1) x p 0 b ∙ getD-set-other cs (4 * i) x k 0 a in
+    let ds : List ℕ = set cs (kindCell i) k in
+    let es : List ℕ = set ds (firstCell i) p in
+    let off : (x : ℕ) → (x ≡ kindCell i → ⊥) → (x ≡ firstCell i → ⊥) → (x ≡ secondCell i → ⊥) → getD (set es (secondCell i) q) x 0 ≡ getD cs x 0 =
+    λ x a b c. getD-set-other es (secondCell i) x q 0 c ∙ getD-set-other ds (firstCell i) x p 0 b ∙ getD-set-other cs (kindCell i) x k 0 a in
     record {
       long = simp length-set;
       here = record {
         kind-is =
-            getD-set-other es (4 * i + 2) (4 * i) q 0 (omega arith) ∙ getD-set-other ds (4 * i + 1) (4 * i) p 0 (omega arith)
-            ∙ getD-set-same cs (4 * i) k 0 (omega arith);
+            getD-set-other es (secondCell i) (kindCell i) q 0 (omega arith) ∙ getD-set-other ds (firstCell i) (kindCell i) p 0 (omega arith)
+            ∙ getD-set-same cs (kindCell i) k 0 (omega arith);
         first-is =
-            getD-set-other es (4 * i + 2) (4 * i + 1) q 0 (omega arith) ∙ getD-set-same ds (4 * i + 1) p 0 (simp length-set (omega arith));
-        second-is = getD-set-same es (4 * i + 2) q 0 (simp length-set (omega arith));
+            getD-set-other es (secondCell i) (firstCell i) q 0 (omega arith) ∙ getD-set-same ds (firstCell i) p 0 (simp length-set (omega arith));
+        second-is = getD-set-same es (secondCell i) q 0 (simp length-set (omega arith));
       };
       before = λ x a. off x (omega arith) (omega arith) (omega arith);
       after = λ x a. off x (omega arith) (omega arith) (omega arith);
     }
 
 -- a record, and then its link and its slot
-pub added : {cs ds : List ℕ} {slot i k p q : ℕ} → 4 * i + 3 < slot → slot < length cs → Written cs ds i k p q
-    → Added cs (set (set ds (4 * i + 3) (getD ds slot 0)) slot i) slot i k p q
+pub added : {cs ds : List ℕ} {slot i k p q : ℕ} → linkCell i < slot → slot < length cs → Written cs ds i k p q
+    → Added cs (set (set ds (linkCell i) (getD ds slot 0)) slot i) slot i k p q
 added {cs} {ds} {slot} {i} {k} {p} {q} h l w =
-    let es : List ℕ = set ds (4 * i + 3) (getD ds slot 0) in
-    let long : length es ≡ length cs = length-set ds (4 * i + 3) (getD ds slot 0) ∙ w .long in
-    let off : (x : ℕ) → (x ≡ 4 * i + 3 → ⊥) → (x ≡ slot → ⊥) → getD (set es slot i) x 0 ≡ getD ds x 0 =
-    λ x a b. getD-set-other es slot x i 0 b ∙ getD-set-other ds (4 * i + 3) x (getD ds slot 0) 0 a in
+    let es : List ℕ = set ds (linkCell i) (getD ds slot 0) in
+    let long : length es ≡ length cs = length-set ds (linkCell i) (getD ds slot 0) ∙ w .long in
+    let off : (x : ℕ) → (x ≡ linkCell i → ⊥) → (x ≡ slot → ⊥) → getD (set es slot i) x 0 ≡ getD ds x 0 =
+    λ x a b. getD-set-other es slot x i 0 b ∙ getD-set-other ds (linkCell i) x (getD ds slot 0) 0 a in
     record {
       long = length-set es slot i ∙ long;
       here = record {
-        kind-is = off (4 * i) (omega arith) (omega arith) ∙ w .here .kind-is;
-        first-is = off (4 * i + 1) (omega arith) (omega arith) ∙ w .here .first-is;
-        second-is = off (4 * i + 2) (omega arith) (omega arith) ∙ w .here .second-is;
+        kind-is = off (kindCell i) (omega arith) (omega arith) ∙ w .here .kind-is;
+        first-is = off (firstCell i) (omega arith) (omega arith) ∙ w .here .first-is;
+        second-is = off (secondCell i) (omega arith) (omega arith) ∙ w .here .second-is;
       };
       link =
-          getD-set-other es slot (4 * i + 3) i 0 (omega arith) ∙ getD-set-same ds (4 * i + 3) (getD ds slot 0) 0 (omega (arith, w .long))
+          getD-set-other es slot (linkCell i) i 0 (omega arith) ∙ getD-set-same ds (linkCell i) (getD ds slot 0) 0 (omega (arith, w .long))
           ∙ w .after slot (omega arith);
       head = getD-set-same es slot i 0 (omega arith);
       before = λ x a. off x (omega arith) (omega arith) ∙ w .before x a;
@@ -74,9 +75,9 @@ started-more {cs} {ds} {i} s l w =
         heads = rw as-wide (λ x a b. rw (w .after x (omega (arith, f .room))) (f .heads x a b));
       };
       plains = below-more (λ j. RecordAt ds j 0 0 j) i (λ j h. record {
-        kind-is = w .before (4 * j) (omega arith) ∙ s .plains j h .kind-is;
-        first-is = w .before (4 * j + 1) (omega arith) ∙ s .plains j h .first-is;
-        second-is = w .before (4 * j + 2) (omega arith) ∙ s .plains j h .second-is;
+        kind-is = w .before (kindCell j) (omega arith) ∙ s .plains j h .kind-is;
+        first-is = w .before (firstCell j) (omega arith) ∙ s .plains j h .first-is;
+        second-is = w .before (secondCell j) (omega arith) ∙ s .plains j h .second-is;
       }) (w .here);
     }
 

@@ -4,7 +4,8 @@ use mathlib.Core.List.{List}
 use mathlib.Core.Bool.{Bool, true, false}
 use Prim.Native.Nat.{ℕ, _+_, _*_, _≤_, _<_}
 use lib.ListN.{length, getD}
-use Rattle.types.specs.Table.{Tab, capacity, slotAt, linkAt, Fresh, Wf}
+use Rattle.types.specs.Layout.{kindCell, linkCell, recordEnd, kindIn, firstIn, secondIn, linkIn, elementsFrom, slotsFrom, slotsEnd}
+use Rattle.types.specs.Table.{Tab, capacity, slotAt, Fresh, Wf}
 
 -- ---- what is asked
 
@@ -31,9 +32,9 @@ pub record Listed (t : Tab) (st : List ℕ) (s q : ℕ) : Type 0 where
 
 -- record i is (k, p, q)
 pub record RecordAt (cs : List ℕ) (k p q i : ℕ) : Type 0 where
-  pub kind-is : getD cs (4 * i) 0 ≡ k
-  pub first-is : getD cs (4 * i + 1) 0 ≡ p
-  pub second-is : getD cs (4 * i + 2) 0 ≡ q
+  pub kind-is : kindIn cs i ≡ k
+  pub first-is : firstIn cs i ≡ p
+  pub second-is : secondIn cs i ≡ q
 
 -- the q numbers of cs from a on are those of st from s on
 pub record Equal (cs : List ℕ) (a : ℕ) (st : List ℕ) (s q : ℕ) : Type 0 where
@@ -41,9 +42,9 @@ pub record Equal (cs : List ℕ) (a : ℕ) (st : List ℕ) (s q : ℕ) : Type 0 
 
 -- record i is the Tuple of the q numbers of st from s on
 pub record TupleAt (cs st : List ℕ) (s q i : ℕ) : Type 0 where
-  pub kind-is : getD cs (4 * i) 0 ≡ 10
-  pub second-is : getD cs (4 * i + 2) 0 ≡ q
-  pub elements : Equal cs (4 * capacity cs + getD cs (4 * i + 1) 0) st s q
+  pub kind-is : kindIn cs i ≡ 10
+  pub second-is : secondIn cs i ≡ q
+  pub elements : Equal cs (elementsFrom cs + firstIn cs i) st s q
 
 -- ---- a search
 
@@ -54,8 +55,8 @@ pub record Told (P : Type 0) (b : Bool) : Type 0 where
 
 -- slot has the last number of the chain in which all structured numbers below n that have P are
 pub record Slot (P : ℕ → Type 0) (cs : List ℕ) (n slot : ℕ) : Type 0 where
-  pub least : 5 * capacity cs ≤ slot
-  pub most : slot < 6 * capacity cs
+  pub least : slotsFrom cs ≤ slot
+  pub most : slot < slotsEnd cs
   pub own : (j : ℕ) → 8 ≤ j → j < n → P j → slotAt cs j ≡ slot
 
 -- i is a number of slot's chain, or its end, and none above i has P
@@ -75,17 +76,17 @@ pub record Found (P : ℕ → Type 0) (n r : ℕ) : Type 0 where
 pub record Written (cs ds : List ℕ) (i k p q : ℕ) : Type 0 where
   pub long : length ds ≡ length cs
   pub here : RecordAt ds k p q i
-  pub before : (x : ℕ) → x < 4 * i → getD ds x 0 ≡ getD cs x 0
-  pub after : (x : ℕ) → 4 * i + 3 ≤ x → getD ds x 0 ≡ getD cs x 0
+  pub before : (x : ℕ) → x < kindCell i → getD ds x 0 ≡ getD cs x 0
+  pub after : (x : ℕ) → linkCell i ≤ x → getD ds x 0 ≡ getD cs x 0
 
 -- ds is cs with the record (k, p, q) at i, as the last one of slot's chain
 pub record Added (cs ds : List ℕ) (slot i k p q : ℕ) : Type 0 where
   pub long : length ds ≡ length cs
   pub here : RecordAt ds k p q i
-  pub link : linkAt ds i ≡ getD cs slot 0
+  pub link : linkIn ds i ≡ getD cs slot 0
   pub head : getD ds slot 0 ≡ i
-  pub before : (x : ℕ) → x < 4 * i → getD ds x 0 ≡ getD cs x 0
-  pub after : (x : ℕ) → 4 * i + 4 ≤ x → (x ≡ slot → ⊥) → getD ds x 0 ≡ getD cs x 0
+  pub before : (x : ℕ) → x < kindCell i → getD ds x 0 ≡ getD cs x 0
+  pub after : (x : ℕ) → recordEnd i ≤ x → (x ≡ slot → ⊥) → getD ds x 0 ≡ getD cs x 0
 
 -- the first k records are those of the plain types, and no other is in a chain
 pub record Started (cs : List ℕ) (k : ℕ) : Type 0 where

@@ -6,18 +6,15 @@ use lib.Dec.{eqb}
 use lib.ListN.{length, getD, take, drop}
 use Rattle.meaning.specs.Limits.{mostNodes}
 use Rattle.meaning.specs.Base.{choose, if_then_else_}
+use Rattle.types.specs.Layout.{kindCell, kindIn, firstIn, secondIn, linkIn, elementsFrom, slotsFrom, slotsEnd}
+unfoldable pub use Rattle.types.specs.Layout.{capacity}
 use Rattle.meaning.specs.Types.{Ty, Tys, unknown, list, dict, tuple, mapIter, filterIter, tys, no-types, plain}
 
 -- "no more than 8 plus M distinct types ever exist"
 abbrev pub mostNumbers : ℕ
 mostNumbers = 8 + mostNodes
 
--- ---- the cells: room for as many elements and as many chains as records; with N for that number, record i at 4 · i (kind, p, q, and
--- the record before it in its chain), element j at 4 · N + j and the last record of a chain from 5 · N on; n records and m elements
--- are in use
-
-unfoldable pub capacity : List ℕ → ℕ
-capacity cells = length cells / 6
+-- ---- cells of which n records and m elements are in use
 
 pub record Tab : Type 0 where
   pub cells : List ℕ
@@ -28,20 +25,20 @@ abbrev pub tab : List ℕ → ℕ → ℕ → Tab
 tab cells n m = record { cells = cells; n = n; m = m }
 
 abbrev pub kindAt : Tab → ℕ → ℕ
-kindAt t i = getD t.cells (4 * i) 0
+kindAt t i = kindIn t.cells i
 
 abbrev pub firstAt : Tab → ℕ → ℕ
-firstAt t i = getD t.cells (4 * i + 1) 0
+firstAt t i = firstIn t.cells i
 
 abbrev pub secondAt : Tab → ℕ → ℕ
-secondAt t i = getD t.cells (4 * i + 2) 0
+secondAt t i = secondIn t.cells i
 
 abbrev pub elementAt : Tab → ℕ → ℕ
-elementAt t j = getD t.cells (4 * capacity t.cells + j) 0
+elementAt t j = getD t.cells (elementsFrom t.cells + j) 0
 
 -- the numbers that a Tuple's record i names
 abbrev pub elementsAt : Tab → ℕ → List ℕ
-elementsAt t i = take (secondAt t i) (drop (4 * capacity t.cells + firstAt t i) t.cells)
+elementsAt t i = take (secondAt t i) (drop (elementsFrom t.cells + firstAt t i) t.cells)
 
 -- ---- what a number means
 
@@ -87,7 +84,7 @@ pub record Low (t : Tab) (i : ℕ) : Type 0 where
   pub first : 8 ≤ kindAt t i → (kindAt t i ≡ 10 → ⊥) → firstAt t i < i
   pub second : kindAt t i ≡ 9 → secondAt t i < i
   pub inside : kindAt t i ≡ 10 → firstAt t i + secondAt t i ≤ t.m
-  pub elements : kindAt t i ≡ 10 → (j : ℕ) → j < secondAt t i → getD t.cells (4 * capacity t.cells + firstAt t i + j) 0 < i
+  pub elements : kindAt t i ≡ 10 → (j : ℕ) → j < secondAt t i → getD t.cells (elementsFrom t.cells + firstAt t i + j) 0 < i
 
 -- ---- the chains, by which a type's number is found: each structured number is in the one that its record's hash names
 
@@ -108,28 +105,24 @@ tupleHash es = steps 10 es
 
 -- the cell with the last record of a hash's chain
 unfoldable pub slotOf : List ℕ → ℕ → ℕ
-slotOf cs h = 5 * capacity cs + h % capacity cs
+slotOf cs h = slotsFrom cs + h % capacity cs
 
 -- and of record i's
 unfoldable pub slotAt : List ℕ → ℕ → ℕ
 slotAt cs i =
     slotOf cs
-    (if eqb (getD cs (4 * i) 0) 10
-    then tupleHash (take (getD cs (4 * i + 2) 0) (drop (4 * capacity cs + getD cs (4 * i + 1) 0) cs))
-    else recordHash (getD cs (4 * i) 0) (getD cs (4 * i + 1) 0) (getD cs (4 * i + 2) 0))
-
--- record i's link
-abbrev pub linkAt : List ℕ → ℕ → ℕ
-linkAt cs i = getD cs (4 * i + 3) 0
+    (if eqb (kindIn cs i) 10
+    then tupleHash (take (secondIn cs i) (drop (elementsFrom cs + firstIn cs i) cs))
+    else recordHash (kindIn cs i) (firstIn cs i) (secondIn cs i))
 
 -- a slot has the last number of its chain, and a link the one before: no number is passed over, and one below 8 is the chain's end
 pub record Chains (cs : List ℕ) (n : ℕ) : Type 0 where
-  pub heads : (x : ℕ) → 5 * capacity cs ≤ x → x < 6 * capacity cs → getD cs x 0 < n
-  pub head-own : (x : ℕ) → 5 * capacity cs ≤ x → x < 6 * capacity cs → 8 ≤ getD cs x 0 → slotAt cs (getD cs x 0) ≡ x
+  pub heads : (x : ℕ) → slotsFrom cs ≤ x → x < slotsEnd cs → getD cs x 0 < n
+  pub head-own : (x : ℕ) → slotsFrom cs ≤ x → x < slotsEnd cs → 8 ≤ getD cs x 0 → slotAt cs (getD cs x 0) ≡ x
   pub head-last : (j : ℕ) → 8 ≤ j → j < n → j ≤ getD cs (slotAt cs j) 0
-  pub links : (i : ℕ) → 8 ≤ i → i < n → linkAt cs i < i
-  pub link-own : (i : ℕ) → 8 ≤ i → i < n → 8 ≤ linkAt cs i → slotAt cs (linkAt cs i) ≡ slotAt cs i
-  pub link-last : (i j : ℕ) → 8 ≤ j → j < i → i < n → slotAt cs j ≡ slotAt cs i → j ≤ linkAt cs i
+  pub links : (i : ℕ) → 8 ≤ i → i < n → linkIn cs i < i
+  pub link-own : (i : ℕ) → 8 ≤ i → i < n → 8 ≤ linkIn cs i → slotAt cs (linkIn cs i) ≡ slotAt cs i
+  pub link-last : (i j : ℕ) → 8 ≤ j → j < i → i < n → slotAt cs j ≡ slotAt cs i → j ≤ linkIn cs i
 
 -- under a shut name, so that searches in callers' proofs, which see many tables, do not look into it
 unfoldable pub Chained : List ℕ → ℕ → Type 0
@@ -139,7 +132,7 @@ Chained cs n = Chains cs n
 pub record Fresh (cs : List ℕ) : Type 0 where
   pub room : 8 ≤ capacity cs
   pub most : capacity cs ≤ mostNumbers
-  pub heads : (x : ℕ) → 5 * capacity cs ≤ x → x < 6 * capacity cs → getD cs x 0 < 8
+  pub heads : (x : ℕ) → slotsFrom cs ≤ x → x < slotsEnd cs → getD cs x 0 < 8
 
 pub record Wf (t : Tab) : Type 0 where
   pub most : capacity t.cells ≤ mostNumbers
@@ -161,7 +154,7 @@ pub record Grown (t u : Tab) : Type 0 where
   pub more : t.n ≤ u.n
   pub wider : t.m ≤ u.m
   pub same : (i : ℕ) → i < t.n → denote u i ≡ denote t i
-  pub records : (x : ℕ) → x < 4 * t.n → getD u.cells x 0 ≡ getD t.cells x 0
+  pub records : (x : ℕ) → x < kindCell t.n → getD u.cells x 0 ≡ getD t.cells x 0
   pub elements : (j : ℕ) → j < t.m → elementAt u j ≡ elementAt t j
 
 -- u is t grown by at most one number and so many elements, r means ty there, and a type that had a number got no second one

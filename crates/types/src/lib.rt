@@ -11,12 +11,14 @@ ghost use mathlib.Core.List.{map};
 ghost use lib.ListN.{length, getD, take, drop};
 ghost use Prim.Native.Nat.{ℕ, _+_, _*_, _≤_, _<_};
 ghost use Rattle.meaning.specs.Types.{tuple, tys};
-ghost use Rattle.types.specs.Table.{capacity, step, tupleHash, slotOf, Chains};
+ghost use Rattle.types.specs.Layout.{capacity, secondCell, linkCell, elementsFrom};
+ghost use Rattle.types.specs.Table.{step, tupleHash, slotOf, Chains};
 ghost use Rattle.types.specs.Table.{Fresh, Wf, Made, tab, denote, built};
 ghost use Rattle.types.specs.Steps.{Asked, Listed, RecordAt, Equal, TupleAt, Told};
 ghost use Rattle.types.specs.Steps.{Slot, Found, Written, Added, Copied};
-ghost use Rattle.types.specs.Reading.{KindOf, PartOf, IsNumber, IsTuple, IsElement};
+ghost use Rattle.types.specs.Reading.{KindOf, PartOf, PartsOf, HasPart, PartAt, IsNumber, IsTuple, IsElement};
 ghost use Rattle.types.specs.Reading.{CountOf, ElementAt, CommonOf, ElementOf, shared, Agreement};
+use words::wide16;
 
 // The plain types, numbers 0 to 7: each is its own kind.
 pub const UNKNOWN: usize = 0;
@@ -67,8 +69,8 @@ const SLOTS: usize = RECORD + 1;
 // The cells of a table for each type that it has room for: its record, a tuple element and a slot.
 pub const CELLS: usize = SLOTS + 1;
 
-// What a record has where it has no part.
-pub const NO_PART: usize = 0;
+// What a record has where it has no part: Unknown's number.
+pub const NO_PART: usize = UNKNOWN;
 
 // What a fresh table is filled with: no chain, for 1 is a plain type. A fill with 0 is made byte by byte, one with 1
 // by 16 bytes at a time.
@@ -98,29 +100,23 @@ pub struct Perhaps {
     pub number: usize,
 }
 
-fn wide(x: u16) -> usize
-    ensures { λ r. ⌜ (r ≡ x) × (r < 65536) ⌝ }
-{
-    x as usize
-}
-
 fn cell(table: &[u16], at: usize) -> usize
     requires { ⌜ at < length (now table) ⌝ }
     ensures { λ r. ⌜ r ≡ getD (now (table .entry)) at 0 ⌝ }
 {
-    wide(table[at])
+    wide16(table[at])
 }
 
 // The cell of the first tuple element.
 fn base(table: &[u16]) -> usize
-    ensures { λ r. ⌜ r ≡ 4 * capacity (now (table .entry)) ⌝ }
+    ensures { λ r. ⌜ r ≡ elementsFrom (now (table .entry)) ⌝ }
 {
     RECORD * (table.len() / CELLS)
 }
 
 // Writes record i.
 fn put(table: &mut [u16], i: usize, k: u16, p: u16, q: u16)
-    requires { ⌜ 4 * i + 2 < length (now table) ⌝ }
+    requires { ⌜ secondCell i < length (now table) ⌝ }
     ensures { λ _. ⌜ Written (now (table .entry)) (now (table .exit)) i k p q ⌝ }
 {
     table[RECORD * i] = k;
@@ -143,7 +139,7 @@ pub fn start(table: &mut [u16])
 
 // Whether record i is (k, p, q).
 fn holds(table: &[u16], i: usize, k: u16, p: u16, q: u16) -> bool
-    requires { ⌜ 4 * i + 2 < length (now table) ⌝ }
+    requires { ⌜ secondCell i < length (now table) ⌝ }
     ensures { λ r. ⌜ Told (RecordAt (now (table .entry)) k p q i) r ⌝ }
 {
     if table[RECORD * i] != k {
@@ -194,7 +190,7 @@ fn find(table: &[u16], slot: usize, types: usize, k: u16, p: u16, q: u16) -> usi
 
 // Writes record i, and makes it the last one of the slot's chain.
 fn add(table: &mut [u16], slot: usize, i: usize, k: u16, p: u16, q: u16)
-    requires { ⌜ (4 * i + 3 < slot) × (slot < length (now table)) × (i < 65536) ⌝ }
+    requires { ⌜ (linkCell i < slot) × (slot < length (now table)) × (i < 65536) ⌝ }
     ensures { λ _. ⌜ Added (now (table .entry)) (now (table .exit)) slot i k p q ⌝ }
 {
     put(table, i, k, p, q);
@@ -247,7 +243,7 @@ fn alike(table: &[u16], at: usize, stack: &[u16], from: usize, n: usize) -> bool
 // Whether record i is the Tuple of the n numbers of the stack from `from` on. `elements`, the cell of the first
 // element, is handed in so that a search works it out once.
 fn matches(table: &[u16], elements: usize, i: usize, stack: &[u16], from: usize, n: usize) -> bool
-    requires { ⌜ elements ≡ 4 * capacity (now table) ⌝ }
+    requires { ⌜ elements ≡ elementsFrom (now table) ⌝ }
     requires { ⌜ IsNumber (now table) i ⌝ }
     requires { ⌜ from + n ≤ length (now stack) ⌝ }
     ensures { λ r. ⌜ Told (TupleAt (now (table .entry)) (now (stack .entry)) from n i) r ⌝ }
@@ -266,7 +262,7 @@ fn number_at(stack: &[u16], at: usize) -> usize
     requires { ⌜ at < length (now stack) ⌝ }
     ensures { λ r. ⌜ (r ≡ getD (now (stack .entry)) at 0) × (r < 65536) ⌝ }
 {
-    wide(stack[at])
+    wide16(stack[at])
 }
 
 // The hash of the Tuple of the n numbers of the stack from `from` on.
@@ -387,6 +383,33 @@ pub fn element_at(table: &[u16], i: usize, j: usize) -> usize
 {
     let p = cell(table, RECORD * i + P);
     cell(table, base(table) + p + j)
+}
+
+// How many parts type i has: a plain type has none.
+pub fn parts_of(table: &[u16], i: usize) -> usize
+    requires { ⌜ i < capacity (now table) ⌝ }
+    ensures { λ r. ⌜ PartsOf (now (table .entry)) i r ⌝ }
+{
+    match kind_of(table, i) {
+        UNKNOWN..=FUNCTION => 0,
+        DICT => 2,
+        TUPLE => count_of(table, i),
+        _ => 1,
+    }
+}
+
+// Part j of type i.
+pub fn part_at(table: &[u16], i: usize, j: usize) -> usize
+    requires { ⌜ HasPart (now table) i j ⌝ }
+    ensures { λ r. ⌜ PartAt (now (table .entry)) i j r ⌝ }
+{
+    if kind_of(table, i) == TUPLE {
+        return element_at(table, i, j);
+    }
+    if j == 0 {
+        return part_of(table, i);
+    }
+    second_of(table, i)
 }
 
 // The type that the q cells from `at` on share, or Unknown.

@@ -1,4 +1,4 @@
-use Rattle.rules.proofs.Outcomes.{known-room}
+use Rattle.types.proofs.Readers.{known-room}
 use Rattle.rules.proofs.Indexing.{known-tuple, index-unknown, index-string, index-list, index-dict, index-tuple, index-other}
 use borrow.Author.Needs.{needs}
 use Rattle.rules.proofs.index.Statement.{statement}

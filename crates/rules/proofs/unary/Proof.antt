@@ -1,4 +1,4 @@
-use Rattle.rules.proofs.Outcomes.{known-room}
+use Rattle.types.proofs.Readers.{known-room}
 use Rattle.rules.proofs.Operations.{read-kind, unary-gives, unary-refuses}
 use native.Mathlib.Omega.{arith}
 use borrow.Author.Needs.{needs}

@@ -4,7 +4,7 @@ use Rattle.targets.proofs.part_for.Statement.{statement}
 use Rattle.targets.proofs.part_for.Tie as tie
 use Rattle.targets.proofs.part_for.Reads as reads
 use Rattle.targets.proofs.part_for.Lts as lts
-use Rattle.types.proofs.element_at.Reads as element-at-reads
+use Rattle.types.proofs.part_at.Reads as part-at-reads
 use Rattle.types.proofs.kind_of.Reads as kind-of-reads
 use Rattle.types.proofs.part_of.Reads as part-of-reads
 
@@ -19,8 +19,8 @@ part-of-requires c κs =
     sharing-room (c .before .before .before .pre)
 
 -- src/lib.rt:86:15
-element-at-requires : tie.Need-element-at-requires
-element-at-requires c κs =
+part-at-requires : tie.Need-part-at-requires
+part-at-requires c κs =
     sharing-element (c .before .kind-of .ensures) (c .before .before .before .pre) (c .match .keys2)
 
 -- src/lib.rt:80:1
@@ -31,7 +31,7 @@ returns c =
 -- src/lib.rt:80:1
 returns-2 : tie.Need-returns-2
 returns-2 c =
-    share-element (c .before .before .kind-of .ensures) (c .before .match .keys2) (c .element-at .ensures)
+    share-element (c .before .before .kind-of .ensures) (c .before .match .keys2) (c .part-at .ensures)
 
 -- src/lib.rt:80:1
 returns-3 : tie.Need-returns-3
@@ -41,4 +41,4 @@ returns-3 c =
 pub part-for-spec : {M : Type 1} → statement M
 part-for-spec =
     tie.close
-    (tie.spec kind-of-requires part-of-requires element-at-requires returns returns-2 returns-3)
+    (tie.spec kind-of-requires part-of-requires part-at-requires returns returns-2 returns-3)

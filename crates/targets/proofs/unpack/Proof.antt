@@ -1,4 +1,4 @@
-use Rattle.rules.proofs.Outcomes.{known-room}
+use Rattle.types.proofs.Readers.{known-room}
 use Rattle.state.proofs.Noting.{settled-ill, settled-well}
 use Rattle.targets.proofs.Unpacking.{known-count, unpacks-any, unpacks-not, unpacks-other, unpacks-tuple}
 use mathlib.Core.Logic.{inl, inr}
@@ -9,7 +9,7 @@ use Rattle.targets.proofs.unpack.Tie as tie
 use Rattle.targets.proofs.unpack.Reads as reads
 use Rattle.targets.proofs.unpack.Lts as lts
 use Rattle.state.proofs.refuse.Reads as refuse-reads
-use Rattle.types.proofs.count_of.Reads as count-of-reads
+use Rattle.types.proofs.parts_of.Reads as parts-of-reads
 use Rattle.types.proofs.kind_of.Reads as kind-of-reads
 
 -- src/lib.rt:59:11
@@ -18,14 +18,14 @@ kind-of-requires c κs =
     known-room (c .before .pre .1)
 
 -- src/lib.rt:62:17
-count-of-requires : tie.Need-count-of-requires
-count-of-requires c κs =
+parts-of-requires : tie.Need-parts-of-requires
+parts-of-requires c κs =
     known-room (c .before .before .before .pre .1)
 
 -- src/lib.rt:65:17
 returns : tie.Need-returns
 returns c =
-    record { code = 0; a = 0; b = 0; unpacks = unpacks-tuple _ (c .before .before .before .kind-of .ensures) (c .before .before .match .keys2) (c .before .count-of .ensures) (c .if1 .taken); settled = settled-well }
+    record { code = 0; a = 0; b = 0; unpacks = unpacks-tuple _ (c .before .before .before .kind-of .ensures) (c .before .before .match .keys2) (c .before .parts-of .ensures) (c .if1 .taken); settled = settled-well }
 
 -- src/lib.rt:67:13
 refuse-requires : tie.Need-refuse-requires
@@ -49,8 +49,8 @@ returns-3 c =
       code = 26;
       a = _;
       b = _;
-      unpacks = unpacks-other _ (c .before .before .before .before .before .kind-of .ensures) (c .before .before .before .before .match .keys2) (c .before .before .before .count-of .ensures) (omega arith)
-          (known-count (c .before .before .before .before .before .before .before .pre .1) (c .before .before .before .before .before .kind-of .ensures) (c .before .before .before .before .match .keys2) (c .before .before .before .count-of .ensures)) (c .before .before .if1 .left);
+      unpacks = unpacks-other _ (c .before .before .before .before .before .kind-of .ensures) (c .before .before .before .before .match .keys2) (c .before .before .before .parts-of .ensures) (omega arith)
+          (known-count (c .before .before .before .before .before .before .before .pre .1) (c .before .before .before .parts-of .ensures)) (c .before .before .if1 .left);
       settled = settled-ill (λ e. absurd (omega arith)) (c .refuse .ensures);
     }
 
@@ -70,7 +70,7 @@ unpack-spec =
     tie.close
     (tie.spec
     kind-of-requires
-    count-of-requires
+    parts-of-requires
     returns
     refuse-requires
     refuse-requires-2
