@@ -8,6 +8,7 @@ use native.Mathlib.Decide.{decLt, ℕ-discrete}
 use borrow.Author.Tests.{eq-eqb, ne-eqb}
 use lib.ListN.{length, getD, take, drop, drop-of-length-le, length-append, length-drop, length-map, List·getD-map}
 use lib.Seq.{drop-cons, length-take-le}
+use Rattle.meaning.specs.Limits.{longestName, mostText}
 use Rattle.meaning.specs.Base.{if_then_else_, words}
 use Rattle.meaning.specs.Types.{Ty, unknown, kind, parts, part}
 use Rattle.meaning.specs.Sheet.{Triple, laid, number, elementsIn, elementsOf, typeRecord, typeRecords}
@@ -15,14 +16,13 @@ use Rattle.meaning.proofs.SheetWords.{words-length, laid-length}
 use Rattle.meaning.proofs.SheetTypes.{Known, Ordered, number-plain, number-le}
 use Rattle.words.specs.Words.{putAt}
 use Rattle.words.proofs.Laws.{put-nil, put-put, put-length, words-append}
-use Rattle.types.specs.Table.{Tab, tab, capacity, kindAt, firstAt, secondAt, denote, Wf}
-use Rattle.types.specs.Reading.{PartOf}
-use Rattle.types.proofs.Laws.{kind-of, parts-many}
-use Rattle.types.proofs.Readers.{in-room, is-element}
+use Rattle.types.specs.Table.{Tab, tab, mostNumbers, capacity, denote, Wf}
+use Rattle.types.specs.Reading.{KindOf, PartOf, PartsOf, HasPart, PartAt}
+use Rattle.types.proofs.Parts.{structured, kind-most, parts-few}
+use Rattle.types.proofs.Readers.{in-room, has-part}
 use Rattle.sheet.specs.Listing.{startAt, lengthAt, typeAt}
-use Rattle.sheet.specs.Marks.{PartAt, HasPart, countIn, tabOf, typesIn, Marked}
+use Rattle.sheet.specs.Marks.{orderFrom, countIn, tabOf, typesIn, Marked}
 use Rattle.sheet.specs.Writing.{listedSize, listedRecords, listedTexts, ElementsIn, Short, NumberOf, Put, Met, recordBytes, elementBytes, typesBytes, elementsBytes, namesBytes, Named, NamesFit, NamesPut, TextsFit}
-use Rattle.sheet.proofs.Places.{structured}
 use Rattle.sheet.proofs.Meeting.{parts-stand}
 use Rattle.sheet.proofs.Marking.{types-length, type-at}
 use Rattle.sheet.proofs.Names.{size-step, records-step, texts-step, none-left, all-left}
@@ -75,7 +75,7 @@ module _ {cs ms : List ℕ} {i : ℕ} (m : Met cs ms i) where
   number-small : (ty : Ty) → number (typesIn tt₀ ms) ty < 4294967296
   number-small ty = omega (arith, number-le (typesIn tt₀ ms) ty, types-length (m .marked), m .marked .few)
 
-  pub met-small : i < 2056
+  pub met-small : i < mostNumbers
   met-small = omega (arith, m .below, m .marked .wf .room, m .marked .wf .most)
 
   pub met-room : i < capacity cs
@@ -89,11 +89,11 @@ module _ {cs ms : List ℕ} {i : ℕ} (m : Met cs ms i) where
 
   -- ---- its record
 
-  pub record-tuple : (from k q : ℕ) → k ≡ kindAt tt₀ i → k ≡ 10 → q ≡ secondAt tt₀ i → recordBytes tt₀ ms from i ≡ words (10 ∷ from ∷ q ∷ [])
+  pub record-tuple : {k q : ℕ} (from : ℕ) → KindOf cs i k → k ≡ 10 → PartsOf cs i q → recordBytes tt₀ ms from i ≡ words (10 ∷ from ∷ q ∷ [])
   unfolding typeRecord if_then_else_ laid
-  record-tuple from k q ek h eq =
-      let e : kindAt tt₀ i ≡ 10 = sym ek ∙ h in
-      rw (eq-eqb _ _ (kind-of (m .marked .wf) i (m .below) ∙ e), parts-many (m .marked .wf) i (m .below) e, eq)
+  record-tuple from told h many =
+      let e : kind (denote tt₀ i) ≡ 10 = sym (told .says tt₀ refl (m .marked .wf) (m .below)) ∙ h in
+      rw (eq-eqb _ _ e, many .says tt₀ refl (m .marked .wf) (m .below))
 
   plain-zero : number (typesIn tt₀ ms) unknown ≡ 0
   unfolding kind
@@ -105,23 +105,30 @@ module _ {cs ms : List ℕ} {i : ℕ} (m : Met cs ms i) where
       ap (getD (map (number (typesIn tt₀ ms)) (parts (denote tt₀ i))) j) (sym plain-zero)
       ∙ List·getD-map (number (typesIn tt₀ ms)) (parts (denote tt₀ i)) j unknown
 
-  pub record-other : (from k : ℕ) {r s p q : ℕ} → k ≡ kindAt tt₀ i → (k ≡ 10 → ⊥) → PartOf cs 0 i r → NumberOf ms r p → PartOf cs 1 i s → NumberOf ms s q
-      → recordBytes tt₀ ms from i ≡ words (k ∷ p ∷ q ∷ [])
-  unfolding typeRecord if_then_else_ laid
-  record-other from k ek n a x b y =
-      let not-tuple : kind (denote tt₀ i) ≡ 10 → ⊥ = λ z. n (ek ∙ sym (kind-of (m .marked .wf) i (m .below)) ∙ z) in
-      let ma = a .says tt₀ refl (m .marked .wf) (m .below) not-tuple in
-      let mb = b .says tt₀ refl (m .marked .wf) (m .below) not-tuple in
-      rw (ne-eqb _ _ not-tuple, piece 0, piece 1, kind-of (m .marked .wf) i (m .below), ek, part-number 0 (ma .below) (ma .means) x, part-number 1 (mb .below) (mb .means) y)
+  module _ {k : ℕ} (told : KindOf cs i k) where
+    own-kind : k ≡ kind (denote tt₀ i)
+    own-kind = told .says tt₀ refl (m .marked .wf) (m .below)
 
-  pub part-small : {k r s : ℕ} → k ≡ kindAt tt₀ i → (k ≡ 10 → ⊥) → PartOf cs s i r → r < 2056
-  part-small ek n a = omega (arith, a .says tt₀ refl (m .marked .wf) (m .below) (λ z. n (ek ∙ sym (kind-of (m .marked .wf) i (m .below)) ∙ z)) .below, m .marked .wf .room, m .marked .wf .most)
+    pub kind-small : k < 4294967296
+    kind-small = omega (arith, own-kind, kind-most (m .marked .wf) i (m .below))
 
-  pub kind-small : {k : ℕ} → k ≡ kindAt tt₀ i → k < 4294967296
-  kind-small e = omega (arith, m .marked .wf .low i (m .below) .known)
+    module _ (n : k ≡ 10 → ⊥) where
+      not-tuple : kind (denote tt₀ i) ≡ 10 → ⊥
+      not-tuple z = n (own-kind ∙ z)
 
-  pub count-small : {k q : ℕ} → k ≡ kindAt tt₀ i → k ≡ 10 → q ≡ secondAt tt₀ i → q < 4294967296
-  count-small ek h e = omega (arith, m .marked .wf .low i (m .below) .inside (sym ek ∙ h), m .marked .wf .space, m .marked .wf .most)
+      pub record-other : {r s p q : ℕ} (from : ℕ) → PartOf cs 0 i r → NumberOf ms r p → PartOf cs 1 i s → NumberOf ms s q
+          → recordBytes tt₀ ms from i ≡ words (k ∷ p ∷ q ∷ [])
+      unfolding typeRecord if_then_else_ laid
+      record-other from a x b y =
+          let ma = a .says tt₀ refl (m .marked .wf) (m .below) not-tuple in
+          let mb = b .says tt₀ refl (m .marked .wf) (m .below) not-tuple in
+          rw (ne-eqb _ _ not-tuple, piece 0, piece 1, own-kind, part-number 0 (ma .below) (ma .means) x, part-number 1 (mb .below) (mb .means) y)
+
+      pub part-small : {r s : ℕ} → PartOf cs s i r → r < mostNumbers
+      part-small a = omega (arith, a .says tt₀ refl (m .marked .wf) (m .below) not-tuple .below, m .marked .wf .room, m .marked .wf .most)
+
+  pub count-small : {q : ℕ} → PartsOf cs i q → q < 4294967296
+  count-small p = omega (arith, p .says tt₀ refl (m .marked .wf) (m .below), parts-few (m .marked .wf) i (m .below))
 
 pub put-as : {d e : List ℕ} {at : ℕ} {s r : List ℕ} → r ≡ s → Put d e at s → Put d e at r
 put-as e p = rw e p
@@ -139,7 +146,7 @@ pub record TypesLoop (t : Tab) (ms old : List ℕ) (n k from : ℕ) (out : List 
   pub marked : Marked t ms
   pub many : n ≡ countIn ms
   pub passed : k ≤ n
-  pub small : from ≤ 2056 * k
+  pub small : from ≤ mostNumbers * k
   pub room : 40 + 12 * n ≤ length old
   pub long : length out ≡ length old
   pub left : putAt out (40 + 12 * k) (words (laid (typeRecords (typesIn t ms) from (drop k (typesIn t ms))))) ≡ putAt old 40 (typesBytes t ms)
@@ -148,7 +155,7 @@ pub types-first : {t : Tab} {ms out : List ℕ} {n : ℕ} → Marked t ms → 40
 types-first m h e = record { marked = m; many = e; passed = omega arith; small = omega arith; room = omega arith; long = refl; left = refl }
 
 -- the type at place k of the sheet
-module _ {cs ms : List ℕ} {k i : ℕ} (m : Marked (tabOf cs ms) ms) (h : k < countIn ms) (e : i ≡ getD ms (2056 + k) 0) where
+module _ {cs ms : List ℕ} {k i : ℕ} (m : Marked (tabOf cs ms) ms) (h : k < countIn ms) (e : i ≡ getD ms (orderFrom + k) 0) where
   pub met-at : Met cs ms i
   met-at = record {
     marked = m;
@@ -163,13 +170,13 @@ module _ {cs ms : List ℕ} {k i : ℕ} (m : Marked (tabOf cs ms) ms) (h : k < c
       rw (drop-cons (typesIn (tabOf cs ms) ms) k unknown inside, type-at m k h, add-one k, e)
 
 module _ {cs ms old : List ℕ} {n k from : ℕ} {out : List ℕ} (l : TypesLoop (tabOf cs ms) ms old n k from out) where
-  pub types-met : {i : ℕ} → k < n → i ≡ getD ms (2056 + k) 0 → Met cs ms i
+  pub types-met : {i : ℕ} → k < n → i ≡ getD ms (orderFrom + k) 0 → Met cs ms i
   types-met h e = met-at (l .marked) (omega (arith, l .many)) e
 
   pub types-room : k < n → (from ≤ 4210688) × (40 + 12 * k + 12 ≤ length out)
   types-room h = (omega (arith, l .small, l .many, l .marked .few), omega (arith, l .room, l .long))
 
-  pub types-next : {i r : ℕ} {new : List ℕ} → k < n → i ≡ getD ms (2056 + k) 0 → Put out new (40 + 12 * k) (recordBytes (tabOf cs ms) ms from i) → ElementsIn cs i r
+  pub types-next : {i r : ℕ} {new : List ℕ} → k < n → i ≡ getD ms (orderFrom + k) 0 → Put out new (40 + 12 * k) (recordBytes (tabOf cs ms) ms from i) → ElementsIn cs i r
       → TypesLoop (tabOf cs ms) ms old n (k + 1) (from + r) new
   unfolding typeRecords
   types-next {i} {r} {new} h e p s =
@@ -191,7 +198,7 @@ module _ {cs ms old : List ℕ} {n k from : ℕ} {out : List ℕ} (l : TypesLoop
         left = left-next rest (omega (arith, types-room h .1)) p place ∙ ap (putAt out (40 + 12 * k)) (sym split) ∙ l .left;
       }
 
-  pub types-sum : {i r : ℕ} → k < n → i ≡ getD ms (2056 + k) 0 → ElementsIn cs i r → from + r ≤ 4212744
+  pub types-sum : {i r : ℕ} → k < n → i ≡ getD ms (orderFrom + k) 0 → ElementsIn cs i r → from + r ≤ 4212744
   types-sum h e s = omega (arith, types-room h .0, s .small (tabOf cs ms) refl (l .marked .wf) (types-met h e .below))
 
   pub types-end : (k < n → ⊥) → Put old out 40 (typesBytes (tabOf cs ms) ms)
@@ -233,13 +240,10 @@ module _ {cs ms : List ℕ} {i : ℕ} {old : List ℕ} {at n j : ℕ} {out : Lis
   within-parts h = omega (arith, l .many, ap length (elements-tuple (denote t₁ i) (is-tuple h)))
 
   pub parts-place : j < n → HasPart cs i j
-  parts-place h = record {
-    number = met-room (l .met);
-    within = λ e. is-element (l .met .marked .wf) i (l .met .below) (is-tuple h) (within-parts h);
-  }
+  parts-place h = has-part (l .met .marked .wf) i (l .met .below) (within-parts h)
 
-  pub parts-small : {r : ℕ} → j < n → PartAt cs i j r → r < 2056
-  parts-small h p = omega (arith, p .lower t₁ refl (l .met .marked .wf) (l .met .below) (l .met .high) (within-parts h), met-small (l .met))
+  pub parts-small : {r : ℕ} → j < n → PartAt cs i j r → r < mostNumbers
+  parts-small h p = omega (arith, p .lower t₁ refl (l .met .marked .wf) (l .met .below) (within-parts h), met-small (l .met))
 
   pub parts-room : j < n → at + 4 * j + 4 ≤ length out
   parts-room h = omega (arith, l .room, l .long)
@@ -250,8 +254,8 @@ module _ {cs ms : List ℕ} {i : ℕ} {old : List ℕ} {at n j : ℕ} {out : Lis
       let us = typesIn t₁ ms in
       let es = elementsIn (denote t₁ i) in
       let inside : j < length es = omega (arith, l .many) in
-      let below : r < t₁ .n = omega (arith, p .lower t₁ refl (l .met .marked .wf) (l .met .below) (l .met .high) (within-parts h), l .met .below) in
-      let means : denote t₁ r ≡ getD (parts (denote t₁ i)) j unknown = p .means t₁ refl (l .met .marked .wf) (l .met .below) (l .met .high) (within-parts h) in
+      let below : r < t₁ .n = omega (arith, p .lower t₁ refl (l .met .marked .wf) (l .met .below) (within-parts h), l .met .below) in
+      let means : denote t₁ r ≡ getD (parts (denote t₁ i)) j unknown = p .says t₁ refl (l .met .marked .wf) (l .met .below) (within-parts h) .means in
       let same-list : es ≡ parts (denote t₁ i) = elements-tuple (denote t₁ i) (is-tuple h) in
       let number-is : w ≡ number us (getD es j unknown) = part-number (l .met) j below means q ∙ ap (λ (xs : List Ty). number us (getD xs j unknown)) (sym same-list) in
       let rest = words (map (number us) (drop (j + 1) es)) in
@@ -289,18 +293,18 @@ pub elements-first : {t : Tab} {ms out : List ℕ} {from n : ℕ} → Marked t m
 elements-first m h e = record { marked = m; many = e; passed = omega arith; room = h; long = refl; left = refl }
 
 module _ {cs ms old : List ℕ} {from n k at : ℕ} {out : List ℕ} (l : ElementsLoop (tabOf cs ms) ms old from n k at out) where
-  pub elements-met : {i : ℕ} → k < n → i ≡ getD ms (2056 + k) 0 → Met cs ms i
+  pub elements-met : {i : ℕ} → k < n → i ≡ getD ms (orderFrom + k) 0 → Met cs ms i
   elements-met h e = met-at (l .marked) (omega (arith, l .many)) e
 
-  elements-split : {i : ℕ} → k < n → i ≡ getD ms (2056 + k) 0 → elementsOf (drop k (typesIn (tabOf cs ms) ms)) ≡ elementsIn (denote (tabOf cs ms) i) ++ elementsOf (drop (k + 1) (typesIn (tabOf cs ms) ms))
+  elements-split : {i : ℕ} → k < n → i ≡ getD ms (orderFrom + k) 0 → elementsOf (drop k (typesIn (tabOf cs ms) ms)) ≡ elementsIn (denote (tabOf cs ms) i) ++ elementsOf (drop (k + 1) (typesIn (tabOf cs ms) ms))
   elements-split h e = rw e (elements-step (l .marked) k (omega (arith, l .many)))
 
-  pub elements-room : {i : ℕ} → k < n → i ≡ getD ms (2056 + k) 0 → at + 4 * length (elementsIn (denote (tabOf cs ms) i)) ≤ length out
+  pub elements-room : {i : ℕ} → k < n → i ≡ getD ms (orderFrom + k) 0 → at + 4 * length (elementsIn (denote (tabOf cs ms) i)) ≤ length out
   elements-room {i} h e =
       let t = tabOf cs ms in
       omega (arith, l .room, l .long, ap length (elements-split h e), length-append (elementsIn (denote t i)) (elementsOf (drop (k + 1) (typesIn t ms))))
 
-  pub elements-next : {i r : ℕ} {new : List ℕ} → k < n → i ≡ getD ms (2056 + k) 0 → Put out new at (elementBytes (tabOf cs ms) ms i) → r ≡ at + 4 * length (elementsIn (denote (tabOf cs ms) i))
+  pub elements-next : {i r : ℕ} {new : List ℕ} → k < n → i ≡ getD ms (orderFrom + k) 0 → Put out new at (elementBytes (tabOf cs ms) ms i) → r ≡ at + 4 * length (elementsIn (denote (tabOf cs ms) i))
       → ElementsLoop (tabOf cs ms) ms old from n (k + 1) r new
   elements-next {i} {r} {new} h e p er =
       let t = tabOf cs ms in
@@ -334,7 +338,7 @@ module _ {cs ms old : List ℕ} {from n k at : ℕ} {out : List ℕ} (l : Elemen
 pub record NamesLoop (ms cells : List ℕ) (n : ℕ) (old : List ℕ) (at k from : ℕ) (out : List ℕ) : Type 0 where
   pub fit : NamesFit cells n old at
   pub passed : k ≤ n
-  pub small : from ≤ 64 * k
+  pub small : from ≤ longestName * k
   pub long : length out ≡ length old
   pub left : (t : Tab) → Named t ms cells n → putAt out (at + 12 * k) (words (laid (listedRecords (typesIn t ms) t cells from k (n - k)))) ≡ putAt old at (namesBytes t ms cells n)
 
@@ -350,10 +354,10 @@ module _ {ms cells : List ℕ} {n : ℕ} {old : List ℕ} {at k from : ℕ} {out
   pub names-small : {len w : ℕ} → k < n → len ≡ lengthAt cells k → w < 4294967296 → (from < 4294967296) × (len < 4294967296) × (w < 4294967296)
   names-small h e b = (omega (arith, l .small, l .fit .short .few), omega (arith, l .fit .short .short k h), b)
 
-  pub names-known : {r : ℕ} → k < n → r ≡ typeAt cells k → r < 2056
+  pub names-known : {r : ℕ} → k < n → r ≡ typeAt cells k → r < mostNumbers
   names-known h e = omega (arith, l .fit .known k h)
 
-  pub names-sum : {len : ℕ} → k < n → len ≡ lengthAt cells k → from + len ≤ 8192
+  pub names-sum : {len : ℕ} → k < n → len ≡ lengthAt cells k → from + len ≤ mostText
   names-sum h e = omega (arith, l .small, l .fit .short .few, l .fit .short .short k h)
 
   pub names-next : {len r w : ℕ} {new : List ℕ} → k < n → len ≡ lengthAt cells k → r ≡ typeAt cells k → NumberOf ms r w → Put out new (at + 12 * k) (words (from ∷ len ∷ w ∷ []))

@@ -1,8 +1,9 @@
 -- Rewriting and the specs are what callers cite.
 pub mod Rewriting
-mod Places
 mod Meeting
 mod Marking
+mod Again
+mod Opening
 mod Visiting
 mod Names
 mod Sizes

@@ -11,14 +11,15 @@ use borrow.Author.Tests.{eq-eqb, ne-eqb}
 use lib.Dec.{eqb}
 use lib.ListN.{length, getD, set, take, drop, length-set, length-append, length-take, length-drop, length-map, List·getD-map}
 use lib.Seq.{getD-set-same, getD-set-other, take-set-le, drop-set-lt, drop-set-add, take-suc-set, getD-take, getD-drop, length-take-le}
+use Rattle.meaning.specs.Limits.{mostTypes}
 use Rattle.meaning.specs.Base.{if_then_else_, count}
 use Rattle.meaning.specs.Types.{Ty, unknown}
 use Rattle.meaning.specs.Sheet.{addNew, position}
 use Rattle.meaning.proofs.SheetTypes.{Ordered}
 use Rattle.meaning.proofs.SheetWalk.{near, far, here}
-use Rattle.types.specs.Table.{Tab, tab, denote, Wf}
+use Rattle.types.specs.Table.{Tab, tab, mostNumbers, denote, Wf}
 use Rattle.types.proofs.Laws.{unknown-number}
-use Rattle.sheet.specs.Marks.{countIn, orderIn, tabOf, typesIn, Marked, completed, Completing}
+use Rattle.sheet.specs.Marks.{orderFrom, metCell, typeCountCell, elementCountCell, markCells, countIn, orderIn, tabOf, typesIn, Marked, completed, Completing}
 use Rattle.sheet.proofs.Meeting.{add-old, add-fresh, no-more}
 
 -- ---- what stands in a list of meanings
@@ -45,16 +46,16 @@ length-count a (suc n) = ap suc (length-count (suc a) n)
 
 module _ {t : Tab} {ms : List ℕ} (m : Marked t ms) where
   order-length : length (orderIn ms) ≡ countIn ms
-  order-length = let l : length (drop 2056 ms) ≡ 2056 = simp length-drop (omega (arith, m .long)) in length-take-le (countIn ms) (drop 2056 ms) (omega (arith, m .few))
+  order-length = let l : length (drop orderFrom ms) ≡ 2056 = simp length-drop (omega (arith, m .long)) in length-take-le (countIn ms) (drop orderFrom ms) (omega (arith, m .few))
 
   pub types-length : length (typesIn t ms) ≡ countIn ms
   unfolding typesIn
   types-length = length-map (orderIn ms) (denote t) ∙ order-length
 
-  order-at : (k : ℕ) → k < countIn ms → getD (orderIn ms) k 0 ≡ getD ms (2056 + k) 0
-  order-at k h = getD-take (countIn ms) (drop 2056 ms) k 0 h ∙ getD-drop 2056 ms k 0
+  order-at : (k : ℕ) → k < countIn ms → getD (orderIn ms) k 0 ≡ getD ms (orderFrom + k) 0
+  order-at k h = getD-take (countIn ms) (drop orderFrom ms) k 0 h ∙ getD-drop orderFrom ms k 0
 
-  pub type-at : (k : ℕ) → k < countIn ms → getD (typesIn t ms) k unknown ≡ denote t (getD ms (2056 + k) 0)
+  pub type-at : (k : ℕ) → k < countIn ms → getD (typesIn t ms) k unknown ≡ denote t (getD ms (orderFrom + k) 0)
   unfolding typesIn
   type-at k h =
       ap (getD (map (denote t) (orderIn ms)) k) (sym (unknown-number (m .wf)))
@@ -80,46 +81,46 @@ module _ (ms : List ℕ) (i : ℕ) where
   one = set ms i (8 + countIn ms)
 
   abbrev two : List ℕ
-  two = set one (2056 + countIn ms) i
+  two = set one (orderFrom + countIn ms) i
 
   abbrev added : List ℕ
-  added = set two 4104 (countIn ms + 1)
+  added = set two metCell (countIn ms + 1)
 
-module _ (ms : List ℕ) (i : ℕ) (long : length ms ≡ 4112) (small : i < 2056) (room : countIn ms < 2048) where
-  two-long : length (two ms i) ≡ 4112
+module _ (ms : List ℕ) (i : ℕ) (long : length ms ≡ markCells) (small : i < mostNumbers) (room : countIn ms < mostTypes) where
+  two-long : length (two ms i) ≡ markCells
   two-long = simp length-set long
 
-  added-long : length (added ms i) ≡ 4112
+  added-long : length (added ms i) ≡ markCells
   added-long = simp length-set long
 
   added-count : countIn (added ms i) ≡ countIn ms + 1
-  added-count = getD-set-same (two ms i) 4104 _ 0 (omega (arith, two-long))
+  added-count = getD-set-same (two ms i) metCell _ 0 (omega (arith, two-long))
 
-  added-other : (x : ℕ) → (x ≡ i → ⊥) → (x ≡ 2056 + countIn ms → ⊥) → (x ≡ 4104 → ⊥) → getD (added ms i) x 0 ≡ getD ms x 0
+  added-other : (x : ℕ) → (x ≡ i → ⊥) → (x ≡ orderFrom + countIn ms → ⊥) → (x ≡ metCell → ⊥) → getD (added ms i) x 0 ≡ getD ms x 0
   added-other x a b c =
-      getD-set-other (two ms i) 4104 x _ 0 c ∙ getD-set-other (one ms i) (2056 + countIn ms) x i 0 b ∙ getD-set-other ms i x _ 0 a
+      getD-set-other (two ms i) metCell x _ 0 c ∙ getD-set-other (one ms i) (orderFrom + countIn ms) x i 0 b ∙ getD-set-other ms i x _ 0 a
 
   added-number : getD (added ms i) i 0 ≡ 8 + countIn ms
   added-number =
-      getD-set-other (two ms i) 4104 i _ 0 (λ e. absurd (omega arith))
-      ∙ getD-set-other (one ms i) (2056 + countIn ms) i i 0 (λ e. absurd (omega arith))
+      getD-set-other (two ms i) metCell i _ 0 (λ e. absurd (omega arith))
+      ∙ getD-set-other (one ms i) (orderFrom + countIn ms) i i 0 (λ e. absurd (omega arith))
       ∙ getD-set-same ms i _ 0 (omega arith)
 
-  added-last : getD (added ms i) (2056 + countIn ms) 0 ≡ i
+  added-last : getD (added ms i) (orderFrom + countIn ms) 0 ≡ i
   added-last =
-      getD-set-other (two ms i) 4104 (2056 + countIn ms) _ 0 (λ e. absurd (omega arith))
-      ∙ getD-set-same (one ms i) (2056 + countIn ms) i 0 (let l : length (one ms i) ≡ 4112 = simp length-set long in omega arith)
+      getD-set-other (two ms i) metCell (orderFrom + countIn ms) _ 0 (λ e. absurd (omega arith))
+      ∙ getD-set-same (one ms i) (orderFrom + countIn ms) i 0 (let l : length (one ms i) ≡ markCells = simp length-set long in omega arith)
 
   added-order : orderIn (added ms i) ≡ orderIn ms ++ (i ∷ [])
   added-order =
       let k = countIn ms in
-      let l : length (drop 2056 (one ms i)) ≡ 2056 = simp (length-drop, length-set) (omega arith) in
-      ap (λ n. take n (drop 2056 (added ms i))) (added-count ∙ add-one k)
-      ∙ ap (take (suc k)) (drop-set-add 2056 (two ms i) 2048 (k + 1))
-      ∙ take-set-le (suc k) (drop 2056 (two ms i)) 2048 (k + 1) (omega arith)
-      ∙ ap (take (suc k)) (drop-set-add 2056 (one ms i) k i)
-      ∙ take-suc-set (drop 2056 (one ms i)) k i (omega arith)
-      ∙ ap (λ (xs : List ℕ). take k xs ++ (i ∷ [])) (drop-set-lt 2056 ms i (8 + k) small)
+      let l : length (drop orderFrom (one ms i)) ≡ 2056 = simp (length-drop, length-set) (omega arith) in
+      ap (λ n. take n (drop orderFrom (added ms i))) (added-count ∙ add-one k)
+      ∙ ap (take (suc k)) (drop-set-add orderFrom (two ms i) mostTypes (k + 1))
+      ∙ take-set-le (suc k) (drop orderFrom (two ms i)) mostTypes (k + 1) (omega arith)
+      ∙ ap (take (suc k)) (drop-set-add orderFrom (one ms i) k i)
+      ∙ take-suc-set (drop orderFrom (one ms i)) k i (omega arith)
+      ∙ ap (λ (xs : List ℕ). take k xs ++ (i ∷ [])) (drop-set-lt orderFrom ms i (8 + k) small)
 
   added-types : (t : Tab) → typesIn t (added ms i) ≡ typesIn t ms ++ (denote t i ∷ [])
   unfolding typesIn
@@ -133,7 +134,7 @@ module _ (t : Tab) (ms : List ℕ) (i : ℕ) (m : Marked t ms) (below : i < t.n)
   ty = denote t i
 
   -- different structured types of the table: there is room for one more
-  room-of : Ordered [] (us ++ (ty ∷ [])) → countIn ms < 2048
+  room-of : Ordered [] (us ++ (ty ∷ [])) → countIn ms < mostTypes
   room-of o =
       let vs = map (denote t) (count 8 (t.n - 8)) in
       let here-in : (u : Ty) → List·Memᴰ u (us ++ (ty ∷ [])) → List·Memᴰ u vs =
@@ -153,7 +154,7 @@ module _ (t : Tab) (ms : List ℕ) (i : ℕ) (m : Marked t ms) (below : i < t.n)
   add-marked : getD ms i 0 ≡ 1 → Ordered [] (us ++ (ty ∷ [])) → Marked t (added ms i)
   add-marked z o =
       let room = room-of o in
-      let small : i < 2056 = omega (arith, m .wf .room, m .wf .most) in
+      let small : i < mostNumbers = omega (arith, m .wf .room, m .wf .most) in
       let long = m .long in
       let e = added-types ms i long small room t in
       let new = m .fresh i below z in
@@ -163,12 +164,12 @@ module _ (t : Tab) (ms : List ℕ) (i : ℕ) (m : Marked t ms) (below : i < t.n)
       record {
         wf = m .wf;
         long = added-long ms i long small room;
-        types = other 4105 (λ a. absurd (omega arith)) (λ a. absurd (omega arith)) (λ a. absurd (omega arith)) ∙ m .types;
-        elements = other 4106 (λ a. absurd (omega arith)) (λ a. absurd (omega arith)) (λ a. absurd (omega arith)) ∙ m .elements;
+        types = other typeCountCell (λ a. absurd (omega arith)) (λ a. absurd (omega arith)) (λ a. absurd (omega arith)) ∙ m .types;
+        elements = other elementCountCell (λ a. absurd (omega arith)) (λ a. absurd (omega arith)) (λ a. absurd (omega arith)) ∙ m .elements;
         few = omega (arith, c);
         within = λ y h. elim (ℕ-discrete y (countIn ms)) [
           | yes a ↦ rw (a, added-last ms i long small room) (high, below)
-          | no a ↦ rw (other (2056 + y) (λ b. absurd (omega arith)) (λ b. a (omega arith)) (λ b. absurd (omega (arith, c)))) (m .within y (omega (arith, c)))
+          | no a ↦ rw (other (orderFrom + y) (λ b. absurd (omega arith)) (λ b. a (omega arith)) (λ b. absurd (omega (arith, c)))) (m .within y (omega (arith, c)))
         ];
         ordered = rw e o;
         known = λ x h n. rw e (elim (ℕ-discrete x i) [
@@ -206,6 +207,17 @@ module _ (t : Tab) (ms : List ℕ) (i : ℕ) (m : Marked t ms) (below : i < t.n)
       few = m .few;
       room = λ z. room-of (fresh-ordered z);
     }
+
+    -- one more type has a number, and no other's mark changes
+    pub completed-count : getD ms i 0 ≡ 1 → countIn (completed ms i) ≡ countIn ms + 1
+    completed-count z =
+        ap (λ (xs : List ℕ). countIn xs) (completed-new z)
+        ∙ added-count ms i (m .long) (omega (arith, m .wf .room, m .wf .most)) (room-of (fresh-ordered z))
+
+    pub completed-other : getD ms i 0 ≡ 1 → (x : ℕ) → x < mostNumbers → (x ≡ i → ⊥) → getD (completed ms i) x 0 ≡ getD ms x 0
+    completed-other z x h n =
+        ap (λ (xs : List ℕ). getD xs x 0) (completed-new z)
+        ∙ added-other ms i (m .long) (omega (arith, m .wf .room, m .wf .most)) (room-of (fresh-ordered z)) x n (λ e. absurd (omega arith)) (λ e. absurd (omega arith))
 
     pub completed-marked : Marked t (completed ms i)
     completed-marked = elim (ℕ-discrete (getD ms i 0) 1) [

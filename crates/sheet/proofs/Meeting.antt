@@ -72,6 +72,15 @@ pub met-ordered : (t : Ty) (us : List Ty) → Ordered [] us → Ordered [] (met 
 unfolding metEach
 met-ordered t us o = each-ordered (t ∷ []) us o
 
+-- nothing is lost, and the type itself stands there
+pub met-kept : (t : Ty) (us : List Ty) → Ordered [] us → (u : Ty) → List·Memᴰ u us → List·Memᴰ u (met t us)
+unfolding typesOf single
+met-kept t us o u m = types-met (single t ∷ []) us o .kept u m
+
+pub met-there : (t : Ty) (us : List Ty) → Ordered [] us → 8 ≤ kind t → List·Memᴰ t (met t us)
+unfolding typesOf single
+met-there t us o h = types-met (single t ∷ []) us o .known t (List·Memᴰ·head refl) h
+
 -- ---- a type that was met before
 
 pub add-old : (t : Ty) (us : List Ty) → List·Memᴰ t us → addNew t us ≡ us

@@ -5,11 +5,13 @@ use Prim.Native.Nat.{ℕ, zero, suc, _+_, _-_, _*_, _≤_, _<_}
 use native.Mathlib.Numerals.{add-one}
 use native.Mathlib.Omega.{arith}
 use lib.ListN.{length, getD, take, drop}
+use Rattle.meaning.specs.Limits.{mostNames, longestName, mostText}
 use Rattle.meaning.specs.Types.{Ty}
 use Rattle.meaning.specs.Sheet.{Triple, number, met}
 use Rattle.types.specs.Table.{Tab, tab, denote, Wf}
 use Rattle.sheet.specs.Listing.{startAt, lengthAt, typeAt}
-use Rattle.sheet.specs.Marks.{tabOf, typesIn, Marked, metEach, Visiting, Visited}
+use Rattle.sheet.specs.Marks.{typeCount, tabOf, typesIn, Marked, metEach}
+use Rattle.sheet.specs.Opening.{OpenRoom, Visiting, Visited}
 use Rattle.sheet.specs.Writing.{listedTypes, listedSize, listedRecords, listedTexts, Meeting, MetAll, Short}
 use Rattle.sheet.proofs.Marking.{own-tab}
 
@@ -58,9 +60,10 @@ module _ {cs ms cells : List ℕ} {n k : ℕ} {ns : List ℕ} (l : MeetLoop cs m
   abbrev t : Tab
   t = tabOf cs ms
 
-  pub meet-visit : {r : ℕ} → k < n → r ≡ typeAt cells k → Visiting cs ns r
-  meet-visit h e = record {
+  pub meet-visit : {ops new : List ℕ} {r : ℕ} → OpenRoom ms ops → length new ≡ length ops → k < n → r ≡ typeAt cells k → Visiting cs ns new r
+  meet-visit o q h e = record {
     marked = subst (λ u. Marked u ns) (sym (own-tab (l .marked))) (l .marked);
+    open-room = record { room = omega (arith, o .room, q, l .marked .types) };
     below = omega (arith, l .meeting .known k h, l .marked .types);
   }
 
@@ -85,7 +88,7 @@ module _ {cs ms cells : List ℕ} {n k : ℕ} {ns : List ℕ} (l : MeetLoop cs m
 pub record SizeLoop (cells : List ℕ) (n k sum : ℕ) : Type 0 where
   pub short : Short cells n
   pub passed : k ≤ n
-  pub small : sum ≤ 64 * k
+  pub small : sum ≤ longestName * k
   pub left : sum + listedSize cells k (n - k) ≡ listedSize cells 0 n
 
 pub size-first : {cells : List ℕ} {n : ℕ} → Short cells n → SizeLoop cells n 0 0
@@ -100,9 +103,17 @@ module _ {cells : List ℕ} {n k sum : ℕ} (l : SizeLoop cells n k sum) where
     left = omega (arith, l .left, size-step n k h cells);
   }
 
-  pub size-room : {r : ℕ} → k < n → r ≡ lengthAt cells k → sum + r ≤ 8192
+  pub size-room : {r : ℕ} → k < n → r ≡ lengthAt cells k → sum + r ≤ mostText
   size-room h e = omega (arith, l .small, l .short .short k h, l .short .few)
 
-  pub size-end : (k < n → ⊥) → (sum ≡ listedSize cells 0 n) × (sum ≤ 8192)
+  pub size-end : (k < n → ⊥) → (sum ≡ listedSize cells 0 n) × (sum ≤ mostText)
   unfolding listedSize
   size-end h = let e = rw (none-left n k h) at (l .left) in (omega arith, omega (arith, l .small, l .short .few, l .passed))
+
+-- ---- the cells of open types: few will do for few types
+
+pub few-room : {ms ops : List ℕ} → typeCount ms ≤ 64 → length ops ≡ 128 → OpenRoom ms ops
+few-room h e = record { room = omega arith }
+
+pub many-room : {cs ms ops : List ℕ} → Marked (tabOf cs ms) ms → length ops ≡ 4096 → OpenRoom ms ops
+many-room m e = record { room = omega (arith, m .wf .room, m .wf .most) }

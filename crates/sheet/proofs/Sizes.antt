@@ -13,11 +13,11 @@ use Rattle.meaning.specs.Base.{if_then_else_}
 use Rattle.meaning.specs.Types.{Ty, unknown, kind, parts}
 use Rattle.meaning.specs.Sheet.{number, elementsIn, elementsOf}
 use Rattle.meaning.proofs.SheetTypes.{number-plain, number-above}
-use Rattle.types.specs.Table.{Tab, capacity, kindAt, firstAt, secondAt, denote, Wf}
-use Rattle.types.proofs.Laws.{kind-of, parts-many}
-use Rattle.sheet.specs.Marks.{countIn, tabOf, typesIn, Marked}
+use Rattle.types.specs.Table.{Tab, mostNumbers, capacity, denote, Wf}
+use Rattle.types.specs.Reading.{KindOf, PartsOf}
+use Rattle.types.proofs.Parts.{plain-kind-of, structured, parts-few}
+use Rattle.sheet.specs.Marks.{orderFrom, mostWritten, countIn, tabOf, typesIn, Marked}
 use Rattle.sheet.specs.Writing.{ElementsIn, NumberOf}
-use Rattle.sheet.proofs.Places.{plain-kind-of, structured}
 use Rattle.sheet.proofs.Marking.{types-length, type-at}
 
 -- ---- the elements of one type
@@ -30,22 +30,19 @@ pub elements-none : (t : Ty) → (kind t ≡ 10 → ⊥) → elementsIn t ≡ []
 unfolding elementsIn if_then_else_
 elements-none t n = rw (ne-eqb _ _ n)
 
-own : (t : Tab) (cs : List ℕ) (x r : ℕ) → t.cells ≡ cs → r ≡ getD cs x 0 → r ≡ getD t.cells x 0
-own t cs x r e h = h ∙ ap (λ (xs : List ℕ). getD xs x 0) (sym e)
+module _ {cs : List ℕ} {i k : ℕ} (told : KindOf cs i k) where
+  is : (t : Tab) → t.cells ≡ cs → Wf t → i < t.n → k ≡ 10 → kind (denote t i) ≡ 10
+  is t e w b h = sym (told .says t e w b) ∙ h
 
-module _ (cs : List ℕ) (i k : ℕ) (ek : k ≡ getD cs (4 * i) 0) where
-  pub elements-some : (r : ℕ) → k ≡ 10 → r ≡ getD cs (4 * i + 2) 0 → ElementsIn cs i r
-  elements-some r h er = record {
-    says = λ t e w b. own t cs (4 * i + 2) r e er ∙ sym (parts-many w i b (is t e)) ∙ ap length (sym (elements-tuple (denote t i) (kind-of w i b ∙ is t e)));
-    small = λ t e w b. omega (arith, own t cs (4 * i + 2) r e er, w .low i b .inside (is t e), w .space, w .most);
+  pub elements-some : {r : ℕ} → k ≡ 10 → PartsOf cs i r → ElementsIn cs i r
+  elements-some h p = record {
+    says = λ t e w b. p .says t e w b ∙ ap length (sym (elements-tuple (denote t i) (is t e w b h)));
+    small = λ t e w b. omega (arith, p .says t e w b, parts-few w i b);
   }
-    where
-      is : (t : Tab) → t.cells ≡ cs → kindAt t i ≡ 10
-      is t e = sym (own t cs (4 * i) k e ek) ∙ h
 
   pub elements-no : (k ≡ 10 → ⊥) → ElementsIn cs i 0
   elements-no n = record {
-    says = λ t e w b. ap length (sym (elements-none (denote t i) (λ z. n (own t cs (4 * i) k e ek ∙ sym (kind-of w i b) ∙ z))));
+    says = λ t e w b. ap length (sym (elements-none (denote t i) (λ z. n (told .says t e w b ∙ z))));
     small = λ t e w b. omega arith;
   }
 
@@ -55,7 +52,7 @@ pub record SumLoop (t : Tab) (ms : List ℕ) (n k sum : ℕ) : Type 0 where
   pub marked : Marked t ms
   pub many : n ≡ countIn ms
   pub passed : k ≤ n
-  pub small : sum ≤ 2056 * k
+  pub small : sum ≤ mostNumbers * k
   pub left : sum + length (elementsOf (drop k (typesIn t ms))) ≡ length (elementsOf (typesIn t ms))
 
 pub sum-first : {t : Tab} {ms : List ℕ} {n : ℕ} → Marked t ms → n ≡ countIn ms → SumLoop t ms n 0 0
@@ -63,7 +60,7 @@ sum-first m e = record { marked = m; many = e; passed = omega arith; small = ome
 
 -- the elements of the types from the k-th on
 pub elements-step : {t : Tab} {ms : List ℕ} (m : Marked t ms) (k : ℕ) → k < countIn ms
-    → elementsOf (drop k (typesIn t ms)) ≡ elementsIn (denote t (getD ms (2056 + k) 0)) ++ elementsOf (drop (k + 1) (typesIn t ms))
+    → elementsOf (drop k (typesIn t ms)) ≡ elementsIn (denote t (getD ms (orderFrom + k) 0)) ++ elementsOf (drop (k + 1) (typesIn t ms))
 unfolding elementsOf
 elements-step {t} {ms} m k h =
     let inside : k < length (typesIn t ms) = omega (arith, types-length m) in
@@ -73,19 +70,19 @@ module _ {cs ms : List ℕ} {n k sum : ℕ} (l : SumLoop (tabOf cs ms) ms n k su
   abbrev t : Tab
   t = tabOf cs ms
 
-  pub sum-number : {i : ℕ} → k < n → i ≡ getD ms (2056 + k) 0 → i < capacity cs
+  pub sum-number : {i : ℕ} → k < n → i ≡ getD ms (orderFrom + k) 0 → i < capacity cs
   sum-number h e = omega (arith, l .marked .within k (omega (arith, l .many)) .1, l .marked .types, l .marked .wf .room)
 
-  sum-here : {i r : ℕ} → k < n → i ≡ getD ms (2056 + k) 0 → ElementsIn cs i r → (r ≡ length (elementsIn (denote t (getD ms (2056 + k) 0)))) × (r ≤ 2056)
+  sum-here : {i r : ℕ} → k < n → i ≡ getD ms (orderFrom + k) 0 → ElementsIn cs i r → (r ≡ length (elementsIn (denote t (getD ms (orderFrom + k) 0)))) × (r ≤ mostNumbers)
   sum-here {i} h e s =
       let b = l .marked .within k (omega (arith, l .many)) .1 in
       let b₁ : i < t.n = rw e b in
       (s .says t refl (l .marked .wf) b₁ ∙ ap (λ x. length (elementsIn (denote t x))) e, s .small t refl (l .marked .wf) b₁)
 
-  pub sum-room : {i r : ℕ} → k < n → i ≡ getD ms (2056 + k) 0 → ElementsIn cs i r → sum + r ≤ 4210688
+  pub sum-room : {i r : ℕ} → k < n → i ≡ getD ms (orderFrom + k) 0 → ElementsIn cs i r → sum + r ≤ mostWritten
   sum-room h e s = omega (arith, l .small, sum-here h e s .1, l .many, l .marked .few)
 
-  pub sum-next : {i r : ℕ} → k < n → i ≡ getD ms (2056 + k) 0 → ElementsIn cs i r → SumLoop t ms n (k + 1) (sum + r)
+  pub sum-next : {i r : ℕ} → k < n → i ≡ getD ms (orderFrom + k) 0 → ElementsIn cs i r → SumLoop t ms n (k + 1) (sum + r)
   sum-next h e s =
       let step = elements-step (l .marked) k (omega (arith, l .many)) in
       record {
@@ -93,10 +90,10 @@ module _ {cs ms : List ℕ} {n k sum : ℕ} (l : SumLoop (tabOf cs ms) ms n k su
         many = l .many;
         passed = omega arith;
         small = omega (arith, l .small, sum-here h e s .1);
-        left = omega (arith, l .left, ap length step, length-append (elementsIn (denote t (getD ms (2056 + k) 0))) (elementsOf (drop (k + 1) (typesIn t ms))), sum-here h e s .0);
+        left = omega (arith, l .left, ap length step, length-append (elementsIn (denote t (getD ms (orderFrom + k) 0))) (elementsOf (drop (k + 1) (typesIn t ms))), sum-here h e s .0);
       }
 
-  pub sum-end : (k < n → ⊥) → (sum ≡ length (elementsOf (typesIn t ms))) × (sum ≤ 4210688)
+  pub sum-end : (k < n → ⊥) → (sum ≡ length (elementsOf (typesIn t ms))) × (sum ≤ mostWritten)
   unfolding elementsOf
   sum-end h =
       let short : length (typesIn t ms) ≤ k = omega (arith, types-length (l .marked), l .many) in

@@ -1,4 +1,5 @@
 pub mod Listing
 pub mod Marks
+pub mod Opening
 pub mod Writing
 pub mod Reading

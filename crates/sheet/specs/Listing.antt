@@ -6,7 +6,7 @@ use mathlib.Core.List.{List, map}
 use Prim.Native.Nat.{ℕ, _+_, _*_, _≤_, _<_}
 use lib.Dec.{leb}
 use lib.ListN.{length, getD, take, drop}
-use Rattle.meaning.specs.Limits.{mostNames}
+use Rattle.meaning.specs.Limits.{mostNames, longestName}
 use Rattle.meaning.specs.Base.{count}
 use Rattle.meaning.specs.Sheet.{Entry, sheetOf}
 use Rattle.meaning.specs.Answer.{written, overlaid}
@@ -38,9 +38,9 @@ listed source t cells n = listedFrom source t cells 0 n
 -- n names that lie in the source and have types of the table
 pub record Listing (source : List ℕ) (t : Tab) (cells : List ℕ) (n : ℕ) : Type 0 where
   pub wf : Wf t
-  pub few : n ≤ 128
+  pub few : n ≤ mostNames
   pub inside : (k : ℕ) → k < n → startAt cells k + lengthAt cells k ≤ length source
-  pub short : (k : ℕ) → k < n → lengthAt cells k ≤ 64
+  pub short : (k : ℕ) → k < n → lengthAt cells k ≤ longestName
   pub known : (k : ℕ) → k < n → typeAt cells k < t.n
 
 -- the sheet of es was written at the front of old if it fits, and nothing if not

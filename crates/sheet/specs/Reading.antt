@@ -5,12 +5,13 @@ use mathlib.Core.List.{List, [], _∷_, map}
 use Prim.Native.Nat.{ℕ, _+_, _-_, _*_, _≤_, _<_}
 use lib.Dec.{eqb, ltb}
 use lib.ListN.{length, getD, take, drop}
+use Rattle.meaning.specs.Limits.{mostNames, longestName, mostTypes, mostElements, largestSheet}
 use Rattle.meaning.specs.Base.{if_then_else_, word, records}
 use Rattle.meaning.specs.Types.{Ty, tuple, tys}
 use Rattle.meaning.specs.Sheet.{Entry, Triple, sheetOf, textsStand}
 use Rattle.meaning.specs.Read.{triple, numbered, typeFrom, typesFrom, entriesIn, isSheet}
-use Rattle.types.specs.Table.{Tab, tab, capacity, denote, Wf, Grown, Made}
-use Rattle.sheet.specs.Listing.{startAt, lengthAt, typeAt, listed, Listing}
+use Rattle.types.specs.Table.{Tab, tab, mostNumbers, capacity, denote, Wf, Grown, Made}
+use Rattle.sheet.specs.Listing.{nameCells, startAt, lengthAt, typeAt, listed, Listing}
 
 -- ---- the areas
 
@@ -40,10 +41,10 @@ tupleSum [] = 0
 tupleSum (r ∷ rs) = let later = tupleSum rs in if eqb (r .0) 10 then r .2 + later else later
 
 pub record Bounds (bs : List ℕ) : Type 0 where
-  pub short : length bs ≤ 42532
-  pub types : word bs 4 ≤ 2048
-  pub elements : word bs 12 ≤ 2047
-  pub names : word bs 20 ≤ 128
+  pub short : length bs ≤ largestSheet
+  pub types : word bs 4 ≤ mostTypes
+  pub elements : word bs 12 ≤ mostElements
+  pub names : word bs 20 ≤ mostNames
   pub long : textsAt bs ≤ length bs
 
 -- r tells that P holds, or that bs is no sheet
@@ -63,25 +64,25 @@ pub record Below (t : Tab) (xs : List ℕ) : Type 0 where
   pub each : (j : ℕ) → j < length xs → getD xs j 0 < t.n
 
 pub record Gathering (bs : List ℕ) (at k q : ℕ) (st : List ℕ) : Type 0 where
-  pub few : k ≤ 2048
-  pub many : q ≤ 2048
+  pub few : k ≤ mostTypes
+  pub many : q ≤ mostTypes
   pub long : at + 4 * q ≤ length bs
-  pub short : length bs ≤ 42532
-  pub size : length st ≡ 2048
+  pub short : length bs ≤ largestSheet
+  pub size : length st ≡ mostTypes
 
 pub record Gathered (bs : List ℕ) (at : ℕ) (xs : List ℕ) (q : ℕ) (st : List ℕ) : Type 0 where
   pub are : take q st ≡ map (numberIn xs) (wordsAt bs at q)
-  pub size : length st ≡ 2048
+  pub size : length st ≡ mostTypes
 
 -- a type of q elements at a place is asked for
 pub record Tupling (bs : List ℕ) (at : ℕ) (xs : List ℕ) (k q : ℕ) (t : Tab) : Type 0 where
   pub below : Below t (take k xs)
-  pub few : k ≤ 2048
+  pub few : k ≤ mostTypes
   pub room : t.n < capacity t.cells
-  pub many : q ≤ 2048
+  pub many : q ≤ mostTypes
   pub space : t.m + q ≤ capacity t.cells
   pub long : at + 4 * q ≤ length bs
-  pub short : length bs ≤ 42532
+  pub short : length bs ≤ largestSheet
 
 abbrev pub tupleAt : List ℕ → ℕ → List ℕ → ℕ → Tab → Ty
 tupleAt bs at xs q t = tuple (tys (map (numbered (map (denote t) xs)) (wordsAt bs at q)))
@@ -89,7 +90,7 @@ tupleAt bs at xs q t = tuple (tys (map (numbered (map (denote t) xs)) (wordsAt b
 -- a type of any other kind is asked for
 pub record Forming (xs : List ℕ) (k kind : ℕ) (t : Tab) : Type 0 where
   pub below : Below t (take k xs)
-  pub few : k ≤ 2048
+  pub few : k ≤ mostTypes
   pub room : t.n < capacity t.cells
   pub other : kind ≡ 10 → ⊥
 
@@ -100,9 +101,9 @@ typesLeft bs k = drop k (triplesAt bs 40 (word bs 4))
 pub record Typing (bs xs : List ℕ) (k used : ℕ) (t : Tab) : Type 0 where
   pub bounds : Bounds bs
   pub here : k < word bs 4
-  pub size : length xs ≡ 2048
+  pub size : length xs ≡ mostTypes
   pub below : Below t (take k xs)
-  pub wide : 2056 ≤ capacity t.cells
+  pub wide : mostNumbers ≤ capacity t.cells
   pub room : t.n ≤ 8 + k
   pub space : t.m ≤ used
   pub within : used ≤ word bs 12
@@ -118,7 +119,7 @@ pub record Typed (bs xs : List ℕ) (k used : ℕ) (t u : Tab) (after r : ℕ) :
   pub means : denote u r ≡ typeFrom (elementsIn bs) (map (denote t) (take k xs)) (triple (drop (40 + 12 * k) bs))
 
 pub record TypesRead (bs xs : List ℕ) (t : Tab) : Type 0 where
-  pub size : length xs ≡ 2048
+  pub size : length xs ≡ mostTypes
   pub below : Below t (take (word bs 4) xs)
   pub are : map (denote t) (take (word bs 4) xs) ≡ typesFrom (elementsIn bs) [] (triplesAt bs 40 (word bs 4))
 
@@ -129,28 +130,28 @@ pub record NameRead (bs xs cells : List ℕ) (k : ℕ) : Type 0 where
   pub start-is : startAt cells k ≡ textsAt bs + word bs (namesAt bs + 12 * k)
   pub length-is : lengthAt cells k ≡ word bs (namesAt bs + 12 * k + 4)
   pub type-is : typeAt cells k ≡ numberIn xs (word bs (namesAt bs + 12 * k + 8))
-  pub short : lengthAt cells k ≤ 64
+  pub short : lengthAt cells k ≤ longestName
   pub inside : startAt cells k + lengthAt cells k ≤ length bs
 
 pub record NamesRead (bs xs cells : List ℕ) (n : ℕ) : Type 0 where
-  pub size : length cells ≡ 384
+  pub size : length cells ≡ nameCells
   pub each : (k : ℕ) → k < n → NameRead bs xs cells k
 
 -- name k was read, and the cells before are kept
 pub record NameStep (bs xs cells new : List ℕ) (k : ℕ) : Type 0 where
   pub name : NameRead bs (take (word bs 4) xs) new k
-  pub size : length new ≡ 384
+  pub size : length new ≡ nameCells
   pub before : (x : ℕ) → x < 3 * k → getD new x 0 ≡ getD cells x 0
 
 pub record Naming (bs : List ℕ) (k : ℕ) (cells : List ℕ) : Type 0 where
   pub bounds : Bounds bs
   pub here : k < word bs 20
-  pub size : length cells ≡ 384
+  pub size : length cells ≡ nameCells
 
 -- ---- the whole
 
 pub record TextsInside (source cells : List ℕ) (n : ℕ) : Type 0 where
-  pub few : n ≤ 128
+  pub few : n ≤ mostNames
   pub inside : (k : ℕ) → k < n → startAt cells k + lengthAt cells k ≤ length source
 
 -- the texts stand, whatever the table
@@ -159,8 +160,8 @@ pub record TextsTold (source cells : List ℕ) (n : ℕ) (r : Bool) : Type 0 whe
 
 -- the sheet of es is bs and not too long
 pub record Compared (bs : List ℕ) (es : List Entry) (r : Bool) : Type 0 where
-  pub yes : r ≡ true → (bs ≡ sheetOf es) × (length (sheetOf es) ≤ 42532)
-  pub no : r ≡ false → length (sheetOf es) ≤ 42532 → bs ≡ sheetOf es → ⊥
+  pub yes : r ≡ true → (bs ≡ sheetOf es) × (length (sheetOf es) ≤ largestSheet)
+  pub no : r ≡ false → length (sheetOf es) ≤ largestSheet → bs ≡ sheetOf es → ⊥
 
 -- what the reader says of bs
 pub record Reads (bs : List ℕ) (stands : Bool) (t : Tab) (cells : List ℕ) (n : ℕ) : Type 0 where

@@ -3,13 +3,14 @@ use mathlib.Core.Path.{_≡_}
 use mathlib.Core.List.{List, [], _∷_, _++_, map, List·Memᴰ}
 use Prim.Native.Nat.{ℕ, zero, suc, _+_, _*_, _≤_, _<_}
 use lib.ListN.{length, getD, take, drop}
+use Rattle.meaning.specs.Limits.{mostNames, longestName, mostText}
 use Rattle.meaning.specs.Base.{words}
 use Rattle.meaning.specs.Types.{Ty, kind}
 use Rattle.meaning.specs.Sheet.{Triple, laid, number, elementsIn, elementsOf, typeRecord, typeRecords, typesOf}
 use Rattle.words.specs.Words.{putAt}
-use Rattle.types.specs.Table.{Tab, Wf, denote}
+use Rattle.types.specs.Table.{Tab, mostNumbers, Wf, denote}
 use Rattle.sheet.specs.Listing.{startAt, lengthAt, typeAt, listed, Listing}
-use Rattle.sheet.specs.Marks.{Marked, tabOf, typesIn, countIn, metEach}
+use Rattle.sheet.specs.Marks.{markCells, mostWritten, Marked, typeCount, tabOf, typesIn, countIn, metEach}
 
 -- ---- the names, by their cells alone
 
@@ -34,8 +35,8 @@ listedTexts source cells k (suc n) = take (lengthAt cells k) (drop (startAt cell
 
 pub record Meeting (cs ms cells : List ℕ) (n : ℕ) : Type 0 where
   pub marked : Marked (tabOf cs ms) ms
-  pub few : n ≤ 128
-  pub known : (k : ℕ) → k < n → typeAt cells k < getD ms 4105 0
+  pub few : n ≤ mostNames
+  pub known : (k : ℕ) → k < n → typeAt cells k < typeCount ms
 
 pub record MetAll (cs ms ns cells : List ℕ) (n : ℕ) : Type 0 where
   pub marked : Marked (tabOf cs ms) ns
@@ -46,11 +47,11 @@ pub record MetAll (cs ms ns cells : List ℕ) (n : ℕ) : Type 0 where
 -- whatever the counts of the table that the cells cs hold
 pub record ElementsIn (cs : List ℕ) (i r : ℕ) : Type 0 where
   pub says : (t : Tab) → t.cells ≡ cs → Wf t → i < t.n → r ≡ length (elementsIn (denote t i))
-  pub small : (t : Tab) → t.cells ≡ cs → Wf t → i < t.n → r ≤ 2056
+  pub small : (t : Tab) → t.cells ≡ cs → Wf t → i < t.n → r ≤ mostNumbers
 
 pub record Short (cells : List ℕ) (n : ℕ) : Type 0 where
-  pub few : n ≤ 128
-  pub short : (k : ℕ) → k < n → lengthAt cells k ≤ 64
+  pub few : n ≤ mostNames
+  pub short : (k : ℕ) → k < n → lengthAt cells k ≤ longestName
 
 -- the elements of the types met
 abbrev pub elementsMet : List ℕ → List ℕ → List Ty
@@ -71,7 +72,7 @@ pub record Put (old new : List ℕ) (at : ℕ) (bs : List ℕ) : Type 0 where
 pub record Met (cs ms : List ℕ) (i : ℕ) : Type 0 where
   pub marked : Marked (tabOf cs ms) ms
   pub high : 8 ≤ i
-  pub below : i < getD ms 4105 0
+  pub below : i < typeCount ms
   pub member : List·Memᴰ (denote (tabOf cs ms) i) (typesIn (tabOf cs ms) ms)
 
 abbrev pub recordBytes : Tab → List ℕ → ℕ → ℕ → List ℕ
@@ -97,7 +98,7 @@ pub record Named (t : Tab) (ms cells : List ℕ) (n : ℕ) : Type 0 where
 
 pub record NamesFit (cells : List ℕ) (n : ℕ) (out : List ℕ) (at : ℕ) : Type 0 where
   pub short : Short cells n
-  pub known : (k : ℕ) → k < n → typeAt cells k < 2056
+  pub known : (k : ℕ) → k < n → typeAt cells k < mostNumbers
   pub room : at + 12 * n ≤ length out
 
 -- whatever the table that the marks are made for
@@ -114,8 +115,8 @@ pub record TextsFit (source cells : List ℕ) (n : ℕ) (out : List ℕ) (at : �
 
 -- marks before the walk
 pub record Blank (ms : List ℕ) : Type 0 where
-  pub long : length ms ≡ 4112
-  pub one-at : (x : ℕ) → x < 4112 → getD ms x 0 ≡ 1
+  pub long : length ms ≡ markCells
+  pub one-at : (x : ℕ) → x < markCells → getD ms x 0 ≡ 1
 
 unfoldable pub headerBytes : ℕ → ℕ → ℕ → ℕ → List ℕ
 headerBytes types elements names size =
@@ -128,7 +129,7 @@ pub record Filling (source cs ms cells : List ℕ) (n elements size : ℕ) (out 
   pub marked : Marked (tabOf cs ms) ms
   pub types-are : typesIn (tabOf cs ms) ms ≡ typesOf (listed source (tabOf cs ms) cells n) []
   pub elements-are : elements ≡ length (elementsOf (typesIn (tabOf cs ms) ms))
-  pub few : elements ≤ 4210688
+  pub few : elements ≤ mostWritten
   pub size-is : size ≡ listedSize cells 0 n
-  pub small : size ≤ 8192
+  pub small : size ≤ mostText
   pub room : 40 + 12 * countIn ms + 4 * elements + 12 * n + size ≤ length out

@@ -11,8 +11,9 @@ ghost use Rattle.meaning.specs.Read.{typeFrom};
 ghost use Rattle.meaning.specs.Sheet.{elementsIn, elementsOf, sheetOf};
 ghost use Rattle.types.specs.Table.{mostNumbers, capacity, Fresh, tab, denote, Wf, Made};
 ghost use Rattle.sheet.specs.Listing.{nameCells, Listing, listed, Wrote};
-ghost use Rattle.sheet.specs.Marks.{markCells, mostWritten, countIn, begun, PartsOf, PartAt};
-ghost use Rattle.sheet.specs.Marks.{HasPart, Completing, completed, Visiting, Visited, Marked, tabOf, typesIn};
+ghost use Rattle.sheet.specs.Marks.{markCells, mostWritten, countIn, typeCount, begun};
+ghost use Rattle.sheet.specs.Marks.{Completing, completed, Marked, tabOf, typesIn};
+ghost use Rattle.sheet.specs.Opening.{nextCell, begunAt, New, OpenRoom, Visiting, Visited, Stepping, Stepped};
 ghost use Rattle.sheet.specs.Writing.{elementsMet, Meeting, MetAll, ElementsIn, Short, listedSize, NumberOf};
 ghost use Rattle.sheet.specs.Writing.{Put, Met, recordBytes, elementBytes, typesBytes, elementsBytes, NamesFit};
 ghost use Rattle.sheet.specs.Writing.{NamesPut, TextsFit, listedTexts, Blank, headerBytes, Filling};
@@ -36,15 +37,14 @@ use types::FRESH;
 use types::Formed;
 use types::LIST;
 use types::NO_PART;
-use types::P;
-use types::Q;
-use types::RECORD;
 use types::STRUCTURED;
 use types::TUPLE;
 use types::UNKNOWN;
-use types::element_at;
 use types::form;
+use types::kind_of;
+use types::part_at;
 use types::part_of;
+use types::parts_of;
 use types::second_of;
 use types::start;
 use types::tuple_of;
@@ -53,6 +53,8 @@ use words::put;
 use words::put_word;
 use words::same;
 use words::text;
+use words::wide16;
+use words::wide32;
 
 // "Type records (kind, p, q)", elements, "name records: text start, length, type": the bytes of each.
 const TYPE_RECORD: usize = 12;
@@ -105,6 +107,19 @@ type Marks = [u16; MARK_CELLS];
 // A mark of a type that has no number yet: no structured type has this one. It is what the marks are filled with.
 const UNMET: u16 = FRESH;
 
+// The types that the walk has begun and not completed, two cells each: the type's number and the place of its next
+// part. A part has a lower number than the whole, so no more are open than the table has structured types.
+const OPEN_CELLS: usize = 2;
+
+const NEXT_PART: usize = 1;
+
+// Most tables have few types.
+const FEW: usize = 64;
+
+const FEW_OPEN: usize = OPEN_CELLS * FEW;
+
+const ALL_OPEN: usize = OPEN_CELLS * MOST_TYPES;
+
 // The table's numbers of the types that were read, and those of one Tuple's elements.
 type Numbers = [u16; MOST_TYPES];
 
@@ -116,63 +131,15 @@ pub struct Written {
 
 // ---- cells
 
-// As a call of its own, a word asks no proof that it is one.
-fn wide(x: u32) -> usize
-    ensures { λ r. ⌜ (r ≡ x) × (r < 4294967296) ⌝ }
-{
-    x as usize
-}
-
-// The same of a cell.
-fn broad(x: u16) -> usize
-    ensures { λ r. ⌜ (r ≡ x) × (r < 65536) ⌝ }
-{
-    x as usize
-}
-
-fn cell(table: &[u16], at: usize) -> usize
-    requires { ⌜ at < length (now table) ⌝ }
-    ensures { λ r. ⌜ r ≡ getD (now (table .entry)) at 0 ⌝ }
-{
-    broad(table[at])
-}
-
 fn mark(marks: &Marks, at: usize) -> usize
     requires { ⌜ at < markCells ⌝ }
     ensures { λ r. ⌜ r ≡ getD (now (marks .entry)) at 0 ⌝ }
     ensures { λ r. ⌜ r < 65536 ⌝ }
 {
-    broad(marks[at])
+    wide16(marks[at])
 }
 
 // ---- the walk: parts left to right and before the whole, each type once
-
-// How many parts the structured type i has.
-fn parts_of(table: &[u16], i: usize) -> usize
-    requires { ⌜ i < capacity (now table) ⌝ }
-    ensures { λ r. ⌜ PartsOf (now (table .entry)) i r ⌝ }
-{
-    let kind = cell(table, RECORD * i);
-    if kind == TUPLE {
-        return cell(table, RECORD * i + Q);
-    }
-    if kind == DICT {
-        return 2;
-    }
-    1
-}
-
-// The part j of the structured type i. One that is no Tuple has at most two; the test that j is below 2 would cost
-// `visit` 16 bytes of stack for each level.
-fn part_at(table: &[u16], i: usize, j: usize) -> usize
-    requires { ⌜ HasPart (now table) i j ⌝ }
-    ensures { λ r. ⌜ PartAt (now (table .entry)) i j r ⌝ }
-{
-    if cell(table, RECORD * i) == TUPLE {
-        return element_at(table, i, j);
-    }
-    cell(table, RECORD * i + P + j % 2)
-}
 
 // Gives i the next number of the sheet, unless it has one.
 fn complete(marks: &mut Marks, i: usize)
@@ -187,46 +154,129 @@ fn complete(marks: &mut Marks, i: usize)
     }
 }
 
-// The frame is kept small: types nest up to 2,048 deep. Most parts are plain types, for which no call is made.
-fn visit(table: &[u16], i: usize, marks: &mut Marks)
-    requires { ⌜ Visiting (now table) (now marks) i ⌝ }
-    ensures { λ _. ⌜ Visited (now (table .entry)) (now (marks .entry)) (now (marks .exit)) i ⌝ }
+// Whether type i is to be given a number: a plain type never is.
+fn is_new(marks: &Marks, i: usize) -> bool
+    requires { ⌜ i < mostNumbers ⌝ }
+    ensures { λ r. ⌜ New (now (marks .entry)) i r ⌝ }
 {
     if i < STRUCTURED {
+        return false;
+    }
+    marks[i] == UNMET
+}
+
+fn path_cell(path: &[u16], at: usize) -> usize
+    requires { ⌜ at < length (now path) ⌝ }
+    ensures { λ r. ⌜ r ≡ getD (now (path .entry)) at 0 ⌝ }
+    ensures { λ r. ⌜ r < 65536 ⌝ }
+{
+    wide16(path[at])
+}
+
+// Type i is open type k from here on.
+fn begin_type(path: &mut [u16], k: usize, i: usize)
+    requires { ⌜ (nextCell k < length (now path)) × (i < mostNumbers) ⌝ }
+    ensures { λ _. ⌜ now (path .exit) ≡ begunAt (now (path .entry)) k i ⌝ }
+{
+    path[OPEN_CELLS * k] = i as u16;
+    path[OPEN_CELLS * k + NEXT_PART] = 0;
+}
+
+// One step of the walk, at the innermost of the open types: it is completed if no part is left. A part that is to be
+// given a number is begun, and looked at again once it has one; any other is passed. Returns how many are open then.
+fn step(table: &[u16], marks: &mut Marks, path: &mut [u16], depth: usize) -> usize
+    requires { ⌜ Stepping (now table) (now marks) (now path) depth ⌝ }
+    ensures { λ r. ⌜ Stepped (now (table .entry)) (now (marks .entry)) (now (marks .exit))
+        (now (path .entry)) (now (path .exit)) depth r ⌝ }
+{
+    let k = depth - 1;
+    let i = path_cell(path, OPEN_CELLS * k);
+    let j = path_cell(path, OPEN_CELLS * k + NEXT_PART);
+    if j == parts_of(table, i) {
+        complete(marks, i);
+        return k;
+    }
+    let p = part_at(table, i, j);
+    if is_new(marks, p) {
+        begin_type(path, depth, p);
+        return depth + 1;
+    }
+    path[OPEN_CELLS * k + NEXT_PART] = (j + 1) as u16;
+    depth
+}
+
+// Gives type i and what it is made of their numbers. Types nest up to MOST_TYPES deep: calls would need a frame for
+// each, so the open ones wait in cells.
+fn visit(table: &[u16], i: usize, marks: &mut Marks, path: &mut [u16])
+    requires { ⌜ Visiting (now table) (now marks) (now path) i ⌝ }
+    ensures { λ _. ⌜ Visited (now (table .entry)) (now (marks .entry)) (now (marks .exit)) i ⌝ }
+    ensures { λ _. ⌜ length (now (path .exit)) ≡ length (now (path .entry)) ⌝ }
+{
+    if !is_new(marks, i) {
         return;
     }
-    if marks[i] != UNMET {
-        return;
+    begin_type(path, 0, i);
+    let mut depth = 1;
+    while 0 < depth {
+        depth = step(table, marks, path, depth);
     }
-    let n = parts_of(table, i);
-    let mut j = 0;
-    while j < n {
-        let p = part_at(table, i, j);
-        if STRUCTURED <= p {
-            visit(table, p, marks);
-        }
-        j += 1;
-    }
-    complete(marks, i);
 }
 
 fn name_cell(names: &NameList, at: usize) -> usize
     requires { ⌜ at < nameCells ⌝ }
     ensures { λ r. ⌜ r ≡ getD (now (names .entry)) at 0 ⌝ }
 {
-    wide(names[at])
+    wide32(names[at])
 }
 
 // Visits the types of the names, in their order.
-fn meet_all(table: &[u16], names: &NameList, count: usize, marks: &mut Marks)
+fn meet_each(table: &[u16], names: &NameList, count: usize, marks: &mut Marks, path: &mut [u16])
     requires { ⌜ Meeting (now table) (now marks) (now names) count ⌝ }
+    requires { ⌜ OpenRoom (now marks) (now path) ⌝ }
     ensures { λ _. ⌜ MetAll (now (table .entry)) (now (marks .entry)) (now (marks .exit))
         (now (names .entry)) count ⌝ }
 {
     let mut k = 0;
     while k < count {
-        visit(table, name_cell(names, NAME_CELLS * k + NAME_TYPE), marks);
+        visit(
+            table,
+            name_cell(names, NAME_CELLS * k + NAME_TYPE),
+            marks,
+            path,
+        );
         k += 1;
+    }
+}
+
+// A function of its own for each size of the array: a small one is soon filled.
+fn meet_few(table: &[u16], names: &NameList, count: usize, marks: &mut Marks)
+    requires { ⌜ Meeting (now table) (now marks) (now names) count ⌝ }
+    requires { ⌜ typeCount (now marks) ≤ 64 ⌝ }
+    ensures { λ _. ⌜ MetAll (now (table .entry)) (now (marks .entry)) (now (marks .exit))
+        (now (names .entry)) count ⌝ }
+{
+    let mut path = [FRESH; FEW_OPEN];
+    meet_each(table, names, count, marks, &mut path);
+}
+
+fn meet_many(table: &[u16], names: &NameList, count: usize, marks: &mut Marks)
+    requires { ⌜ Meeting (now table) (now marks) (now names) count ⌝ }
+    ensures { λ _. ⌜ MetAll (now (table .entry)) (now (marks .entry)) (now (marks .exit))
+        (now (names .entry)) count ⌝ }
+{
+    let mut path = [FRESH; ALL_OPEN];
+    meet_each(table, names, count, marks, &mut path);
+}
+
+fn meet_all(table: &[u16], names: &NameList, count: usize, marks: &mut Marks)
+    requires { ⌜ Meeting (now table) (now marks) (now names) count ⌝ }
+    ensures { λ _. ⌜ MetAll (now (table .entry)) (now (marks .entry)) (now (marks .exit))
+        (now (names .entry)) count ⌝ }
+{
+    if mark(marks, TYPE_COUNT) <= FEW {
+        meet_few(table, names, count, marks);
+    } else {
+        meet_many(table, names, count, marks);
     }
 }
 
@@ -237,8 +287,8 @@ fn elements_in(table: &[u16], i: usize) -> usize
     requires { ⌜ i < capacity (now table) ⌝ }
     ensures { λ r. ⌜ ElementsIn (now (table .entry)) i r ⌝ }
 {
-    if cell(table, RECORD * i) == TUPLE {
-        return cell(table, RECORD * i + Q);
+    if kind_of(table, i) == TUPLE {
+        return parts_of(table, i);
     }
     0
 }
@@ -304,9 +354,9 @@ fn write_type(table: &[u16], marks: &Marks, i: usize, from: usize, out: &mut [u8
     ensures { λ _. ⌜ Put (now (out .entry)) (now (out .exit)) at
         (recordBytes (tabOf (now (table .entry)) (now (marks .entry))) (now (marks .entry)) from i) ⌝ }
 {
-    let kind = cell(table, RECORD * i);
+    let kind = kind_of(table, i);
     if kind == TUPLE {
-        put_three(out, at, TUPLE, from, cell(table, RECORD * i + Q));
+        put_three(out, at, TUPLE, from, parts_of(table, i));
     } else {
         let p = number_of(marks, part_of(table, i));
         let q = number_of(marks, second_of(table, i));
@@ -511,7 +561,7 @@ fn word_at(sheet: &[u8], at: usize) -> usize
     ensures { λ r. ⌜ r ≡ word (now (sheet .entry)) at ⌝ }
     ensures { λ r. ⌜ r < 4294967296 ⌝ }
 {
-    wide(get_word(sheet, at))
+    wide32(get_word(sheet, at))
 }
 
 // Whether the counts keep the limits and the areas lie within.
@@ -549,7 +599,7 @@ fn number_in(numbers: &Numbers, k: usize, n: usize) -> usize
         return n;
     }
     if n - STRUCTURED < k {
-        return broad(numbers[n - STRUCTURED]);
+        return wide16(numbers[n - STRUCTURED]);
     }
     UNKNOWN
 }

@@ -125,6 +125,9 @@ module _ {t : Tab} (w : Wf t) (i : ℕ) (h : i < t.n) where
     | no a ↦ omega arith
   ]
 
+  pub kind-most : kind (denote t i) ≤ 12
+  kind-most = omega (arith, kind-of w i h, w .low i h .known)
+
   pub parts-few : length (parts (denote t i)) ≤ mostNumbers
   parts-few = elim (ℕ-discrete (kindAt t i) 10) [
     | yes e ↦ omega (arith, parts-many w i h e, w .low i h .inside e, w .space, w .most)

@@ -9,7 +9,7 @@ use Rattle.sheet.proofs.write_parts.Reads as reads
 use Rattle.sheet.proofs.write_parts.Lts as lts
 use Rattle.sheet.proofs.elements_in.Reads as elements-in-reads
 use Rattle.sheet.proofs.number_of.Reads as number-of-reads
-use Rattle.sheet.proofs.part_at.Reads as part-at-reads
+use Rattle.types.proofs.part_at.Reads as part-at-reads
 use Rattle.words.proofs.put_word.Reads as put-word-reads
 
 abbrev Inv-loop : tie.InvT-loop

@@ -1,0 +1,85 @@
+-- The answers stand by name in answers/meet_each.txt
+use Rattle.sheet.proofs.Names.{MeetLoop, meet-first, meet-visit, meet-next, meet-end}
+use mathlib.Core.Path.{_≡_, refl, _∙_}
+use Prim.Native.Nat.{_-_}
+use lib.ListN.{length}
+use native.Mathlib.Omega.{arith}
+use borrow.Author.Needs.{needs}
+use Rattle.sheet.proofs.meet_each.Statement.{statement}
+use Rattle.sheet.proofs.meet_each.Tie as tie
+use Rattle.sheet.proofs.meet_each.Reads as reads
+use Rattle.sheet.proofs.meet_each.Lts as lts
+use Rattle.sheet.proofs.name_cell.Reads as name-cell-reads
+use Rattle.sheet.proofs.visit.Reads as visit-reads
+
+abbrev Inv-loop : tie.InvT-loop
+Inv-loop table names count marks₀ path₀ k₀ marks path k = MeetLoop table marks₀ names count k marks × (length path ≡ length path₀)
+
+abbrev μ-loop : tie.MeasureT-loop
+μ-loop table names count marks₀ path₀ k₀ marks path k = count - k
+
+-- src/lib.rt:240:5
+loop-holds : tie.Need-loop-holds Inv-loop μ-loop
+loop-holds c =
+    (meet-first (c .before .before .pre .0), refl)
+
+-- src/lib.rt:241:39
+mul-name-cell : tie.Need-mul-name-cell Inv-loop μ-loop
+mul-name-cell c =
+    omega (arith, c .loop-test .taken, c .before .before .before .before .pre .0 .few)
+
+-- src/lib.rt:241:39
+add-name-cell : tie.Need-add-name-cell Inv-loop μ-loop
+add-name-cell c =
+    omega (arith, c .loop-test .taken, c .before .before .before .before .pre .0 .few)
+
+-- src/lib.rt:241:22
+name-cell-requires : tie.Need-name-cell-requires Inv-loop μ-loop
+name-cell-requires c κs =
+    omega (arith, c .loop-test .taken, c .before .before .before .before .pre .0 .few)
+
+-- src/lib.rt:241:9
+visit-requires : tie.Need-visit-requires Inv-loop μ-loop
+visit-requires c κs =
+    meet-visit (c .before .before .before .before .loop .inv .0) (c .before .before .before .before .before .before .before .pre .1) (c .before .before .before .before .loop .inv .1) (c .before .before .before .loop-test .taken) (c .before .before .name-cell .ensures)
+
+-- src/lib.rt:242:9
+add-k : tie.Need-add-k Inv-loop μ-loop
+add-k c =
+    omega (arith, c .before .before .before .before .before .before .loop-test .taken, c .before .before .before .before .before .before .before .before .before .before .pre .0 .few)
+
+-- src/lib.rt:240:5
+loop-less : tie.Need-loop-less Inv-loop μ-loop
+loop-less c = search needs
+
+-- src/lib.rt:240:5
+loop-again : tie.Need-loop-again Inv-loop μ-loop
+loop-again c =
+    (meet-next (c .before .before .before .before .before .before .before .loop .inv .0) (c .before .before .before .before .before .before .loop-test .taken) (c .before .before .before .before .before .name-cell .ensures) (c .before .before .visit .ensures .0), c .before .before .visit .ensures .1 ∙ c .before .before .before .before .before .before .before .loop .inv .1)
+
+-- src/lib.rt:233:1
+same-length : tie.Need-same-length Inv-loop μ-loop
+same-length c =
+    c .before .loop .inv .1
+
+-- src/lib.rt:233:1
+returns : tie.Need-returns Inv-loop μ-loop
+returns c =
+    meet-end (c .before .loop .inv .0) (λ h. absurd (omega (arith, c .loop-test .left)))
+
+pub meet-each-spec : {M : Type 1} → statement M
+meet-each-spec =
+    tie.close
+    (tie.spec
+    Inv-loop
+    μ-loop
+    loop-holds
+    mul-name-cell
+    add-name-cell
+    name-cell-requires
+    visit-requires
+    add-k
+    loop-less
+    loop-again
+    same-length
+    returns)
