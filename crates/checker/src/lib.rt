@@ -23,7 +23,7 @@ use image::node_at;
 use limits::MOST_NODES;
 use names::list_names;
 use rules::codes;
-use sheet::NO_ENTRIES;
+use sheet::list::NO_ENTRIES;
 use sheet::read;
 use stmt::End;
 use stmt::typecheck_program;

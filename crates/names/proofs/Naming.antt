@@ -12,7 +12,7 @@ use lib.Seq.{drop-cons}
 use borrow.Author.Count.{below-more}
 use borrow.Author.Tests.{eqb-true, leb-true}
 use Rattle.meaning.specs.Base.{ifSome, count}
-use Rattle.meaning.specs.Limits.{longestName}
+use Rattle.meaning.specs.Limits.{mostNames, longestName}
 use Rattle.meaning.specs.Types.{Ty}
 use Rattle.meaning.specs.Image.{Name, NameRecord, nameRecords, nameCount, textsFrom, textsOf, namesOf, nameOf, plain, textStands, wrongName, brokenName}
 use Rattle.meaning.specs.Frames.{Frame, newest, slotIn}
@@ -25,28 +25,28 @@ use Rattle.frames.specs.declared.Held.{Held}
 use Rattle.frames.specs.declared.Held.the-variants.{Absent, OfType}
 use Rattle.image.specs.Parts.{recordOf, nameStands}
 use Rattle.image.proofs.Records.{records-count, names-many, text-inside, text-fits, text-of}
-use Rattle.sheet.specs.Listing.{startAt, lengthAt, typeAt, entryAt, listedFrom, listed}
-use Rattle.names.specs.Names.{PutName, Names}
+use Rattle.sheet.specs.Listing.{nameCells, startAt, lengthAt, typeAt, SameName, PutName, entryAt, listedFrom, listed}
+use Rattle.names.specs.Names.{Names}
 
--- ---- a text that stands is of 64 bytes at most
+-- ---- a text that stands is no longer than a name may be
 
-name-short : (texts : List ℕ) (from : ℕ) (last : List ℕ) (r : NameRecord) → nameStands texts from last r ≡ true → r .size ≤ 64
+name-short : (texts : List ℕ) (from : ℕ) (last : List ℕ) (r : NameRecord) → nameStands texts from last r ≡ true → r .size ≤ longestName
 unfolding nameStands textStands
 name-short texts from last r e =
     let s = take (r .size) (drop from texts) in
     let whole : length s ≡ r .size = eqb-true _ _ (and-right _ _ (and-left _ _ (and-left _ _ e))) in
-    let few : length s ≤ 64 = leb-true (length s) longestName (and-right _ _ (and-left _ _ (and-left _ _ (and-right _ _ (and-left _ _ e))))) in
+    let few : length s ≤ longestName = leb-true (length s) longestName (and-right _ _ (and-left _ _ (and-left _ _ (and-right _ _ (and-left _ _ e))))) in
     omega arith
 
 names-short : (texts : List ℕ) (i from : ℕ) (last : List ℕ) (rs : List NameRecord) → wrongName texts i from last rs ≡ none
-    → (k : ℕ) → k < length rs → recordOf rs k .size ≤ 64
+    → (k : ℕ) → k < length rs → recordOf rs k .size ≤ longestName
 unfolding wrongName nameStands recordOf
 names-short texts i from last [] e k h = absurd (not-suc-le-zero h)
 names-short texts i from last (r ∷ rs) e zero h = name-short texts from last r (if-none _ _ _ e .0)
 names-short texts i from last (r ∷ rs) e (suc k) h =
     names-short texts (suc i) (from + r .size) (take (r .size) (drop from texts)) rs (if-none _ _ _ e .1) k (le-of-suc-le-suc h)
 
-pub text-short : (bs : List ℕ) → brokenName bs ≡ none → (k : ℕ) → k < nameCount bs → recordOf (nameRecords bs) k .size ≤ 64
+pub text-short : (bs : List ℕ) → brokenName bs ≡ none → (k : ℕ) → k < nameCount bs → recordOf (nameRecords bs) k .size ≤ longestName
 unfolding brokenName
 text-short bs e k h = names-short (textsOf bs) 0 0 [] (nameRecords bs) e k (rw records-count h)
 
@@ -97,16 +97,16 @@ listed-none : (bs : List ℕ) (t : Tab) (cells : List ℕ) → listed bs t cells
 unfolding listed listedFrom count
 listed-none bs t cells = refl
 
-entry-same : (bs : List ℕ) (t : Tab) (cs ds : List ℕ) (c : ℕ) → ((x : ℕ) → x < 3 * suc c → getD ds x 0 ≡ getD cs x 0) → entryAt bs t ds c ≡ entryAt bs t cs c
+entry-same : (bs : List ℕ) (t : Tab) (cs ds : List ℕ) (c : ℕ) → SameName cs ds c → entryAt bs t ds c ≡ entryAt bs t cs c
 unfolding entryAt
-entry-same bs t cs ds c h = rw (h (3 * c) (omega arith), h (3 * c + 1) (omega arith), h (3 * c + 2) (omega arith))
+entry-same bs t cs ds c h = rw (h .start, h .size, h .type)
 
--- cells from c on do not matter to the first c names
-listed-same : (bs : List ℕ) (t : Tab) (cs ds : List ℕ) (c : ℕ) → ((x : ℕ) → x < 3 * c → getD ds x 0 ≡ getD cs x 0) → listed bs t ds c ≡ listed bs t cs c
+-- names from c on do not matter to the first c
+listed-same : (bs : List ℕ) (t : Tab) (cs ds : List ℕ) (c : ℕ) → ((j : ℕ) → j < c → SameName cs ds j) → listed bs t ds c ≡ listed bs t cs c
 listed-same bs t cs ds zero h = listed-none bs t ds ∙ sym (listed-none bs t cs)
 listed-same bs t cs ds (suc c) h =
-    let a : listed bs t ds c ≡ listed bs t cs c = listed-same bs t cs ds c (λ x l. h x (omega arith)) in
-    let b : entryAt bs t ds c ≡ entryAt bs t cs c = entry-same bs t cs ds c h in
+    let a : listed bs t ds c ≡ listed bs t cs c = listed-same bs t cs ds c (λ j l. h j (omega arith)) in
+    let b : entryAt bs t ds c ≡ entryAt bs t cs c = entry-same bs t cs ds c (h c (omega arith)) in
     listed-more bs t ds c ∙ rw (a, b) (sym (listed-more bs t cs c))
 
 -- ---- after k names, of which c are listed
@@ -114,15 +114,15 @@ listed-same bs t cs ds (suc c) h =
 pub record Naming (bs : List ℕ) (fs : Rows) (top : ℕ) (cells : List ℕ) (k c : ℕ) : Type 0 where
   pub here : k ≤ nameCount bs
   pub few : c ≤ k
-  pub long : length cells ≡ 384
+  pub long : length cells ≡ nameCells
   pub inside : (j : ℕ) → j < c → startAt cells j + lengthAt cells j ≤ length bs
-  pub short : (j : ℕ) → j < c → lengthAt cells j ≤ 64
+  pub short : (j : ℕ) → j < c → lengthAt cells j ≤ longestName
   pub known : (t : Tab) → Wf t → Fit t fs top → (j : ℕ) → j < c → typeAt cells j < t.n
   pub answer : (t : Tab) → Wf t → Fit t fs top
       → listed bs t cells c ++ entries (drop k (namesOf bs)) (drop k (newest (framesOf t fs top)))
       ≡ entries (namesOf bs) (newest (framesOf t fs top))
 
-pub naming-first : (bs : List ℕ) (fs : Rows) (top : ℕ) (cells : List ℕ) → length cells ≡ 384 → Naming bs fs top cells 0 0
+pub naming-first : (bs : List ℕ) (fs : Rows) (top : ℕ) (cells : List ℕ) → length cells ≡ nameCells → Naming bs fs top cells 0 0
 naming-first bs fs top cells l = record {
   here = omega arith;
   few = omega arith;
@@ -133,7 +133,7 @@ naming-first bs fs top cells l = record {
   answer = λ t w f. rw (listed-none bs t cells);
 }
 
-row-long : (t : Tab) (fs : Rows) (top : ℕ) → Fit t fs top → length (newest (framesOf t fs top)) ≡ 128
+row-long : (t : Tab) (fs : Rows) (top : ℕ) → Fit t fs top → length (newest (framesOf t fs top)) ≡ mostNames
 unfolding newest framesOf below frameOf
 row-long t fs top f = length-map (getD fs top []) (slot t) ∙ f .wide top (f .high)
 
@@ -182,13 +182,13 @@ module _ {bs : List ℕ} (s : Sound bs) {fs : Rows} {top k c : ℕ} {cs ds : Lis
     few = omega (arith, n .few);
     long = p .long ∙ n .long;
     inside = below-more (λ j. startAt ds j + lengthAt ds j ≤ length bs) c
-        (λ j h. omega (arith, p .before (3 * j) (omega arith), p .before (3 * j + 1) (omega arith), n .inside j h))
+        (λ j h. omega (arith, p .before j h .start, p .before j h .size, n .inside j h))
         (omega (arith, p .start-is, p .length-is, text-fits (s .headed) (s .names) k l, text-inside (s .headed)));
-    short = below-more (λ j. lengthAt ds j ≤ 64) c
-        (λ j h. omega (arith, p .before (3 * j + 1) (omega arith), n .short j h))
+    short = below-more (λ j. lengthAt ds j ≤ longestName) c
+        (λ j h. omega (arith, p .before j h .size, n .short j h))
         (omega (arith, p .length-is, text-short bs (s .names) k l));
     known = λ t w f. below-more (λ j. typeAt ds j < t.n) c
-        (λ j h. omega (arith, p .before (3 * j + 2) (omega arith), n .known t w f j h))
+        (λ j h. omega (arith, p .before j h .type, n .known t w f j h))
         (omega (arith, p .type-is, held-known m a t f));
     answer = answer-put;
   }
@@ -200,7 +200,7 @@ listed-end ws f k l es h a = rw (drop-of-length-le ws h, append-nil) at a
 pub naming-end : {bs : List ℕ} {fs : Rows} {top : ℕ} {cells : List ℕ} {k c : ℕ} → Sound bs → Naming bs fs top cells k c → nameCount bs ≤ k
     → Names bs fs top cells c
 naming-end {bs} {fs} {top} {cells} {k} {c} s n l =
-    let few : c ≤ 128 = omega (arith, n .few, n .here, sizes (s .headed) .names) in
+    let few : c ≤ mostNames = omega (arith, n .few, n .here, sizes (s .headed) .names) in
     let past : length (namesOf bs) ≤ k = rw (names-many bs) l in
     record {
       listing = λ t w f. record { wf = w; few = few; inside = n .inside; short = n .short; known = n .known t w f };

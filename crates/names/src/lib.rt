@@ -3,28 +3,16 @@ ghost use mathlib.Core.Path.{_≡_};
 ghost use Prim.Native.Nat.{_<_};
 ghost use lib.ListN.{length};
 ghost use Rattle.meaning.proofs.Faults.{Sound};
-ghost use Rattle.meaning.specs.Limits.{mostNames, mostFrames};
+ghost use Rattle.meaning.specs.Limits.{mostFrames};
 ghost use Rattle.sheet.specs.Listing.{nameCells};
-ghost use Rattle.names.specs.Names.{PutName, Names};
+ghost use Rattle.names.specs.Names.{Names};
 use frames::Frames;
 use frames::Held;
 use frames::held_in;
 use image::areas;
 use image::name_at;
-use sheet::NAME_CELLS;
-use sheet::NAME_LENGTH;
-use sheet::NAME_TYPE;
-use sheet::NameList;
-
-// Name c of the list: where its text starts, how long it is, and its type.
-fn put_name(names: &mut NameList, c: usize, from: u32, len: u32, ty: u32)
-    requires { ⌜ (c < mostNames) × (length (now names) ≡ nameCells) ⌝ }
-    ensures { λ _. ⌜ PutName (now (names .entry)) (now (names .exit)) c from len ty ⌝ }
-{
-    names[NAME_CELLS * c] = from;
-    names[NAME_CELLS * c + NAME_LENGTH] = len;
-    names[NAME_CELLS * c + NAME_TYPE] = ty;
-}
+use sheet::list::NameList;
+use sheet::list::put_name;
 
 // Lists the names that the newest frame holds, in order, with their types, and gives their number.
 pub fn list_names(image: &[u8], frames: &Frames, top: usize, names: &mut NameList) -> usize

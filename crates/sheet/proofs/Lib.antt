@@ -2,6 +2,7 @@
 pub mod Rewriting
 mod Meeting
 mod Marking
+mod Lists
 mod Again
 mod Opening
 mod Visiting

@@ -9,6 +9,7 @@ use borrow.Author.Tests.{leb-true}
 use lib.Dec.{leb}
 use lib.ListN.{length, getD, set, take, drop, length-set, length-append}
 use lib.Seq.{drop-drop, getD-set-same, getD-set-other}
+use Rattle.meaning.specs.Limits.{longestName}
 use Rattle.meaning.specs.Base.{_and_, word, records, count}
 use Rattle.meaning.specs.Types.{Ty}
 use Rattle.meaning.specs.Image.{textStands}
@@ -18,7 +19,7 @@ use Rattle.meaning.proofs.Choices.{and-left, and-right}
 use Rattle.meaning.proofs.SheetForm.{sheet-is, sheet-size}
 use Rattle.meaning.proofs.SheetAreas.{Areas}
 use Rattle.types.specs.Table.{Tab, denote, Wf}
-use Rattle.sheet.specs.Listing.{startAt, lengthAt, typeAt, entryAt, listedFrom, listed, Listing}
+use Rattle.sheet.specs.Listing.{nameCells, PutName, startAt, lengthAt, typeAt, entryAt, listedFrom, listed, Listing}
 use Rattle.sheet.specs.Reading.{namesAt, textsAt, wordsAt, triplesAt, Bounds, Told, numberIn, TypesRead, NameRead, NameStep, NamesRead, Naming}
 use Rattle.sheet.specs.Reading.{elementsIn as elementsRead}
 use Rattle.sheet.proofs.Reading.{sheet-head, number-means, number-below}
@@ -35,10 +36,10 @@ name-inside us from (e ∷ es) (suc k) h =
     omega (arith, name-inside us (from + length (e .0)) es k (omega arith), length-append (e .0) (spellings es))
 
 name-short : (us : List Ty) (from : ℕ) (last : List ℕ) (es : List Entry) (k : ℕ) → textsStand last es ≡ true → k < length es
-    → getD (nameRecords us from es) k (0, 0, 0) .1 ≤ 64
+    → getD (nameRecords us from es) k (0, 0, 0) .1 ≤ longestName
 unfolding nameRecords textsStand textStands
 name-short us from last [] k s h = absurd (omega arith)
-name-short us from last (e ∷ es) zero s h = leb-true (length (e .0)) 64 (and-right _ _ (and-left _ _ (and-left _ _ (and-left _ _ s))))
+name-short us from last (e ∷ es) zero s h = leb-true (length (e .0)) longestName (and-right _ _ (and-left _ _ (and-left _ _ (and-left _ _ s))))
 name-short us from last (e ∷ es) (suc k) s h = name-short us (from + length (e .0)) (e .0) es k (and-right _ _ s) (omega arith)
 
 texts-of : (es : List Entry) → withinLimits es ≡ true → textsStand [] es ≡ true
@@ -58,7 +59,7 @@ module _ (bs : List ℕ) (h : isSheet bs ≡ true) where
       let d = sheet-head bs h in
       rw (d .names-count, d .types-count, d .elements-count) (areas-of bs h .names)
 
-  sheet-name : (k : ℕ) {a b c : ℕ} → k < word bs 20 → triple (drop (namesAt bs + 12 * k) bs) ≡ (a, b, c) → (b ≤ 64) × (textsAt bs + a + b ≤ length bs)
+  sheet-name : (k : ℕ) {a b c : ℕ} → k < word bs 20 → triple (drop (namesAt bs + 12 * k) bs) ≡ (a, b, c) → (b ≤ longestName) × (textsAt bs + a + b ≤ length bs)
   sheet-name k {a} {b} {c} l e =
       let d = sheet-head bs h in
       let s = sheet-is bs h in
@@ -86,39 +87,26 @@ module _ {bs : List ℕ} {k : ℕ} {cells : List ℕ} (n : Naming bs k cells) {T
   here-is : triple (drop (namesAt bs + 12 * k) bs) ≡ (s, l, word bs (namesAt bs + 12 * k + 8))
   here-is = triple-at bs (namesAt bs + 12 * k) start-word length-word refl
 
-  pub refuse-long : 64 < l → isSheet bs ≡ true → ⊥
+  pub refuse-long : longestName < l → isSheet bs ≡ true → ⊥
   refuse-long h i = absurd (omega (arith, sheet-name bs i k (n .here) here-is .0))
 
   pub refuse-outside : length bs < 40 + 12 * T + 4 * E + 12 * N + s + l → isSheet bs ≡ true → ⊥
   refuse-outside h i = absurd (omega (arith, sheet-name bs i k (n .here) here-is .1))
 
-  pub name-step : {w ty : ℕ} {xs : List ℕ} → w ≡ word bs (40 + 12 * T + 4 * E + 12 * k + 8) → ty ≡ numberIn (take T xs) w → l ≤ 64
-      → 40 + 12 * T + 4 * E + 12 * N + s + l ≤ length bs
-      → NameStep bs xs cells (set (set (set cells (3 * k) (40 + 12 * T + 4 * E + 12 * N + s)) (3 * k + 1) l) (3 * k + 2) ty) k
-  name-step {w} {ty} {xs} ew ety short inside =
-      let room : 3 * k + 2 < 384 = omega (arith, n .here, n .bounds .names) in
-      let at = 40 + 12 * T + 4 * E + 12 * N + s in
-      let one = set cells (3 * k) at in
-      let two = set one (3 * k + 1) l in
-      let new = set two (3 * k + 2) ty in
-      let l1 : length one ≡ 384 = length-set cells (3 * k) at ∙ n .size in
-      let l2 : length two ≡ 384 = length-set one (3 * k + 1) l ∙ l1 in
-      let c0 : getD new (3 * k) 0 ≡ at =
-      getD-set-other two (3 * k + 2) (3 * k) ty 0 (λ e. absurd (omega arith)) ∙ getD-set-other one (3 * k + 1) (3 * k) l 0 (λ e. absurd (omega arith)) ∙ getD-set-same cells (3 * k) at 0 (omega (arith, n .size)) in
-      let c1 : getD new (3 * k + 1) 0 ≡ l = getD-set-other two (3 * k + 2) (3 * k + 1) ty 0 (λ e. absurd (omega arith)) ∙ getD-set-same one (3 * k + 1) l 0 (omega arith) in
-      let c2 : getD new (3 * k + 2) 0 ≡ ty = getD-set-same two (3 * k + 2) ty 0 (omega arith) in
+  pub name-step : {w ty : ℕ} {xs new : List ℕ} → w ≡ word bs (40 + 12 * T + 4 * E + 12 * k + 8) → ty ≡ numberIn (take T xs) w → l ≤ longestName
+      → 40 + 12 * T + 4 * E + 12 * N + s + l ≤ length bs → PutName cells new k (40 + 12 * T + 4 * E + 12 * N + s) l ty → NameStep bs xs cells new k
+  name-step {w} {ty} {xs} {new} ew ety short inside p =
       let texts : 40 + 12 * T + 4 * E + 12 * N ≡ textsAt bs = rw (eT, eE, eN) in
       record {
         name = record {
-          start-is = c0 ∙ ap (λ x. x + s) texts ∙ ap (λ x. textsAt bs + x) start-word;
-          length-is = c1 ∙ length-word;
-          type-is = c2 ∙ ety ∙ ap (numberIn (take T xs)) (ew ∙ ap (λ x. word bs (x + 12 * k + 8)) from-is) ∙ ap (λ x. numberIn (take x xs) (word bs (namesAt bs + 12 * k + 8))) eT;
-          short = omega (arith, c1);
-          inside = omega (arith, c0, c1);
+          start-is = p .start-is ∙ ap (λ x. x + s) texts ∙ ap (λ x. textsAt bs + x) start-word;
+          length-is = p .length-is ∙ length-word;
+          type-is = p .type-is ∙ ety ∙ ap (numberIn (take T xs)) (ew ∙ ap (λ x. word bs (x + 12 * k + 8)) from-is) ∙ ap (λ x. numberIn (take x xs) (word bs (namesAt bs + 12 * k + 8))) eT;
+          short = omega (arith, p .length-is);
+          inside = omega (arith, p .start-is, p .length-is);
         };
-        size = length-set two (3 * k + 2) ty ∙ l2;
-        before = λ x h.
-            getD-set-other two (3 * k + 2) x ty 0 (λ e. absurd (omega arith)) ∙ getD-set-other one (3 * k + 1) x l 0 (λ e. absurd (omega arith)) ∙ getD-set-other cells (3 * k) x at 0 (λ e. absurd (omega arith));
+        size = p .long ∙ n .size;
+        before = p .before;
       }
 
 -- ---- all names
@@ -129,7 +117,7 @@ pub record NamesLoop (bs xs : List ℕ) (n k : ℕ) (cells : List ℕ) : Type 0 
   pub passed : k ≤ n
   pub read : NamesRead bs (take (word bs 4) xs) cells k
 
-pub names-first : {bs xs cells : List ℕ} {n : ℕ} → Bounds bs → length cells ≡ 384 → n ≡ word bs 20 → NamesLoop bs xs n 0 cells
+pub names-first : {bs xs cells : List ℕ} {n : ℕ} → Bounds bs → length cells ≡ nameCells → n ≡ word bs 20 → NamesLoop bs xs n 0 cells
 names-first b s e = record { bounds = b; many = e; passed = omega arith; read = record { size = s; each = λ k h. absurd (omega arith) } }
 
 module _ {bs xs : List ℕ} {n k : ℕ} {cells : List ℕ} (l : NamesLoop bs xs n k cells) where
@@ -152,11 +140,11 @@ module _ {bs xs : List ℕ} {n k : ℕ} {cells : List ℕ} (l : NamesLoop bs xs 
     where
       kept : (j : ℕ) → j < k → NameRead bs (take (word bs 4) xs) cells j → NameRead bs (take (word bs 4) xs) new j
       kept j b r = record {
-        start-is = s .before (3 * j) (omega arith) ∙ r .start-is;
-        length-is = s .before (3 * j + 1) (omega arith) ∙ r .length-is;
-        type-is = s .before (3 * j + 2) (omega arith) ∙ r .type-is;
-        short = omega (arith, s .before (3 * j + 1) (omega arith), r .short);
-        inside = omega (arith, s .before (3 * j) (omega arith), s .before (3 * j + 1) (omega arith), r .inside);
+        start-is = s .before j b .start ∙ r .start-is;
+        length-is = s .before j b .size ∙ r .length-is;
+        type-is = s .before j b .type ∙ r .type-is;
+        short = omega (arith, s .before j b .size, r .short);
+        inside = omega (arith, s .before j b .start, s .before j b .size, r .inside);
       }
 
   pub names-end : (k < n → ⊥) → NamesRead bs (take (word bs 4) xs) cells (word bs 20)

@@ -1,5 +1,5 @@
 -- Names with their types, as the writer takes them and the reader gives them: name k is a text of a source (start, length) and a type's
--- number, at cells 3 · k, 3 · k + 1 and 3 · k + 2.
+-- number, three cells of a list.
 use mathlib.Core.Path.{_≡_}
 use mathlib.Core.Bool.{Bool}
 use mathlib.Core.List.{List, map}
@@ -15,14 +15,38 @@ use Rattle.types.specs.Table.{Tab, Wf, denote}
 abbrev pub nameCells : ℕ
 nameCells = 3 * mostNames
 
+-- where these cells lie: this crate's own business
+abbrev pub startCell : ℕ → ℕ
+startCell k = 3 * k
+
+abbrev pub lengthCell : ℕ → ℕ
+lengthCell k = 3 * k + 1
+
+abbrev pub typeCell : ℕ → ℕ
+typeCell k = 3 * k + 2
+
 abbrev pub startAt : List ℕ → ℕ → ℕ
-startAt cells k = getD cells (3 * k) 0
+startAt cells k = getD cells (startCell k) 0
 
 abbrev pub lengthAt : List ℕ → ℕ → ℕ
-lengthAt cells k = getD cells (3 * k + 1) 0
+lengthAt cells k = getD cells (lengthCell k) 0
 
 abbrev pub typeAt : List ℕ → ℕ → ℕ
-typeAt cells k = getD cells (3 * k + 2) 0
+typeAt cells k = getD cells (typeCell k) 0
+
+-- name j is the same in both
+pub record SameName (cs ds : List ℕ) (j : ℕ) : Type 0 where
+  pub start : startAt ds j ≡ startAt cs j
+  pub size : lengthAt ds j ≡ lengthAt cs j
+  pub type : typeAt ds j ≡ typeAt cs j
+
+-- ds is cs with name k written, and those before it are the same
+pub record PutName (cs ds : List ℕ) (k start size ty : ℕ) : Type 0 where
+  pub long : length ds ≡ length cs
+  pub start-is : startAt ds k ≡ start
+  pub length-is : lengthAt ds k ≡ size
+  pub type-is : typeAt ds k ≡ ty
+  pub before : (j : ℕ) → j < k → SameName cs ds j
 
 unfoldable pub entryAt : List ℕ → Tab → List ℕ → ℕ → Entry
 entryAt source t cells k = (take (lengthAt cells k) (drop (startAt cells k) source), denote t (typeAt cells k))

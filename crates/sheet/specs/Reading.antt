@@ -11,7 +11,7 @@ use Rattle.meaning.specs.Types.{Ty, tuple, tys}
 use Rattle.meaning.specs.Sheet.{Entry, Triple, sheetOf, textsStand}
 use Rattle.meaning.specs.Read.{triple, numbered, typeFrom, typesFrom, entriesIn, isSheet}
 use Rattle.types.specs.Table.{Tab, tab, mostNumbers, capacity, denote, Wf, Grown, Made}
-use Rattle.sheet.specs.Listing.{nameCells, startAt, lengthAt, typeAt, listed, Listing}
+use Rattle.sheet.specs.Listing.{nameCells, startAt, lengthAt, typeAt, SameName, listed, Listing}
 
 -- ---- the areas
 
@@ -141,7 +141,7 @@ pub record NamesRead (bs xs cells : List ℕ) (n : ℕ) : Type 0 where
 pub record NameStep (bs xs cells new : List ℕ) (k : ℕ) : Type 0 where
   pub name : NameRead bs (take (word bs 4) xs) new k
   pub size : length new ≡ nameCells
-  pub before : (x : ℕ) → x < 3 * k → getD new x 0 ≡ getD cells x 0
+  pub before : (j : ℕ) → j < k → SameName cells new j
 
 pub record Naming (bs : List ℕ) (k : ℕ) (cells : List ℕ) : Type 0 where
   pub bounds : Bounds bs

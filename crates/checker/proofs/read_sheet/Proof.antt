@@ -8,7 +8,7 @@ use Rattle.checker.proofs.read_sheet.Statement.{statement}
 use Rattle.checker.proofs.read_sheet.Tie as tie
 use Rattle.checker.proofs.read_sheet.Reads as reads
 use Rattle.checker.proofs.read_sheet.Lts as lts
-use Rattle.sheet.proofs.read.Reads as read-reads
+use Rattle.sheet.proofs.reader.read.Reads as read-reads
 
 slice-aggregate-read : tie.Need-slice-aggregate-read
 slice-aggregate-read c = search needs
