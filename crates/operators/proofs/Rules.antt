@@ -1,19 +1,14 @@
 -- The constants hold what the definitions say: for each of them one computation, over the whole of it.
-use mathlib.Core.Path.{_≡_, refl, sym, _∙_}
-use mathlib.Core.Bool.{true}
+use mathlib.Core.Path.{_≡_, refl}
 use mathlib.Core.List.{List, [], map}
 use Prim.Native.Nat.{ℕ, zero, suc, _+_, _*_, _/_, _%_, _≤_, _<_}
 use native.Mathlib.Omega.{arith}
-use native.Mathlib.Decide.{ℕ-discrete}
-use borrow.Author.Tests.{ne-eqb, leb-true}
 use native.Mathlib.Nat.{zero-add, add-zero, add-suc, suc-add, not-suc-le-zero, le-of-suc-le-suc}
-use lib.Dec.{eqb}
 use lib.ListN.{getD}
-use Rattle.meaning.specs.Base.{_and_, _or_, if_then_else_, count, base-open}
+use Rattle.meaning.specs.Base.{count, base-open}
 use Rattle.meaning.specs.Types.{types-open}
 use Rattle.meaning.specs.Decode.{binaryOf, unaryOf, decode-open}
 use Rattle.meaning.specs.Operators.{operatorAnswer, unaryAnswer, operators-open}
-use Rattle.operators.specs.Numbers.{numeric, numbersAnswer, numbers-open}
 use Rattle.operators.proofs.Lists.{answers, unary-answers}
 
 -- ---- the last arm of a match
@@ -67,41 +62,6 @@ rule {op} {l} {r} n e h =
     let e0 : (l * 13 + r) / 13 ≡ l = omega arith in
     let e1 : (l * 13 + r) % 13 ≡ r = omega arith in
     rw e (rw (e0, e1) at (looked-up answer 14 169 n (l * 13 + r) all-right (omega arith) (omega arith)))
-
--- ---- two numbers
-
--- 1 where the two answers differ, at place k of the kinds of two numbers
-difference : ℕ → ℕ → ℕ
-difference op k =
-    let l : ℕ = k / 5 in
-    let r : ℕ = k % 5 in
-    if numeric l and numeric r then (if eqb (numbersAnswer op l r) (operatorAnswer (binaryOf op) l r) then 0 else 1) else 0
-
-none-differs : table difference 14 25 ≡ table (λ op k. 0) 14 25
-unfolding difference numbers-open base-open types-open decode-open operators-open
-none-differs = refl
-
-numeric-below : (k : ℕ) → numeric k ≡ true → k < 5
-unfolding numeric _or_
-numeric-below k h = elim (ℕ-discrete k 4) [
-  | yes e ↦ omega (arith, e)
-  | no n ↦ omega (arith, leb-true k 1 (rw (ne-eqb k 4 n) at h))
-]
-
-pub numbers-rule : (op l r : ℕ) → op < 14 → numeric l ≡ true → numeric r ≡ true → numbersAnswer op l r ≡ operatorAnswer (binaryOf op) l r
-unfolding difference _and_ if_then_else_
-numbers-rule op l r h hl hr =
-    let bl : l < 5 = numeric-below l hl in
-    let br : r < 5 = numeric-below r hr in
-    let e0 : (l * 5 + r) / 5 ≡ l = omega arith in
-    let e1 : (l * 5 + r) % 5 ≡ r = omega arith in
-    let none : difference op (l * 5 + r) ≡ 0 =
-    sym (looked-up difference 14 25 op (l * 5 + r) refl h (omega arith))
-    ∙ looked-up (λ o k. 0) 14 25 op (l * 5 + r) none-differs h (omega arith) in
-    elim (ℕ-discrete (numbersAnswer op l r) (operatorAnswer (binaryOf op) l r)) [
-      | yes e ↦ e
-      | no n ↦ omega (arith, rw (e0, e1, hl, hr, ne-eqb (numbersAnswer op l r) (operatorAnswer (binaryOf op) l r) n) at none)
-    ]
 
 -- ---- one operand
 

@@ -1,10 +1,9 @@
 // What an operator answers, by the kinds of its operands.
 ghost use mathlib.Core.Path.{_≡_};
-ghost use Prim.Native.Nat.{_<_, max};
+ghost use Prim.Native.Nat.{_<_};
 ghost use lib.ListN.{getD};
 ghost use Rattle.meaning.specs.Operators.{operatorAnswer, unaryAnswer};
 ghost use Rattle.meaning.specs.Decode.{binaryOf, unaryOf};
-ghost use Rattle.operators.specs.Numbers.{numeric, numbersAnswer};
 
 pub mod codes;
 mod constants;
@@ -14,31 +13,13 @@ use constants::KINDS;
 use constants::Row;
 use constants::UNARY_ANSWERS;
 use constants::UnaryRow;
+use words::wide8;
 
 // An answer below this is a plain type's number, and one above it a code. This one says: compare the whole types.
 pub const COMPARE: u32 = 8;
 
-// The kinds of numbers and of truth values, and the operators that are told apart, by document 01's numbers: from `==`
-// on all operators give a Bool.
-const INT: u32 = 1;
-
-const BOOL: u32 = 2;
-
-const FLOAT: u32 = 4;
-
-const DIVIDE: u32 = 3;
-
-const EQUAL: u32 = 6;
-
 // A row has so many answers for each kind of the left operand.
 const WIDTH: u32 = KINDS as u32;
-
-// A function of its own: a cast of an array's element would ask for a proof that the element fits.
-fn wide(answer: u8) -> u32
-    ensures { λ r. ⌜ r ≡ answer ⌝ }
-{
-    answer as u32
-}
 
 // An entry of one operator's row. The row is copied at a number that the code names, so that a use builds that row on
 // the stack and not the whole table.
@@ -46,7 +27,7 @@ fn entry(row: Row, at: usize) -> u32
     requires { ⌜ at < 169 ⌝ }
     ensures { λ r. ⌜ r ≡ getD row at 0 ⌝ }
 {
-    wide(row[at])
+    wide8(row[at])
 }
 
 // As entry, for the operators of one operand.
@@ -54,39 +35,7 @@ fn unary_entry(row: UnaryRow, at: usize) -> u32
     requires { ⌜ at < 13 ⌝ }
     ensures { λ r. ⌜ r ≡ getD row at 0 ⌝ }
 {
-    wide(row[at])
-}
-
-// Whether a kind is Int or Float, or Unknown, which passes for either.
-fn is_numeric(kind: u32) -> bool
-    ensures { λ r. ⌜ r ≡ numeric kind ⌝ }
-{
-    if kind == FLOAT {
-        return true;
-    }
-    kind <= INT
-}
-
-fn larger(left: u32, right: u32) -> u32
-    ensures { λ r. ⌜ r ≡ max left right ⌝ }
-{
-    if left < right {
-        return right;
-    }
-    left
-}
-
-// The answer for two numbers, by far the most frequent operands: no row has to be copied for it.
-fn of_numbers(op: u32, left: u32, right: u32) -> u32
-    ensures { λ r. ⌜ r ≡ numbersAnswer op left right ⌝ }
-{
-    if EQUAL <= op {
-        return BOOL;
-    }
-    if op == DIVIDE {
-        return FLOAT;
-    }
-    larger(left, right)
+    wide8(row[at])
 }
 
 // The answer of a binary operator: row `op` of the table. All numbers are u32, as they stand in the image.
@@ -94,11 +43,6 @@ pub fn answer_of(op: u32, left: u32, right: u32) -> u32
     requires { ⌜ (op < 14) × (left < 13) × (right < 13) ⌝ }
     ensures { λ r. ⌜ r ≡ operatorAnswer (binaryOf op) left right ⌝ }
 {
-    if is_numeric(left) {
-        if is_numeric(right) {
-            return of_numbers(op, left, right);
-        }
-    }
     let table = ANSWERS;
     let at = (left * WIDTH + right) as usize;
     match op {
