@@ -2,13 +2,15 @@
 use mathlib.Core.Path.{_≡_, refl, sym, _∙_}
 use mathlib.Core.Logic.{_⊎_, inl, inr}
 use mathlib.Core.Bool.{Bool, true, false, not, false≢true}
+use mathlib.Core.List.{List, [], _∷_}
 use Prim.Native.Nat.{ℕ, suc, _+_, _%_, _<_, _≤_}
 use native.Mathlib.Decide.{decLt}
 use native.Mathlib.Omega.{arith}
-use lib.Dec.{eqb, leb}
-use borrow.Author.Tests.{eq-eqb, ne-eqb, le-leb, lt-leb}
-use Rattle.meaning.specs.Base.{_and_, _or_, choose, if_then_else_}
-use Rattle.meaning.specs.Image.{NameRecord, Name, plain, takes, roleStands, roleOf, allows, safe, isStatement, isSpanless, isExpression, argBelow, countStands, belongs}
+use lib.Dec.{eqb, leb, ltb}
+use borrow.Author.Tests.{eq-eqb, ne-eqb, le-leb, lt-leb, lt-ltb, le-ltb}
+use Rattle.meaning.specs.Base.{_and_, _or_, choose, if_then_else_, base-open}
+use Rattle.meaning.specs.Image.{NameRecord, Name, Node, plain, takes, roleStands, roleOf, allows, safe, isStatement, isSpanless, isExpression, nodeStands, belongs, image-open}
+use Rattle.image.specs.Kinds.{recordStands}
 
 module _ (r : NameRecord) where
   pub role-unused : (r .role ≡ 0) ⊎ (r .role ≡ 3) → roleStands r ≡ (eqb (r .p) 0 and eqb (r .q) 0)
@@ -95,125 +97,92 @@ module _ (lo hi k : ℕ) where
   unfolding _and_
   above-range l u = rw (le-leb lo k l, lt-leb k hi u)
 
-module _ (k : ℕ) where
-  pub known-low : 1 ≤ k → k < 14 → (isStatement k or isSpanless k or isExpression k) ≡ true
-  unfolding isStatement isSpanless _or_
-  known-low l u = elim (decLt k 12) [
-    | yes a ↦ rw (in-range 1 11 k l (omega arith))
-    | no a ↦ rw (above-range 1 11 k l (omega arith), in-range 12 13 k (omega arith) (omega arith))
-  ]
+-- at a number, or past it
+from : {A : Type 0} {k : ℕ} (n : ℕ) → n ≤ k → (k ≡ n → A) → (suc n ≤ k → A) → A
+from {k = k} n l here later = elim (decLt n k) [
+  | yes a ↦ later a
+  | no a ↦ here (omega arith)
+]
 
-  pub known-high : 20 ≤ k → k < 33 → (isStatement k or isSpanless k or isExpression k) ≡ true
+-- k is none of these: what the arms of one number each leave, the last one first
+abbrev Others : ℕ → List ℕ → Type 0
+Others k [] = Unit {0}
+Others k (n ∷ ns) = Others k ns × (k ≡ n → ⊥)
+
+module _ (N : ℕ) (d : Node) where
+  pub stands-bare : 1 ≤ d .kind → d .kind < 5 → recordStands N d ≡ (ltb (d .arg) 1 and eqb (d .children) 0)
+  unfolding recordStands image-open base-open
+  stands-bare l u =
+      from 1 l (λ e. rw (e, and-true)) (λ l. from 2 l (λ e. rw (e, and-true)) (λ l. from 3 l (λ e. rw (e, and-true)) (λ l.
+      let e : d .kind ≡ 4 = omega arith in rw (e, and-true))))
+
+  stands-one : 6 ≤ d .kind → d .kind < 8 → recordStands N d ≡ (ltb (d .arg) 1 and eqb (d .children) 1)
+  unfolding recordStands image-open base-open
+  stands-one l u = from 6 l (λ e. rw (e, and-true)) (λ l. let e : d .kind ≡ 7 = omega arith in rw (e, and-true))
+
+  stands-any : 28 ≤ d .kind → d .kind < 31 → recordStands N d ≡ ltb (d .arg) 1
+  unfolding recordStands image-open base-open
+  stands-any l u =
+      from 28 l (λ e. rw (e, and-true, and-true)) (λ l. from 29 l (λ e. rw (e, and-true, and-true)) (λ l.
+      let e : d .kind ≡ 30 = omega arith in rw (e, and-true, and-true)))
+
+  -- no kind
+  stands-not : (isStatement (d .kind) or isSpanless (d .kind) or isExpression (d .kind)) ≡ false → recordStands N d ≡ false
+  unfolding recordStands _and_
+  stands-not e = rw e
+
+  pub before-kinds : d .kind < 1 → recordStands N d ≡ false
   unfolding isStatement isSpanless isExpression _or_
-  known-high l u = rw (above-range 1 11 k (omega arith) (omega arith), above-range 12 13 k (omega arith) (omega arith), in-range 20 32 k l (omega arith))
+  before-kinds u = stands-not (rw (below-range 1 11 (d .kind) u, below-range 12 13 (d .kind) (omega arith), below-range 20 32 (d .kind) (omega arith)))
 
-  pub unknown-low : k < 1 → (isStatement k or isSpanless k or isExpression k) ≡ false
+  between : 14 ≤ d .kind → d .kind < 20 → recordStands N d ≡ false
   unfolding isStatement isSpanless isExpression _or_
-  unknown-low u = rw (below-range 1 11 k u, below-range 12 13 k (omega arith), below-range 20 32 k (omega arith))
+  between l u =
+      stands-not (rw (above-range 1 11 (d .kind) (omega arith) (omega arith), above-range 12 13 (d .kind) (omega arith) (omega arith), below-range 20 32 (d .kind) u))
 
-  pub unknown-between : 14 ≤ k → k < 20 → (isStatement k or isSpanless k or isExpression k) ≡ false
+  behind : 33 ≤ d .kind → recordStands N d ≡ false
   unfolding isStatement isSpanless isExpression _or_
-  unknown-between l u = rw (above-range 1 11 k (omega arith) (omega arith), above-range 12 13 k (omega arith) (omega arith), below-range 20 32 k u)
+  behind l =
+      stands-not (rw (above-range 1 11 (d .kind) (omega arith) (omega arith), above-range 12 13 (d .kind) (omega arith) (omega arith), above-range 20 32 (d .kind) (omega arith) (omega arith)))
 
-  pub unknown-high : 33 ≤ k → (isStatement k or isSpanless k or isExpression k) ≡ false
-  unfolding isStatement isSpanless isExpression _or_
-  unknown-high l = rw (above-range 1 11 k (omega arith) (omega arith), above-range 12 13 k (omega arith) (omega arith), above-range 20 32 k (omega arith) (omega arith))
+  module _ (o : Others (d .kind) (32 ∷ 31 ∷ 27 ∷ 26 ∷ 25 ∷ 24 ∷ 23 ∷ 22 ∷ 21 ∷ 20 ∷ 13 ∷ 12 ∷ 11 ∷ 10 ∷ 9 ∷ 8 ∷ 5 ∷ [])) where
+    from-20 : Others (d .kind) (27 ∷ 26 ∷ 25 ∷ 24 ∷ 23 ∷ 22 ∷ 21 ∷ 20 ∷ 13 ∷ 12 ∷ 11 ∷ 10 ∷ 9 ∷ 8 ∷ 5 ∷ [])
+    from-20 = o .0 .0
 
-module _ (N k : ℕ) where
-  pub arg-name : (k ≡ 13) ⊎ (k ≡ 21) → argBelow N k ≡ N
-  unfolding argBelow choose if_then_else_
-  arg-name (inl e) = rw e
-  arg-name (inr e) = rw e
+    from-8 : Others (d .kind) (13 ∷ 12 ∷ 11 ∷ 10 ∷ 9 ∷ 8 ∷ 5 ∷ [])
+    from-8 = from-20 .0 .0 .0 .0 .0 .0 .0 .0
 
-  pub arg-bound : 10 ≤ k → k < 12 → argBelow N k ≡ N
-  unfolding argBelow choose if_then_else_
-  arg-bound l u = elim (decLt k 11) [
-    | yes a ↦ let e : k ≡ 10 = omega arith in rw e
-    | no n ↦ let e : k ≡ 11 = omega arith in rw e
-  ]
+    pub stands-single : 5 ≤ d .kind → d .kind < 8 → recordStands N d ≡ (ltb (d .arg) 1 and eqb (d .children) 1)
+    stands-single l u = stands-one (past 5 (from-8 .0 .0 .0 .0 .0 .0 .1) l) u
 
-  pub arg-fixed : (k ≡ 20 → argBelow N k ≡ 5) × (k ≡ 22 → argBelow N k ≡ 3) × (k ≡ 23 → argBelow N k ≡ 14)
-  unfolding argBelow choose if_then_else_
-  arg-fixed = (λ e. rw e, λ e. rw e, λ e. rw e)
+    pub stands-many : 20 ≤ d .kind → d .kind < 31 → recordStands N d ≡ ltb (d .arg) 1
+    stands-many l u =
+        let h = from-20 in
+        let to-24 : 24 ≤ d .kind = past 23 (h .0 .0 .0 .0 .1) (past 22 (h .0 .0 .0 .0 .0 .1) (past 21 (h .0 .0 .0 .0 .0 .0 .1) (past 20 (h .0 .0 .0 .0 .0 .0 .0 .1) l))) in
+        stands-any (past 27 (h .1) (past 26 (h .0 .1) (past 25 (h .0 .0 .1) (past 24 (h .0 .0 .0 .1) to-24)))) u
 
-  pub arg-unused : ((k ≡ 13) ⊎ (k ≡ 21) → ⊥) → (k ≡ 20 → ⊥) → (k ≡ 22 → ⊥) → (k ≡ 23 → ⊥) → (10 ≤ k → k < 12 → ⊥) → argBelow N k ≡ 1
-  unfolding argBelow choose if_then_else_
-  arg-unused a b c d o =
-      rw (
-        ne-eqb k 10 (λ e. o (omega arith) (omega arith)),
-        ne-eqb k 11 (λ e. o (omega arith) (omega arith)),
-        ne-eqb k 13 (λ e. a (inl e)),
-        ne-eqb k 20 b,
-        ne-eqb k 21 (λ e. a (inr e)),
-        ne-eqb k 22 c,
-        ne-eqb k 23 d,
-      )
+    pub between-kinds : 8 ≤ d .kind → d .kind < 20 → recordStands N d ≡ false
+    between-kinds l u =
+        let h = from-8 in
+        let to-11 : 11 ≤ d .kind = past 10 (h .0 .0 .0 .1) (past 9 (h .0 .0 .0 .0 .1) (past 8 (h .0 .0 .0 .0 .0 .1) l)) in
+        between (past 13 (h .1) (past 12 (h .0 .1) (past 11 (h .0 .0 .1) to-11))) u
 
-module _ (k c : ℕ) where
-  pub count-alone :
-      (k ≡ 5 → countStands k c ≡ eqb c 2) × (k ≡ 8 → countStands k c ≡ leb 2 c) × (k ≡ 11 → countStands k c ≡ leb 1 c)
-      × (k ≡ 12 → countStands k c ≡ true)
-      × (k ≡ 22 → countStands k c ≡ eqb c 1)
-      × (k ≡ 23 → countStands k c ≡ eqb c 2)
-      × (k ≡ 24 → countStands k c ≡ leb 1 c)
-      × (k ≡ 25 → countStands k c ≡ eqb c 1)
-      × (k ≡ 26 → countStands k c ≡ true)
-      × (k ≡ 27 → countStands k c ≡ eqb (c % 2) 0)
-      × (k ≡ 31 → countStands k c ≡ eqb c 2)
-  unfolding countStands choose if_then_else_
-  count-alone = (λ e. rw e, λ e. rw e, λ e. rw e, λ e. rw e, λ e. rw e, λ e. rw e, λ e. rw e, λ e. rw e, λ e. rw e, λ e. rw e, λ e. rw e)
+    pub behind-kinds : 31 ≤ d .kind → recordStands N d ≡ false
+    behind-kinds l = behind (past 32 (o .1) (past 31 (o .0 .1) l))
 
-  pub count-6 : (k ≡ 5 → ⊥) → 5 ≤ k → k < 8 → countStands k c ≡ eqb c 1
-  unfolding countStands choose if_then_else_
-  count-6 n l u = elim (decLt k 7) [
-    | yes a ↦ let e : k ≡ 6 = omega arith in rw e
-    | no m ↦ let e : k ≡ 7 = omega arith in rw e
-  ]
+-- ---- a node's end
 
-  pub count-9 : (k ≡ 8 → ⊥) → 8 ≤ k → k < 11 → countStands k c ≡ eqb c 2
-  unfolding countStands choose if_then_else_
-  count-9 n l u = elim (decLt k 10) [
-    | yes a ↦ let e : k ≡ 9 = omega arith in rw e
-    | no m ↦ let e : k ≡ 10 = omega arith in rw e
-  ]
+pub node-by-record : (N M i : ℕ) (d : Node) → i < d .stop → d .stop ≤ M → nodeStands N M i d ≡ recordStands N d
+unfolding nodeStands recordStands
+node-by-record N M i d l u = rw (lt-ltb i (d .stop) l, le-leb (d .stop) M u, and-true, and-true)
 
-  count-28 : 28 ≤ k → k < 31 → countStands k c ≡ true
-  unfolding countStands choose if_then_else_
-  count-28 l u = elim (decLt k 29) [
-    | yes a ↦ let e : k ≡ 28 = omega arith in rw e
-    | no m ↦ elim (decLt k 30) [
-      | yes a ↦ let e : k ≡ 29 = omega arith in rw e
-      | no n ↦ let e : k ≡ 30 = omega arith in rw e
-    ]
-  ]
+pub node-ended : (N M i : ℕ) (d : Node) → d .stop ≤ i → nodeStands N M i d ≡ false
+unfolding nodeStands _and_
+node-ended N M i d h = rw (le-ltb i (d .stop) h, and-false)
 
-  module _ (n22 : k ≡ 22 → ⊥) (n23 : k ≡ 23 → ⊥) (n24 : k ≡ 24 → ⊥) (n25 : k ≡ 25 → ⊥) (n26 : k ≡ 26 → ⊥) (n27 : k ≡ 27 → ⊥) where
-    pub count-many : 22 ≤ k → k < 31 → countStands k c ≡ true
-    count-many l u = count-28 (past 27 n27 (past 26 n26 (past 25 n25 (past 24 n24 (past 23 n23 (past 22 n22 l)))))) u
-
-    pub count-none : (k ≡ 5 → ⊥) → (k ≡ 8 → ⊥) → (k ≡ 11 → ⊥) → (k ≡ 12 → ⊥) → (k ≡ 31 → ⊥) → (5 ≤ k → k < 11 → ⊥) → (22 ≤ k → k < 31 → ⊥) → countStands k c ≡ eqb c 0
-    unfolding countStands choose if_then_else_
-    count-none n5 n8 n11 n12 n31 low high =
-        rw (
-          ne-eqb k 5 n5,
-          ne-eqb k 6 (λ e. low (omega arith) (omega arith)),
-          ne-eqb k 7 (λ e. low (omega arith) (omega arith)),
-          ne-eqb k 8 n8,
-          ne-eqb k 9 (λ e. low (omega arith) (omega arith)),
-          ne-eqb k 10 (λ e. low (omega arith) (omega arith)),
-          ne-eqb k 11 n11,
-          ne-eqb k 12 n12,
-          ne-eqb k 22 n22,
-          ne-eqb k 23 n23,
-          ne-eqb k 24 n24,
-          ne-eqb k 25 n25,
-          ne-eqb k 26 n26,
-          ne-eqb k 27 n27,
-          ne-eqb k 28 (λ e. high (omega arith) (omega arith)),
-          ne-eqb k 29 (λ e. high (omega arith) (omega arith)),
-          ne-eqb k 30 (λ e. high (omega arith) (omega arith)),
-          ne-eqb k 31 n31,
-        )
+pub node-outside : (N M i : ℕ) (d : Node) → M < d .stop → nodeStands N M i d ≡ false
+unfolding nodeStands
+node-outside N M i d h = rw (lt-leb (d .stop) M h, and-false)
 
 -- ---- which child has business where
 

@@ -1,7 +1,6 @@
 pub mod Records
 pub mod Searches
 pub mod Choosing
-pub mod Plainly
 pub mod Nesting
 pub mod Depth
 pub mod Answers

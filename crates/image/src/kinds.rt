@@ -8,7 +8,7 @@ pub const CONTINUE: u32 = 2;
 
 const PASS: u32 = 3;
 
-const CLASS: u32 = 4;
+pub const CLASS: u32 = 4;
 
 pub const ASSIGN: u32 = 5;
 

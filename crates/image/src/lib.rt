@@ -1,34 +1,27 @@
 // The program image: whether a slice of bytes is one, and its parts.
 ghost use mathlib.Core.Path.{_≡_};
-ghost use mathlib.Core.Bool.{not};
 ghost use mathlib.Core.Option.{none};
-ghost use Prim.Native.Nat.{suc, _+_, _-_, _*_, _<_, _≤_};
-ghost use lib.Dec.{eqb, leb};
+ghost use Prim.Native.Nat.{suc, _+_, _-_, _*_, _%_, _<_, _≤_};
+ghost use lib.Dec.{eqb, leb, ltb};
 ghost use lib.ListN.{length, take, drop};
 ghost use Rattle.meaning.specs.Image.{nameCount, nodeCount, nodesFrom, textsFrom, node, nodesOf, nodeOf, nameRecord};
 ghost use Rattle.meaning.specs.Image.{nameRecords, textsOf, namesOf, nameOf, printable, textStands, roleStands};
-ghost use Rattle.meaning.specs.Image.{roleOf, allows, safe, brokenName, unsafeName, isStatement, isSpanless};
-ghost use Rattle.meaning.specs.Image.{isExpression, argBelow, countStands, nodeStands, brokenNode, belongs, lands};
+ghost use Rattle.meaning.specs.Image.{roleOf, allows, safe, brokenName, unsafeName, isStatement};
+ghost use Rattle.meaning.specs.Image.{isExpression, nodeStands, brokenNode, belongs, lands};
 ghost use Rattle.meaning.specs.Image.{nests, badlyNested, tooDeepNode, headStands, countsStand, offsetsStand};
 ghost use Rattle.meaning.specs.Image.{imageFault};
 ghost use Rattle.meaning.specs.Base.{_and_, _or_, if_then_else_, all, isOneOf};
 ghost use Rattle.meaning.proofs.Faults.{Headed};
-ghost use Rattle.image.specs.Kinds.{recordStands, argLimits, fewestChildren, mostChildren, plain, rootStands};
+ghost use Rattle.image.specs.Kinds.{recordStands, rootStands};
 ghost use Rattle.image.specs.Outcome.{faultOf, placeOf};
 ghost use Rattle.image.specs.Parts.{Laid, nodeMeans, nameMeans, recordOf, nameStands};
 ghost use Rattle.image.specs.Parts.{oneArgument, twoArguments, On, Moved};
 
-mod by_kind;
 mod header;
 pub mod kinds;
 pub mod literals;
 pub mod roles;
 
-use by_kind::BELOW;
-use by_kind::ByKind;
-use by_kind::FEWEST;
-use by_kind::KINDS;
-use by_kind::MOST;
 use limits::DEEPEST;
 use limits::LONGEST_NAME;
 use limits::MOST_NAMES;
@@ -38,6 +31,7 @@ use words::before;
 use words::get_word;
 use words::same;
 use words::text;
+use words::wide16;
 
 // "Name record, 5 words: text start, text length 1..64, role, p, q": the bytes at which all but the first start.
 const LEN: usize = 4;
@@ -68,7 +62,10 @@ const FIRST_PRINTABLE: u8 = 33;
 
 const LAST_PRINTABLE: u8 = 126;
 
-// "20 Literal (arg 0..4 ..); 22 Unary (0..2); 23 Binary (0..13)".
+// An arg is below one of these, or below the number of names: "Unused arg .. [is] 0"; "20 Literal (arg 0..4 ..);
+// 22 Unary (0..2); 23 Binary (0..13)".
+const UNUSED: usize = 1;
+
 const LITERALS: usize = 5;
 
 const UNARY_OPERATORS: usize = 3;
@@ -491,125 +488,95 @@ fn unsafe_name(image: &[u8], texts: usize, names: usize) -> Found
 
 // ---- 6: what one node record shows
 
-fn is_known(kind: u32) -> bool
-    ensures { λ r. ⌜ r ≡ (isStatement kind or isSpanless kind or isExpression kind) ⌝ }
+// An arg below `below`, with any number of children, exactly so many, at least so many, or an even number.
+
+fn any_number(d: Node, below: usize) -> bool
+    ensures { λ r. ⌜ r ≡ ltb (d .arg) below ⌝ }
 {
+    (d.arg as usize) < below
+}
+
+fn exactly(d: Node, below: usize, many: u32) -> bool
+    ensures { λ r. ⌜ r ≡ (ltb (d .arg) below and eqb (d .children) many) ⌝ }
+{
+    if below <= d.arg as usize {
+        return false;
+    }
+    d.children == many
+}
+
+fn at_least(d: Node, below: usize, many: u32) -> bool
+    ensures { λ r. ⌜ r ≡ (ltb (d .arg) below and leb many (d .children)) ⌝ }
+{
+    if below <= d.arg as usize {
+        return false;
+    }
+    many <= d.children
+}
+
+fn even_number(d: Node, below: usize) -> bool
+    ensures { λ r. ⌜ r ≡ (ltb (d .arg) below and eqb (d .children % 2) 0) ⌝ }
+{
+    if below <= d.arg as usize {
+        return false;
+    }
+    d.children % 2 == 0
+}
+
+// "The spans of Block and Param are 0."
+fn spanless(d: Node) -> bool
+    ensures { λ r. ⌜ r ≡ (eqb (d .begins) 0 and eqb (d .ends) 0) ⌝ }
+{
+    if d.begins != 0 {
+        return false;
+    }
+    d.ends == 0
+}
+
+// All of 6 but the end: what document 01 allows a node of each kind, in its order. A number of no kind is allowed
+// nothing.
+fn record_stands(names: usize, d: Node) -> bool
+    ensures { λ r. ⌜ r ≡ recordStands names (nodeMeans d) ⌝ }
+{
+    let kind = d.kind;
     match kind {
-        kinds::BREAK..=kinds::PARAM => true,
-        kinds::LITERAL..=kinds::LAMBDA => true,
+        kinds::BREAK..=kinds::CLASS => exactly(d, UNUSED, 0),
+        kinds::ASSIGN => exactly(d, UNUSED, 2),
+        kinds::EXPR..=kinds::RETURN => exactly(d, UNUSED, 1),
+        kinds::IF => at_least(d, UNUSED, 2),
+        kinds::WHILE => exactly(d, UNUSED, 2),
+        kinds::FOR => exactly(d, names, 2),
+        kinds::DEF => at_least(d, names, 1),
+        kinds::BLOCK => {
+            if !spanless(d) {
+                return false;
+            }
+            any_number(d, UNUSED)
+        }
+        kinds::PARAM => {
+            if !spanless(d) {
+                return false;
+            }
+            exactly(d, names, 0)
+        }
+        kinds::LITERAL => exactly(d, LITERALS, 0),
+        kinds::VARIABLE => exactly(d, names, 0),
+        kinds::UNARY => exactly(d, UNARY_OPERATORS, 1),
+        kinds::BINARY => exactly(d, BINARY_OPERATORS, 2),
+        kinds::CALL => at_least(d, UNUSED, 1),
+        kinds::ATTRIBUTE => exactly(d, UNUSED, 1),
+        kinds::LIST => any_number(d, UNUSED),
+        kinds::DICT => even_number(d, UNUSED),
+        kinds::TUPLE..=kinds::TREE_SET => any_number(d, UNUSED),
+        kinds::INDEX => exactly(d, UNUSED, 2),
+        kinds::LAMBDA => exactly(d, UNUSED, 0),
         _ => false,
     }
 }
 
-fn arg_below(names: usize, kind: u32) -> usize
-    ensures { λ r. ⌜ r ≡ argBelow names kind ⌝ }
-{
-    match kind {
-        kinds::FOR..=kinds::DEF | kinds::PARAM | kinds::VARIABLE => names,
-        kinds::LITERAL => LITERALS,
-        kinds::UNARY => UNARY_OPERATORS,
-        kinds::BINARY => BINARY_OPERATORS,
-        _ => 1,
-    }
-}
-
-fn count_stands(kind: u32, c: u32) -> bool
-    ensures { λ r. ⌜ r ≡ countStands kind c ⌝ }
-{
-    match kind {
-        kinds::ASSIGN => c == 2,
-        kinds::EXPR..=kinds::RETURN => c == 1,
-        kinds::IF => 2 <= c,
-        kinds::WHILE..=kinds::FOR => c == 2,
-        kinds::DEF => 1 <= c,
-        kinds::BLOCK => true,
-        kinds::UNARY => c == 1,
-        kinds::BINARY => c == 2,
-        kinds::CALL => 1 <= c,
-        kinds::ATTRIBUTE => c == 1,
-        kinds::LIST => true,
-        kinds::DICT => c % 2 == 0,
-        kinds::TUPLE..=kinds::TREE_SET => true,
-        kinds::INDEX => c == 2,
-        _ => c == 0,
-    }
-}
-
-// "The spans of Block and Param are 0."
-fn span_stands(d: Node) -> bool
-    ensures { λ r. ⌜ r ≡ (not (isSpanless (d .kind)) or eqb (d .begins) 0 and eqb (d .ends) 0) ⌝ }
-{
-    let kind = d.kind;
-    match kind {
-        kinds::BLOCK..=kinds::PARAM => {
-            if d.begins != 0 {
-                return false;
-            }
-            d.ends == 0
-        }
-        _ => true,
-    }
-}
-
-// All of 6 but the end, by the kind.
-fn record_stands(image: &[u8], names: usize, nodes: usize, i: usize) -> bool
+fn node_stands(image: &[u8], names: usize, nodes: usize, count: usize, i: usize) -> bool
     requires { ⌜ Headed (now image) ⌝ }
     requires { ⌜ (nodes ≡ nodesFrom (now image)) × (i < nodeCount (now image)) ⌝ }
-    ensures { λ r. ⌜ r ≡ recordStands names (nodeOf (nodesOf (now (image .entry))) i) ⌝ }
-{
-    let d = node_at(image, nodes, i);
-    if !is_known(d.kind) {
-        return false;
-    }
-    if arg_below(names, d.kind) <= d.arg as usize {
-        return false;
-    }
-    if !count_stands(d.kind, d.children) {
-        return false;
-    }
-    span_stands(d)
-}
-
-// As a call of its own, a kind asks no proof that it fits.
-fn place_of(kind: u32) -> usize
-    ensures { λ r. ⌜ r ≡ kind ⌝ }
-{
-    kind as usize
-}
-
-// Most nodes are seen to stand by three limits of their kind, read from tables. Where they do not, `record_stands`
-// decides.
-fn plainly_stands(below: &ByKind, fewest: &ByKind, most: &ByKind, d: Node) -> bool
-    ensures { λ r. ⌜ r ≡ plain (now (below .entry)) (now (fewest .entry)) (now (most .entry)) (nodeMeans d) ⌝ }
-{
-    let k = place_of(d.kind);
-    if KINDS <= k {
-        return false;
-    }
-    if below[k] <= d.arg {
-        return false;
-    }
-    if d.children < fewest[k] {
-        return false;
-    }
-    d.children <= most[k]
-}
-
-// The end is tested first, so that nothing is left to do where the limits hold.
-fn node_stands(
-    image: &[u8],
-    below: &ByKind,
-    fewest: &ByKind,
-    most: &ByKind,
-    names: usize,
-    nodes: usize,
-    count: usize,
-    i: usize,
-) -> bool
-    requires { ⌜ Headed (now image) ⌝ }
-    requires { ⌜ (nodes ≡ nodesFrom (now image)) × (i < nodeCount (now image)) ⌝ }
-    requires { ⌜ (now below ≡ argLimits names) × (now fewest ≡ fewestChildren)
-        × (now most ≡ mostChildren) ⌝ }
     ensures { λ r. ⌜ r ≡ nodeStands names count i (nodeOf (nodesOf (now (image .entry))) i) ⌝ }
 {
     let d = node_at(image, nodes, i);
@@ -620,30 +587,18 @@ fn node_stands(
     if count < stop {
         return false;
     }
-    if plainly_stands(below, fewest, most, d) {
-        return true;
-    }
-    record_stands(image, names, nodes, i)
+    record_stands(names, d)
 }
 
-// The tables are made once, here: a constant is made anew wherever it is named. The arg of a For, a Def or a Variable
-// is a name.
 fn broken_node(image: &[u8], names: usize, nodes: usize, count: usize) -> Found
     requires { ⌜ Headed (now image) ⌝ }
     requires { ⌜ (names ≡ nameCount (now image)) × (nodes ≡ nodesFrom (now image))
         × (count ≡ nodeCount (now image)) ⌝ }
     ensures { λ r. ⌜ placeOf r ≡ brokenNode (now (image .entry)) ⌝ }
 {
-    let n = names as u32;
-    let mut below = BELOW;
-    below[by_kind::FOR] = n;
-    below[by_kind::DEF] = n;
-    below[by_kind::VARIABLE] = n;
-    let fewest = FEWEST;
-    let most = MOST;
     let mut i = 0;
     while i < count {
-        if !node_stands(image, &below, &fewest, &most, names, nodes, count, i) {
+        if !node_stands(image, names, nodes, count, i) {
             return Found::At(i);
         }
         i += 1;
@@ -768,13 +723,6 @@ fn badly_nested(image: &[u8], nodes: usize, count: usize) -> Found
 
 // ---- 8: depth
 
-// As a call of its own, a count asks no proof that it fits.
-fn wide(n: u16) -> usize
-    ensures { λ r. ⌜ r ≡ n ⌝ }
-{
-    n as usize
-}
-
 // Linear: `around` nodes before node i end behind it, so it lies at depth around + 1. Of these and itself, those that
 // end at i + 1 are around no more, and `ends` has how many they are, plus 1. After 6 this needs no nesting: it is
 // counting alone.
@@ -796,7 +744,7 @@ fn deep_by_counting(image: &[u8], nodes: usize, count: usize) -> Found
         let stop = d.stop as usize;
         ends[stop] = ends[stop] + 1;
         i += 1;
-        around = around + 2 - wide(ends[i]);
+        around = around + 2 - wide16(ends[i]);
     }
     Found::Nowhere
 }

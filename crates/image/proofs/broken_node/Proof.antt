@@ -1,12 +1,11 @@
 -- The answers stand by name in answers/broken_node.txt.
 use Rattle.image.proofs.Searches.{first-end, first-fails, first-next}
 use Rattle.meaning.proofs.Nesting.{nodes-many}
-use Rattle.meaning.proofs.Faults.{sizes}
 use Rattle.meaning.specs.Image.{nameCount, nodeCount, nodeOf, nodesOf, nodeStands, firstNot, brokenNode}
 use Prim.Native.Nat.{_-_, _≤_, _<_}
 use lib.ListN.{length, drop}
 use borrow.Author.Tests.{not-true, not-false}
-use mathlib.Core.Path.{_≡_, refl, sym, _∙_}
+use mathlib.Core.Path.{_≡_, sym, _∙_}
 use native.Mathlib.Omega.{arith}
 use borrow.Author.Needs.{needs}
 use Rattle.image.proofs.broken_node.Statement.{statement}
@@ -17,23 +16,10 @@ use Rattle.image.proofs.node_stands.Reads as node-stands-reads
 
 -- the nodes from i on answer what all answer
 abbrev Inv-loop : tie.InvT-loop
-Inv-loop image names nodes count n below fewest most i₀ i = (i ≤ count) × (firstNot (nodeStands (nameCount image) (nodeCount image)) i (drop i (nodesOf image)) ≡ brokenNode image)
+Inv-loop image names nodes count i₀ i = (i ≤ count) × (firstNot (nodeStands (nameCount image) (nodeCount image)) i (drop i (nodesOf image)) ≡ brokenNode image)
 
 abbrev μ-loop : tie.MeasureT-loop
-μ-loop image names nodes count n below fewest most i₀ i = count - i
-
-cast-n : tie.Need-cast-n Inv-loop μ-loop
-cast-n c =
-    omega (arith, sizes (c .before .pre .0))
-
-array-write-below : tie.Need-array-write-below Inv-loop μ-loop
-array-write-below c = search needs
-
-array-write-below-2 : tie.Need-array-write-below-2 Inv-loop μ-loop
-array-write-below-2 c = search needs
-
-array-write-below-3 : tie.Need-array-write-below-3 Inv-loop μ-loop
-array-write-below-3 c = search needs
+μ-loop image names nodes count i₀ i = count - i
 
 loop-holds : tie.Need-loop-holds Inv-loop μ-loop
 unfolding brokenNode
@@ -41,15 +27,15 @@ loop-holds c = search needs
 
 node-stands-requires : tie.Need-node-stands-requires Inv-loop μ-loop
 node-stands-requires c κs =
-    (c .before .before .before .before .before .before .pre .0, ((c .before .before .before .before .before .before .pre .1 .1, omega arith), (refl, refl, refl)))
+    (c .before .before .before .pre .0, (c .before .before .before .pre .1 .1, omega arith))
 
 returns : tie.Need-returns Inv-loop μ-loop
 unfolding nodeOf
 returns c =
-    let bs = c .before .before .before .before .before .before .before .before .args .image .now in
-    let inside : c .before .before .before .before .before .before .loop .i < length (nodesOf bs) = rw nodes-many (omega arith) in
-    let stands = rw (c .before .before .before .before .before .before .before .before .pre .1 .0, c .before .before .before .before .before .before .before .before .pre .1 .2) at (sym (c .before .node-stands .ensures) ∙ not-true _ (c .if1 .taken)) in
-    sym (first-fails (nodeStands (nameCount bs) (nodeCount bs)) (nodesOf bs) (c .before .before .before .before .before .before .loop .i) _ inside stands) ∙ c .before .before .before .before .before .before .loop .inv .1
+    let bs = c .before .before .before .before .before .args .image .now in
+    let inside : c .before .before .before .loop .i < length (nodesOf bs) = rw nodes-many (omega arith) in
+    let stands = rw (c .before .before .before .before .before .pre .1 .0, c .before .before .before .before .before .pre .1 .2) at (sym (c .before .node-stands .ensures) ∙ not-true _ (c .if1 .taken)) in
+    sym (first-fails (nodeStands (nameCount bs) (nodeCount bs)) (nodesOf bs) (c .before .before .before .loop .i) _ inside stands) ∙ c .before .before .before .loop .inv .1
 
 add-i : tie.Need-add-i Inv-loop μ-loop
 add-i c = search needs
@@ -60,10 +46,10 @@ loop-less c = search needs
 loop-again : tie.Need-loop-again Inv-loop μ-loop
 unfolding nodeOf
 loop-again c =
-    let bs = c .before .before .before .before .before .before .before .before .args .image .now in
-    let inside : c .before .before .before .before .before .before .loop .i < length (nodesOf bs) = rw nodes-many (omega arith) in
-    let stands = rw (c .before .before .before .before .before .before .before .before .pre .1 .0, c .before .before .before .before .before .before .before .before .pre .1 .2) at (sym (c .before .node-stands .ensures) ∙ not-false _ (c .if1 .left)) in
-    (omega arith, sym (first-next (nodeStands (nameCount bs) (nodeCount bs)) (nodesOf bs) (c .before .before .before .before .before .before .loop .i) _ inside stands) ∙ c .before .before .before .before .before .before .loop .inv .1)
+    let bs = c .before .before .before .before .before .args .image .now in
+    let inside : c .before .before .before .loop .i < length (nodesOf bs) = rw nodes-many (omega arith) in
+    let stands = rw (c .before .before .before .before .before .pre .1 .0, c .before .before .before .before .before .pre .1 .2) at (sym (c .before .node-stands .ensures) ∙ not-false _ (c .if1 .left)) in
+    (omega arith, sym (first-next (nodeStands (nameCount bs) (nodeCount bs)) (nodesOf bs) (c .before .before .before .loop .i) _ inside stands) ∙ c .before .before .before .loop .inv .1)
 
 returns-2 : tie.Need-returns-2 Inv-loop μ-loop
 returns-2 c =
@@ -77,10 +63,6 @@ broken-node-spec =
     (tie.spec
     Inv-loop
     μ-loop
-    cast-n
-    array-write-below
-    array-write-below-2
-    array-write-below-3
     loop-holds
     node-stands-requires
     returns

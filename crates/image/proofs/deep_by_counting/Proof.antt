@@ -16,7 +16,6 @@ use Rattle.image.proofs.deep_by_counting.Tie as tie
 use Rattle.image.proofs.deep_by_counting.Reads as reads
 use Rattle.image.proofs.deep_by_counting.Lts as lts
 use Rattle.image.proofs.node_at.Reads as node-at-reads
-use Rattle.image.proofs.wide.Reads as wide-reads
 
 -- `ends` counts the ends of the nodes before i, `around` those that end behind i; the nodes from i on answer what all answer
 abbrev Inv-loop : tie.InvT-loop
@@ -76,16 +75,16 @@ add-i c = search needs
 add-around : tie.Need-add-around Inv-loop μ-loop
 add-around c = search needs
 
-mul-wide : tie.Need-mul-wide Inv-loop μ-loop
-mul-wide c =
+mul-wide16 : tie.Need-mul-wide16 Inv-loop μ-loop
+mul-wide16 c =
     omega (arith, sizes (c .before .before .before .before .before .before .pre .0))
 
-array-read-wide : tie.Need-array-read-wide Inv-loop μ-loop
-array-read-wide c =
+array-read-wide16 : tie.Need-array-read-wide16 Inv-loop μ-loop
+array-read-wide16 c =
     omega (arith, sizes (c .before .before .before .before .before .before .pre .0))
 
-wide-requires : tie.Need-wide-requires Inv-loop μ-loop
-wide-requires c κs =
+wide16-requires : tie.Need-wide16-requires Inv-loop μ-loop
+wide16-requires c κs =
     search needs
 
 sub-around : tie.Need-sub-around Inv-loop μ-loop
@@ -99,7 +98,7 @@ sub-around c =
     let next = counted-next ds (l .i) inside (l .ends) (l .inv .1) (c .before .before .node-at .result .stop) stop fits in
     let closed = next .each (l .i + 1) (omega (arith, sizes (c .before .before .before .before .before .before .before .pre .0))) in
     let further = held-next ds (l .i) inside (stands .above) in
-    omega (arith, c .wide .ensures)
+    omega (arith, c .wide16 .ensures .0)
 
 loop-less : tie.Need-loop-less Inv-loop μ-loop
 loop-less c = search needs
@@ -117,7 +116,7 @@ loop-again c =
     let further = held-next ds (l .i) inside (stands .above) in (
       omega arith,
       next,
-      omega (arith, c .wide .ensures),
+      omega (arith, c .wide16 .ensures .0),
       sym (first-next (λ (i : ℕ) (d : Node). leb (depth i 0 ds) 64) ds (l .i) noNode inside (shallow ds (l .i) inside (stands .above) (l .inv .2) (omega arith))) ∙ l .inv .3,
     )
 
@@ -144,9 +143,9 @@ deep-by-counting-spec =
     array-write-ends
     add-i
     add-around
-    mul-wide
-    array-read-wide
-    wide-requires
+    mul-wide16
+    array-read-wide16
+    wide16-requires
     sub-around
     loop-less
     loop-again
