@@ -9,26 +9,11 @@ use native.Mathlib.Numerals.{add-one}
 use native.Mathlib.Omega.{arith}
 use lib.ListN.{length, getD, take, drop, length-take, length-drop, drop-of-length-le}
 use lib.Seq.{drop-cons}
-use borrow.Author.Tests.{eq-eqb, ne-eqb, le-leb, lt-leb, eqb-true, leb-true}
-use Rattle.meaning.specs.Base.{_and_, if_then_else_, all}
-use Rattle.meaning.specs.Image.{NameRecord, firstNot, wrongName, printable, textStands}
+use borrow.Author.Tests.{eq-eqb, ne-eqb, eqb-true, leb-true}
+use Rattle.meaning.specs.Base.{if_then_else_}
+use Rattle.meaning.specs.Image.{NameRecord, firstNot, wrongName, textStands}
 use Rattle.meaning.proofs.Choices.{and-left, and-right, if-none}
 use Rattle.image.specs.Parts.{noRecord, recordOf, nameStands}
-
--- ---- a test of each element
-
-module _ (f : ℕ → Bool) (s : List ℕ) (i : ℕ) where
-  pub all-end : length s ≤ i → all f (drop i s) ≡ true
-  unfolding all
-  all-end h = rw (drop-of-length-le s h)
-
-  pub all-fails : i < length s → f (getD s i 0) ≡ false → all f (drop i s) ≡ false
-  unfolding all _and_
-  all-fails h e = rw (drop-cons s i 0 h, e)
-
-  pub all-next : i < length s → f (getD s i 0) ≡ true → all f (drop i s) ≡ all f (drop (i + 1) s)
-  unfolding all _and_
-  all-next h e = rw (drop-cons s i 0 h, e, add-one)
 
 -- ---- the first that fails a test
 
@@ -85,18 +70,3 @@ names-fit texts i from last [] e k h = absurd (not-suc-le-zero h)
 names-fit texts i from last (r ∷ rs) e zero h = let f = name-fits texts from last r (if-none _ _ _ e .0) in omega arith
 names-fit texts i from last (r ∷ rs) e (suc k) h =
     names-fit texts (suc i) (from + r .size) (take (r .size) (drop from texts)) rs (if-none _ _ _ e .1) k (le-of-suc-le-suc h)
-
--- ---- "each byte is 33..126"
-
-module _ (b : ℕ) where
-  pub unprinted-low : b < 33 → printable b ≡ false
-  unfolding printable _and_
-  unprinted-low h = rw (lt-leb 33 b h)
-
-  pub unprinted-high : 126 < b → printable b ≡ false
-  unfolding printable _and_
-  unprinted-high h = rw (le-leb 33 b (omega arith), lt-leb b 126 h)
-
-  pub printed : 33 ≤ b → b ≤ 126 → printable b ≡ true
-  unfolding printable _and_
-  printed l u = rw (le-leb 33 b l, le-leb b 126 u)

@@ -5,12 +5,12 @@ ghost use Prim.Native.Nat.{suc, _+_, _-_, _*_, _%_, _<_, _≤_};
 ghost use lib.Dec.{eqb, leb, ltb};
 ghost use lib.ListN.{length, take, drop};
 ghost use Rattle.meaning.specs.Image.{nameCount, nodeCount, nodesFrom, textsFrom, node, nodesOf, nodeOf, nameRecord};
-ghost use Rattle.meaning.specs.Image.{nameRecords, textsOf, namesOf, nameOf, printable, textStands, roleStands};
+ghost use Rattle.meaning.specs.Image.{nameRecords, textsOf, namesOf, nameOf, roleStands};
 ghost use Rattle.meaning.specs.Image.{roleOf, allows, safe, brokenName, unsafeName, isStatement};
 ghost use Rattle.meaning.specs.Image.{isExpression, nodeStands, brokenNode, belongs, lands};
 ghost use Rattle.meaning.specs.Image.{nests, badlyNested, tooDeepNode, headStands, countsStand, offsetsStand};
 ghost use Rattle.meaning.specs.Image.{imageFault};
-ghost use Rattle.meaning.specs.Base.{_and_, _or_, if_then_else_, all, isOneOf};
+ghost use Rattle.meaning.specs.Base.{_and_, _or_, if_then_else_, isOneOf};
 ghost use Rattle.meaning.proofs.Faults.{Headed};
 ghost use Rattle.image.specs.Kinds.{recordStands, rootStands};
 ghost use Rattle.image.specs.Outcome.{faultOf, placeOf};
@@ -23,14 +23,13 @@ pub mod literals;
 pub mod roles;
 
 use limits::DEEPEST;
-use limits::LONGEST_NAME;
 use limits::MOST_NAMES;
 use limits::MOST_NODES;
 use limits::MOST_TEXT;
-use words::before;
 use words::get_word;
 use words::same;
 use words::text;
+use words::text_stands;
 use words::wide16;
 
 // "Name record, 5 words: text start, text length 1..64, role, p, q": the bytes at which all but the first start.
@@ -56,11 +55,6 @@ const BEGINS: usize = 16;
 const ENDS: usize = 20;
 
 const NODE_RECORD: usize = 24;
-
-// "Each byte is 33..126."
-const FIRST_PRINTABLE: u8 = 33;
-
-const LAST_PRINTABLE: u8 = 126;
 
 // An arg is below one of these, or below the number of names: "Unused arg .. [is] 0"; "20 Literal (arg 0..4 ..);
 // 22 Unary (0..2); 23 Binary (0..13)".
@@ -269,37 +263,6 @@ pub fn name_text(image: &[u8], texts: usize, k: usize) -> &[u8]
 }
 
 // ---- 4: names and their texts
-
-fn all_printable(s: &[u8]) -> bool
-    ensures { λ r. ⌜ r ≡ all printable (now (s .entry)) ⌝ }
-{
-    let mut i = 0;
-    while i < s.len() {
-        if s[i] < FIRST_PRINTABLE {
-            return false;
-        }
-        if LAST_PRINTABLE < s[i] {
-            return false;
-        }
-        i += 1;
-    }
-    true
-}
-
-pub fn text_stands(last: &[u8], s: &[u8]) -> bool
-    ensures { λ r. ⌜ r ≡ textStands (now (last .entry)) (now (s .entry)) ⌝ }
-{
-    if s.len() < 1 {
-        return false;
-    }
-    if LONGEST_NAME < s.len() {
-        return false;
-    }
-    if !all_printable(s) {
-        return false;
-    }
-    before(last, s)
-}
 
 fn role_stands(r: NameAt) -> bool
     ensures { λ s. ⌜ s ≡ roleStands (nameMeans r) ⌝ }

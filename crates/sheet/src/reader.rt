@@ -24,7 +24,6 @@ use crate::records::SECOND_WORD;
 use crate::records::THIRD_WORD;
 use crate::records::TYPE_RECORD;
 use crate::writer::write;
-use image::text_stands;
 use limits::LARGEST_SHEET;
 use limits::LONGEST_NAME;
 use limits::MOST_ELEMENTS;
@@ -46,6 +45,7 @@ use types::tuple_of;
 use words::get_word;
 use words::same;
 use words::text;
+use words::text_stands;
 use words::wide16;
 use words::wide32;
 

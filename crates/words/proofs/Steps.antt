@@ -8,8 +8,9 @@ use native.Mathlib.Omega.{arith}
 use lib.Dec.{eqb, ltb}
 use lib.ListN.{length, getD, set, drop, drop-of-length-le}
 use lib.Seq.{drop-cons, sets-eq}
-use borrow.Author.Tests.{eq-eqb, ne-eqb, ltb-true, ltb-false}
-use Rattle.meaning.specs.Base.{_and_, if_then_else_, sameText, before, decimal}
+use borrow.Author.Tests.{eq-eqb, ne-eqb, le-leb, lt-leb, ltb-true, ltb-false}
+use Rattle.meaning.specs.Base.{_and_, if_then_else_, all, sameText, before, decimal}
+use Rattle.meaning.specs.Image.{printable}
 use Rattle.meaning.proofs.SheetWords.{Small}
 use Rattle.words.specs.Words.{putAt}
 use Rattle.words.proofs.Laws.{put-byte, put-put-back, decimal-one, decimal-more, decimal-longer}
@@ -60,6 +61,36 @@ module _ (a b : List ℕ) (i : ℕ) where
     pub before-agree : getD a i 0 ≡ getD b i 0 → before (drop i a) (drop i b) ≡ before (drop (i + 1) a) (drop (i + 1) b)
     unfolding before if_then_else_
     before-agree e = rw (drop-cons a i 0 ha, drop-cons b i 0 hb, eq-eqb _ _ e, add-one)
+
+-- ---- a test of each element
+
+module _ (f : ℕ → Bool) (s : List ℕ) (i : ℕ) where
+  pub all-end : length s ≤ i → all f (drop i s) ≡ true
+  unfolding all
+  all-end h = rw (drop-of-length-le s h)
+
+  pub all-fails : i < length s → f (getD s i 0) ≡ false → all f (drop i s) ≡ false
+  unfolding all _and_
+  all-fails h e = rw (drop-cons s i 0 h, e)
+
+  pub all-next : i < length s → f (getD s i 0) ≡ true → all f (drop i s) ≡ all f (drop (i + 1) s)
+  unfolding all _and_
+  all-next h e = rw (drop-cons s i 0 h, e, add-one)
+
+-- ---- "each byte is 33..126"
+
+module _ (b : ℕ) where
+  pub unprinted-low : b < 33 → printable b ≡ false
+  unfolding printable _and_
+  unprinted-low h = rw (lt-leb 33 b h)
+
+  pub unprinted-high : 126 < b → printable b ≡ false
+  unfolding printable _and_
+  unprinted-high h = rw (le-leb 33 b (omega arith), lt-leb b 126 h)
+
+  pub printed : 33 ≤ b → b ≤ 126 → printable b ≡ true
+  unfolding printable _and_
+  printed l u = rw (le-leb 33 b l, le-leb b 126 u)
 
 -- ---- stores
 

@@ -1,11 +1,13 @@
-// Bytes and words: widened, read, written, compared, copied, and numbers in decimal. Everything stands in a slice that
-// the caller lends.
+// Bytes and words: widened, read, written, compared, copied, the texts of names, and numbers in decimal. Everything
+// stands in a slice that the caller lends.
 ghost use mathlib.Core.Path.{_≡_};
 ghost use mathlib.Core.List.{[], _∷_};
 ghost use Prim.Native.Nat.{_+_, _<_, _≤_};
 ghost use lib.ListN.{length, take, drop};
-ghost use Rattle.meaning.specs.Base.{word, words, sameText, before as comesBefore, decimal};
+ghost use Rattle.meaning.specs.Base.{word, words, sameText, before as comesBefore, decimal, all};
+ghost use Rattle.meaning.specs.Image.{printable, textStands};
 ghost use Rattle.words.specs.Words.{putAt};
+use limits::LONGEST_NAME;
 
 // ---- numbers made wider, one function for each width: as a call of its own, a number asks no proof that it fits
 
@@ -101,6 +103,46 @@ pub fn before(a: &[u8], b: &[u8]) -> bool
         i += 1;
     }
     i < b.len()
+}
+
+// ---- what a text of a name may be
+
+// "Each byte is 33..126."
+const FIRST_PRINTABLE: u8 = 33;
+
+const LAST_PRINTABLE: u8 = 126;
+
+fn all_printable(s: &[u8]) -> bool
+    ensures { λ r. ⌜ r ≡ all printable (now (s .entry)) ⌝ }
+{
+    let mut i = 0;
+    while i < s.len() {
+        if s[i] < FIRST_PRINTABLE {
+            return false;
+        }
+        if LAST_PRINTABLE < s[i] {
+            return false;
+        }
+        i += 1;
+    }
+    true
+}
+
+// "Text length 1..64"; texts "ascend strictly as byte strings": an image's names and a sheet's. `last` is the text
+// before.
+pub fn text_stands(last: &[u8], s: &[u8]) -> bool
+    ensures { λ r. ⌜ r ≡ textStands (now (last .entry)) (now (s .entry)) ⌝ }
+{
+    if s.len() < 1 {
+        return false;
+    }
+    if LONGEST_NAME < s.len() {
+        return false;
+    }
+    if !all_printable(s) {
+        return false;
+    }
+    before(last, s)
 }
 
 // ---- copies

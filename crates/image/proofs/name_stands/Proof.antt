@@ -11,7 +11,7 @@ use Rattle.image.proofs.name_stands.Tie as tie
 use Rattle.image.proofs.name_stands.Reads as reads
 use Rattle.image.proofs.name_stands.Lts as lts
 use Rattle.image.proofs.role_stands.Reads as role-stands-reads
-use Rattle.image.proofs.text_stands.Reads as text-stands-reads
+use Rattle.words.proofs.text_stands.Reads as text-stands-reads
 use Rattle.words.proofs.text.Reads as text-reads
 
 cast-if1 : tie.Need-cast-if1

@@ -8,7 +8,7 @@ use Rattle.sheet.proofs.reader.texts_stand.Statement.{statement}
 use Rattle.sheet.proofs.reader.texts_stand.Tie as tie
 use Rattle.sheet.proofs.reader.texts_stand.Reads as reads
 use Rattle.sheet.proofs.reader.texts_stand.Lts as lts
-use Rattle.image.proofs.text_stands.Reads as text-stands-reads
+use Rattle.words.proofs.text_stands.Reads as text-stands-reads
 use Rattle.sheet.proofs.list.length_of.Reads as length-of-reads
 use Rattle.sheet.proofs.list.start_of.Reads as start-of-reads
 use Rattle.words.proofs.text.Reads as text-reads

@@ -3,14 +3,14 @@ use Prim.Native.Nat.{_-_, _≤_}
 use lib.ListN.{length, drop}
 use Rattle.meaning.specs.Image.{printable}
 use Rattle.meaning.specs.Base.{all}
-use Rattle.image.proofs.Searches.{all-end, all-fails, all-next, unprinted-low, unprinted-high, printed}
+use Rattle.words.proofs.Steps.{all-end, all-fails, all-next, unprinted-low, unprinted-high, printed}
 use mathlib.Core.Path.{_≡_, sym, _∙_}
 use native.Mathlib.Omega.{arith}
 use borrow.Author.Needs.{needs}
-use Rattle.image.proofs.all_printable.Statement.{statement}
-use Rattle.image.proofs.all_printable.Tie as tie
-use Rattle.image.proofs.all_printable.Reads as reads
-use Rattle.image.proofs.all_printable.Lts as lts
+use Rattle.words.proofs.all_printable.Statement.{statement}
+use Rattle.words.proofs.all_printable.Tie as tie
+use Rattle.words.proofs.all_printable.Reads as reads
+use Rattle.words.proofs.all_printable.Lts as lts
 
 -- what is left of the text answers what all of it answers
 abbrev Inv-loop : tie.InvT-loop

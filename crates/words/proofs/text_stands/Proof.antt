@@ -3,12 +3,12 @@ use Rattle.meaning.specs.Image.{textStands}
 use Rattle.meaning.specs.Base.{_and_}
 use borrow.Author.Tests.{le-leb, lt-leb, not-true, not-false}
 use borrow.Author.Needs.{needs}
-use Rattle.image.proofs.text_stands.Statement.{statement}
-use Rattle.image.proofs.text_stands.Tie as tie
-use Rattle.image.proofs.text_stands.Reads as reads
-use Rattle.image.proofs.text_stands.Lts as lts
-use Rattle.image.proofs.all_printable.Reads as all-printable-reads
+use Rattle.words.proofs.text_stands.Statement.{statement}
+use Rattle.words.proofs.text_stands.Tie as tie
+use Rattle.words.proofs.text_stands.Reads as reads
+use Rattle.words.proofs.text_stands.Lts as lts
+use Rattle.words.proofs.all_printable.Reads as all-printable-reads
 use Rattle.words.proofs.before.Reads as before-reads
 
 returns : tie.Need-returns
 unfolding textStands _and_
