@@ -7,6 +7,8 @@ ghost use Rattle.types.specs.Table.{mostNumbers};
 ghost use Rattle.state.specs.Notes.{typesIn, elementsIn, Noting, Counted, Refused};
 use limits::MOST_NODES;
 use types::Counts;
+use words::wide16;
+use words::wide32;
 
 // ---- the walk's answers
 
@@ -49,12 +51,6 @@ pub type Notes = [u32; NOTED];
 // A cell of the notes holds the numbers below this.
 const CELL_ROOM: usize = 4294967296;
 
-fn full(x: u32) -> usize
-    ensures { λ r. ⌜ r ≡ x ⌝ }
-{
-    x as usize
-}
-
 // A number as a cell has it.
 pub fn small(n: usize) -> u32
     requires { ⌜ n < 4294967296 ⌝ }
@@ -79,8 +75,8 @@ pub fn counts_of(notes: &Notes) -> Counts
         × (r .elements ≡ elementsIn (now (notes .entry))) ⌝ }
 {
     Counts {
-        types: full(notes[TYPES]),
-        elements: full(notes[ELEMENTS]),
+        types: wide32(notes[TYPES]),
+        elements: wide32(notes[ELEMENTS]),
     }
 }
 
@@ -109,18 +105,12 @@ pub fn refuse(notes: &mut Notes, code: u32, place: usize, a: usize, b: usize)
 // The types of children that wait for their parent's rule, at most one for each node.
 pub type Stack = [u16; MOST_NODES];
 
-fn wide(x: u16) -> usize
-    ensures { λ r. ⌜ r ≡ x ⌝ }
-{
-    x as usize
-}
-
 // The type that stands at a place of the stack.
 pub fn type_at(stack: &Stack, at: usize) -> usize
     requires { ⌜ at < mostNodes ⌝ }
     ensures { λ r. ⌜ r ≡ getD (now (stack .entry)) at 0 ⌝ }
 {
-    wide(stack[at])
+    wide16(stack[at])
 }
 
 pub fn push(stack: &mut Stack, at: usize, number: usize)

@@ -51,6 +51,7 @@ use types;
 use types::Counts;
 use types::agreed;
 use types::element_of;
+use words::wide32;
 
 // The row of a frame that has no room for one more.
 const LAST_FRAME: usize = MOST_FRAMES - 1;
@@ -72,12 +73,6 @@ pub enum End {
     Done,
     Wrong,
     TooDeep,
-}
-
-fn wide(x: u32) -> usize
-    ensures { λ r. ⌜ r ≡ x ⌝ }
-{
-    x as usize
 }
 
 // The end of a statement that cannot need a frame.
@@ -168,7 +163,7 @@ fn give(
     let Typed::Ok(ty) = v else {
         return Outcome::Err;
     };
-    let ret = wide(notes[RETURNS]);
+    let ret = wide32(notes[RETURNS]);
     let both = agreed(ret, ty);
     if both.there {
         notes[RETURNS] = small(both.number);
@@ -343,7 +338,7 @@ fn tc_stmt(
         kinds::FOR => each(image, here, rows, table, notes, stack, d, plain),
         kinds::DEF => define(image, here, rows, table, notes, stack, d, plain),
         _ => {
-            let top = wide(notes[TOP]);
+            let top = wide32(notes[TOP]);
             let r = simple(image, here, rows, top, table, notes, stack, d, looped);
             end_of(r)
         }
@@ -413,7 +408,7 @@ fn choices(
     let read = here.next(image);
     let node = read.node;
     let condition = read.cursor;
-    let top = wide(notes[TOP]);
+    let top = wide32(notes[TOP]);
     let mut next = condition;
     let mut left = node.children as usize;
     while 0 < left {
@@ -430,7 +425,7 @@ fn choices(
             looped,
             plain,
         );
-        let high = wide(notes[TOP]);
+        let high = wide32(notes[TOP]);
         notes[TOP] = small(top);
         let End::Done = r else {
             return r;
@@ -469,7 +464,7 @@ fn one_arm(
 {
     let drops = plain;
     if 1 < left {
-        let top = wide(notes[TOP]);
+        let top = wide32(notes[TOP]);
         let o = ensure_bool(image, here, rows, top, table, notes, stack, depth);
         let Outcome::Ok = o else {
             return End::Wrong;
@@ -519,7 +514,7 @@ fn define(
         (lent (now (rows .entry)) (now (table .entry)) (now (notes .entry)) (now (stack .entry)))
         (lent (now (rows .exit)) (now (table .exit)) (now (notes .exit)) (now (stack .exit))) ⌝ }
 {
-    let top = wide(notes[TOP]);
+    let top = wide32(notes[TOP]);
     let ret = notes[RETURNS];
     if LAST_FRAME <= top {
         refuse(notes, codes::NINTH_FRAME, here.at, 0, 0);
@@ -569,7 +564,7 @@ fn each(
         (lent (now (rows .entry)) (now (table .entry)) (now (notes .entry)) (now (stack .entry)))
         (lent (now (rows .entry)) (now (table .exit)) (now (notes .exit)) (now (stack .exit))) ⌝ }
 {
-    let top = wide(notes[TOP]);
+    let top = wide32(notes[TOP]);
     let read = here.next(image);
     let node = read.node;
     let iterable = read.cursor;
@@ -613,7 +608,7 @@ fn repeat(
         (lent (now (rows .entry)) (now (table .entry)) (now (notes .entry)) (now (stack .entry)))
         (lent (now (rows .entry)) (now (table .exit)) (now (notes .exit)) (now (stack .exit))) ⌝ }
 {
-    let top = wide(notes[TOP]);
+    let top = wide32(notes[TOP]);
     let read = here.next(image);
     let condition = read.cursor;
     let o = ensure_bool(image, condition, rows, top, table, notes, stack, depth);
@@ -695,11 +690,11 @@ pub fn typecheck_program(
             return Walked {
                 end: r,
                 code: notes[CODE],
-                place: wide(notes[PLACE]),
-                a: wide(notes[FIRST]),
-                b: wide(notes[SECOND]),
+                place: wide32(notes[PLACE]),
+                a: wide32(notes[FIRST]),
+                b: wide32(notes[SECOND]),
                 counts: counts_of(&notes),
-                top: wide(notes[TOP]),
+                top: wide32(notes[TOP]),
             };
         };
         let passed = next.over(image);
@@ -713,6 +708,6 @@ pub fn typecheck_program(
         a: 0,
         b: 0,
         counts: counts_of(&notes),
-        top: wide(notes[TOP]),
+        top: wide32(notes[TOP]),
     }
 }

@@ -55,7 +55,7 @@ use Rattle.stmt.proofs.ensure_bool.Reads as ensure-bool-reads
 use Rattle.stmt.proofs.fewer.Reads as fewer-reads
 use Rattle.stmt.proofs.parameters.Reads as parameters-reads
 use Rattle.stmt.proofs.simple.Reads as simple-reads
-use Rattle.stmt.proofs.wide.Reads as wide-reads
+use Rattle.words.proofs.wide32.Reads as wide32-reads
 use Rattle.stmt.proofs.+block+choices+define+each+one_arm+repeat+tc_stmt.{statement}
 use Rattle.stmt.proofs.+block+choices+define+each+one_arm+repeat+tc_stmt.Tie.{close}
 
@@ -208,25 +208,25 @@ abbrev choices-μ-loop : choices-lts.MeasureT-loop
 choices-μ-loop image rows table₀ notes₀ stack₀ depth looped plain merged₀ clashes₀ condition top next₀ left₀ table notes stack merged clashes next left =
     left
 
-choices-next-requires : (t : ℕ) → choices-lts.Need-next-requires (next-reads.Asked, next-reads.Learnt, wide-reads.Asked, wide-reads.Learnt, one-arm-below t, one-arm.Post, small-reads.Asked, small-reads.Learnt, note-branch-reads.Asked, note-branch-reads.Learnt, after-arm-reads.Asked, after-arm-reads.Learnt, fewer-reads.Asked, fewer-reads.Learnt, commit-reads.Asked, commit-reads.Learnt, refuse-reads.Asked, refuse-reads.Learnt) (choices-at t) choices.Post choices-Inv-loop choices-μ-loop
+choices-next-requires : (t : ℕ) → choices-lts.Need-next-requires (next-reads.Asked, next-reads.Learnt, wide32-reads.Asked, wide32-reads.Learnt, one-arm-below t, one-arm.Post, small-reads.Asked, small-reads.Learnt, note-branch-reads.Asked, note-branch-reads.Learnt, after-arm-reads.Asked, after-arm-reads.Learnt, fewer-reads.Asked, fewer-reads.Learnt, commit-reads.Asked, commit-reads.Learnt, refuse-reads.Asked, refuse-reads.Learnt) (choices-at t) choices.Post choices-Inv-loop choices-μ-loop
 choices-next-requires t c κs =
     (((c .before .before .pre .1 .1 .0) .ready .sound) .headed, record { nodes = (c .before .before .pre .1 .1 .0) .ready .nodes-at; within = (c .before .before .pre .1 .1 .1) .there })
 
-choices-element-copy-out-wide : (t : ℕ) → choices-lts.Need-element-copy-out-wide (next-reads.Asked, next-reads.Learnt, wide-reads.Asked, wide-reads.Learnt, one-arm-below t, one-arm.Post, small-reads.Asked, small-reads.Learnt, note-branch-reads.Asked, note-branch-reads.Learnt, after-arm-reads.Asked, after-arm-reads.Learnt, fewer-reads.Asked, fewer-reads.Learnt, commit-reads.Asked, commit-reads.Learnt, refuse-reads.Asked, refuse-reads.Learnt) (choices-at t) choices.Post choices-Inv-loop choices-μ-loop
-choices-element-copy-out-wide t c = search needs
+choices-element-copy-out-wide32 : (t : ℕ) → choices-lts.Need-element-copy-out-wide32 (next-reads.Asked, next-reads.Learnt, wide32-reads.Asked, wide32-reads.Learnt, one-arm-below t, one-arm.Post, small-reads.Asked, small-reads.Learnt, note-branch-reads.Asked, note-branch-reads.Learnt, after-arm-reads.Asked, after-arm-reads.Learnt, fewer-reads.Asked, fewer-reads.Learnt, commit-reads.Asked, commit-reads.Learnt, refuse-reads.Asked, refuse-reads.Learnt) (choices-at t) choices.Post choices-Inv-loop choices-μ-loop
+choices-element-copy-out-wide32 t c = search needs
 
-choices-wide-requires : (t : ℕ) → choices-lts.Need-wide-requires (next-reads.Asked, next-reads.Learnt, wide-reads.Asked, wide-reads.Learnt, one-arm-below t, one-arm.Post, small-reads.Asked, small-reads.Learnt, note-branch-reads.Asked, note-branch-reads.Learnt, after-arm-reads.Asked, after-arm-reads.Learnt, fewer-reads.Asked, fewer-reads.Learnt, commit-reads.Asked, commit-reads.Learnt, refuse-reads.Asked, refuse-reads.Learnt) (choices-at t) choices.Post choices-Inv-loop choices-μ-loop
-choices-wide-requires t c κs =
+choices-wide32-requires : (t : ℕ) → choices-lts.Need-wide32-requires (next-reads.Asked, next-reads.Learnt, wide32-reads.Asked, wide32-reads.Learnt, one-arm-below t, one-arm.Post, small-reads.Asked, small-reads.Learnt, note-branch-reads.Asked, note-branch-reads.Learnt, after-arm-reads.Asked, after-arm-reads.Learnt, fewer-reads.Asked, fewer-reads.Learnt, commit-reads.Asked, commit-reads.Learnt, refuse-reads.Asked, refuse-reads.Learnt) (choices-at t) choices.Post choices-Inv-loop choices-μ-loop
+choices-wide32-requires t c κs =
     search needs
 
-choices-cast-left : (t : ℕ) → choices-lts.Need-cast-left (next-reads.Asked, next-reads.Learnt, wide-reads.Asked, wide-reads.Learnt, one-arm-below t, one-arm.Post, small-reads.Asked, small-reads.Learnt, note-branch-reads.Asked, note-branch-reads.Learnt, after-arm-reads.Asked, after-arm-reads.Learnt, fewer-reads.Asked, fewer-reads.Learnt, commit-reads.Asked, commit-reads.Learnt, refuse-reads.Asked, refuse-reads.Learnt) (choices-at t) choices.Post choices-Inv-loop choices-μ-loop
+choices-cast-left : (t : ℕ) → choices-lts.Need-cast-left (next-reads.Asked, next-reads.Learnt, wide32-reads.Asked, wide32-reads.Learnt, one-arm-below t, one-arm.Post, small-reads.Asked, small-reads.Learnt, note-branch-reads.Asked, note-branch-reads.Learnt, after-arm-reads.Asked, after-arm-reads.Learnt, fewer-reads.Asked, fewer-reads.Learnt, commit-reads.Asked, commit-reads.Learnt, refuse-reads.Asked, refuse-reads.Learnt) (choices-at t) choices.Post choices-Inv-loop choices-μ-loop
 choices-cast-left t c = search needs
 
-choices-loop-holds : (t : ℕ) → choices-lts.Need-loop-holds (next-reads.Asked, next-reads.Learnt, wide-reads.Asked, wide-reads.Learnt, one-arm-below t, one-arm.Post, small-reads.Asked, small-reads.Learnt, note-branch-reads.Asked, note-branch-reads.Learnt, after-arm-reads.Asked, after-arm-reads.Learnt, fewer-reads.Asked, fewer-reads.Learnt, commit-reads.Asked, commit-reads.Learnt, refuse-reads.Asked, refuse-reads.Learnt) (choices-at t) choices.Post choices-Inv-loop choices-μ-loop
+choices-loop-holds : (t : ℕ) → choices-lts.Need-loop-holds (next-reads.Asked, next-reads.Learnt, wide32-reads.Asked, wide32-reads.Learnt, one-arm-below t, one-arm.Post, small-reads.Asked, small-reads.Learnt, note-branch-reads.Asked, note-branch-reads.Learnt, after-arm-reads.Asked, after-arm-reads.Learnt, fewer-reads.Asked, fewer-reads.Learnt, commit-reads.Asked, commit-reads.Learnt, refuse-reads.Asked, refuse-reads.Learnt) (choices-at t) choices.Post choices-Inv-loop choices-μ-loop
 choices-loop-holds t c =
-    (choosing-begin _ (standing-nodes (c .before .before .before .before .before .next .ensures .nodes) (standing-as refl (c .before .wide .ensures) refl (c .before .before .before .before .before .before .before .before .pre .1 .1 .0))) (c .before .before .before .before .before .before .before .before .pre .1 .1 .1) (c .before .before .before .before .before .next .ensures) refl, sym (c .before .wide .ensures), (c .before .before .before .before .before .before .before .before .pre .1 .0), c .before .before .before .before .before .next .ensures .nodes)
+    (choosing-begin _ (standing-nodes (c .before .before .before .before .before .next .ensures .nodes) (standing-as refl (c .before .wide32 .ensures .0) refl (c .before .before .before .before .before .before .before .before .pre .1 .1 .0))) (c .before .before .before .before .before .before .before .before .pre .1 .1 .1) (c .before .before .before .before .before .next .ensures) refl, sym (c .before .wide32 .ensures .0), (c .before .before .before .before .before .before .before .before .pre .1 .0), c .before .before .before .before .before .next .ensures .nodes)
 
-choices-one-arm-requires : (t : ℕ) → choices-lts.Need-one-arm-requires (next-reads.Asked, next-reads.Learnt, wide-reads.Asked, wide-reads.Learnt, one-arm-below t, one-arm.Post, small-reads.Asked, small-reads.Learnt, note-branch-reads.Asked, note-branch-reads.Learnt, after-arm-reads.Asked, after-arm-reads.Learnt, fewer-reads.Asked, fewer-reads.Learnt, commit-reads.Asked, commit-reads.Learnt, refuse-reads.Asked, refuse-reads.Learnt) (choices-at t) choices.Post choices-Inv-loop choices-μ-loop
+choices-one-arm-requires : (t : ℕ) → choices-lts.Need-one-arm-requires (next-reads.Asked, next-reads.Learnt, wide32-reads.Asked, wide32-reads.Learnt, one-arm-below t, one-arm.Post, small-reads.Asked, small-reads.Learnt, note-branch-reads.Asked, note-branch-reads.Learnt, after-arm-reads.Asked, after-arm-reads.Learnt, fewer-reads.Asked, fewer-reads.Learnt, commit-reads.Asked, commit-reads.Learnt, refuse-reads.Asked, refuse-reads.Learnt) (choices-at t) choices.Post choices-Inv-loop choices-μ-loop
 choices-one-arm-requires t c κs = (
   omega (arith, c .before .before .before .before .before .before .before .before .before .before .before .before .before .before .before .pre .0),
   (
@@ -238,191 +238,191 @@ choices-one-arm-requires t c κs = (
   ),
 )
 
-choices-element-copy-out-wide-2 : (t : ℕ) → choices-lts.Need-element-copy-out-wide-2 (next-reads.Asked, next-reads.Learnt, wide-reads.Asked, wide-reads.Learnt, one-arm-below t, one-arm.Post, small-reads.Asked, small-reads.Learnt, note-branch-reads.Asked, note-branch-reads.Learnt, after-arm-reads.Asked, after-arm-reads.Learnt, fewer-reads.Asked, fewer-reads.Learnt, commit-reads.Asked, commit-reads.Learnt, refuse-reads.Asked, refuse-reads.Learnt) (choices-at t) choices.Post choices-Inv-loop choices-μ-loop
-choices-element-copy-out-wide-2 t c = search needs
+choices-element-copy-out-wide32-2 : (t : ℕ) → choices-lts.Need-element-copy-out-wide32-2 (next-reads.Asked, next-reads.Learnt, wide32-reads.Asked, wide32-reads.Learnt, one-arm-below t, one-arm.Post, small-reads.Asked, small-reads.Learnt, note-branch-reads.Asked, note-branch-reads.Learnt, after-arm-reads.Asked, after-arm-reads.Learnt, fewer-reads.Asked, fewer-reads.Learnt, commit-reads.Asked, commit-reads.Learnt, refuse-reads.Asked, refuse-reads.Learnt) (choices-at t) choices.Post choices-Inv-loop choices-μ-loop
+choices-element-copy-out-wide32-2 t c = search needs
 
-choices-wide-requires-2 : (t : ℕ) → choices-lts.Need-wide-requires-2 (next-reads.Asked, next-reads.Learnt, wide-reads.Asked, wide-reads.Learnt, one-arm-below t, one-arm.Post, small-reads.Asked, small-reads.Learnt, note-branch-reads.Asked, note-branch-reads.Learnt, after-arm-reads.Asked, after-arm-reads.Learnt, fewer-reads.Asked, fewer-reads.Learnt, commit-reads.Asked, commit-reads.Learnt, refuse-reads.Asked, refuse-reads.Learnt) (choices-at t) choices.Post choices-Inv-loop choices-μ-loop
-choices-wide-requires-2 t c κs =
+choices-wide32-requires-2 : (t : ℕ) → choices-lts.Need-wide32-requires-2 (next-reads.Asked, next-reads.Learnt, wide32-reads.Asked, wide32-reads.Learnt, one-arm-below t, one-arm.Post, small-reads.Asked, small-reads.Learnt, note-branch-reads.Asked, note-branch-reads.Learnt, after-arm-reads.Asked, after-arm-reads.Learnt, fewer-reads.Asked, fewer-reads.Learnt, commit-reads.Asked, commit-reads.Learnt, refuse-reads.Asked, refuse-reads.Learnt) (choices-at t) choices.Post choices-Inv-loop choices-μ-loop
+choices-wide32-requires-2 t c κs =
     search needs
 
-choices-small-requires : (t : ℕ) → choices-lts.Need-small-requires (next-reads.Asked, next-reads.Learnt, wide-reads.Asked, wide-reads.Learnt, one-arm-below t, one-arm.Post, small-reads.Asked, small-reads.Learnt, note-branch-reads.Asked, note-branch-reads.Learnt, after-arm-reads.Asked, after-arm-reads.Learnt, fewer-reads.Asked, fewer-reads.Learnt, commit-reads.Asked, commit-reads.Learnt, refuse-reads.Asked, refuse-reads.Learnt) (choices-at t) choices.Post choices-Inv-loop choices-μ-loop
+choices-small-requires : (t : ℕ) → choices-lts.Need-small-requires (next-reads.Asked, next-reads.Learnt, wide32-reads.Asked, wide32-reads.Learnt, one-arm-below t, one-arm.Post, small-reads.Asked, small-reads.Learnt, note-branch-reads.Asked, note-branch-reads.Learnt, after-arm-reads.Asked, after-arm-reads.Learnt, fewer-reads.Asked, fewer-reads.Learnt, commit-reads.Asked, commit-reads.Learnt, refuse-reads.Asked, refuse-reads.Learnt) (choices-at t) choices.Post choices-Inv-loop choices-μ-loop
 choices-small-requires t c κs =
     omega (arith, (c .before .before .before .before .before .before .before .before .before .before .before .loop .inv .0) .spent .fit .high)
 
-choices-element-write-notes : (t : ℕ) → choices-lts.Need-element-write-notes (next-reads.Asked, next-reads.Learnt, wide-reads.Asked, wide-reads.Learnt, one-arm-below t, one-arm.Post, small-reads.Asked, small-reads.Learnt, note-branch-reads.Asked, note-branch-reads.Learnt, after-arm-reads.Asked, after-arm-reads.Learnt, fewer-reads.Asked, fewer-reads.Learnt, commit-reads.Asked, commit-reads.Learnt, refuse-reads.Asked, refuse-reads.Learnt) (choices-at t) choices.Post choices-Inv-loop choices-μ-loop
+choices-element-write-notes : (t : ℕ) → choices-lts.Need-element-write-notes (next-reads.Asked, next-reads.Learnt, wide32-reads.Asked, wide32-reads.Learnt, one-arm-below t, one-arm.Post, small-reads.Asked, small-reads.Learnt, note-branch-reads.Asked, note-branch-reads.Learnt, after-arm-reads.Asked, after-arm-reads.Learnt, fewer-reads.Asked, fewer-reads.Learnt, commit-reads.Asked, commit-reads.Learnt, refuse-reads.Asked, refuse-reads.Learnt) (choices-at t) choices.Post choices-Inv-loop choices-μ-loop
 choices-element-write-notes t c = search needs
 
-choices-enum-told : (t : ℕ) → choices-lts.Need-enum-told (next-reads.Asked, next-reads.Learnt, wide-reads.Asked, wide-reads.Learnt, one-arm-below t, one-arm.Post, small-reads.Asked, small-reads.Learnt, note-branch-reads.Asked, note-branch-reads.Learnt, after-arm-reads.Asked, after-arm-reads.Learnt, fewer-reads.Asked, fewer-reads.Learnt, commit-reads.Asked, commit-reads.Learnt, refuse-reads.Asked, refuse-reads.Learnt) (choices-at t) choices.Post choices-Inv-loop choices-μ-loop
+choices-enum-told : (t : ℕ) → choices-lts.Need-enum-told (next-reads.Asked, next-reads.Learnt, wide32-reads.Asked, wide32-reads.Learnt, one-arm-below t, one-arm.Post, small-reads.Asked, small-reads.Learnt, note-branch-reads.Asked, note-branch-reads.Learnt, after-arm-reads.Asked, after-arm-reads.Learnt, fewer-reads.Asked, fewer-reads.Learnt, commit-reads.Asked, commit-reads.Learnt, refuse-reads.Asked, refuse-reads.Learnt) (choices-at t) choices.Post choices-Inv-loop choices-μ-loop
 choices-enum-told t c = search needs
 
-choices-same-length : (t : ℕ) → choices-lts.Need-same-length (next-reads.Asked, next-reads.Learnt, wide-reads.Asked, wide-reads.Learnt, one-arm-below t, one-arm.Post, small-reads.Asked, small-reads.Learnt, note-branch-reads.Asked, note-branch-reads.Learnt, after-arm-reads.Asked, after-arm-reads.Learnt, fewer-reads.Asked, fewer-reads.Learnt, commit-reads.Asked, commit-reads.Learnt, refuse-reads.Asked, refuse-reads.Learnt) (choices-at t) choices.Post choices-Inv-loop choices-μ-loop
+choices-same-length : (t : ℕ) → choices-lts.Need-same-length (next-reads.Asked, next-reads.Learnt, wide32-reads.Asked, wide32-reads.Learnt, one-arm-below t, one-arm.Post, small-reads.Asked, small-reads.Learnt, note-branch-reads.Asked, note-branch-reads.Learnt, after-arm-reads.Asked, after-arm-reads.Learnt, fewer-reads.Asked, fewer-reads.Learnt, commit-reads.Asked, commit-reads.Learnt, refuse-reads.Asked, refuse-reads.Learnt) (choices-at t) choices.Post choices-Inv-loop choices-μ-loop
 choices-same-length t c = search needs
 
-choices-returns : (t : ℕ) → choices-lts.Need-returns (next-reads.Asked, next-reads.Learnt, wide-reads.Asked, wide-reads.Learnt, one-arm-below t, one-arm.Post, small-reads.Asked, small-reads.Learnt, note-branch-reads.Asked, note-branch-reads.Learnt, after-arm-reads.Asked, after-arm-reads.Learnt, fewer-reads.Asked, fewer-reads.Learnt, commit-reads.Asked, commit-reads.Learnt, refuse-reads.Asked, refuse-reads.Learnt) (choices-at t) choices.Post choices-Inv-loop choices-μ-loop
+choices-returns : (t : ℕ) → choices-lts.Need-returns (next-reads.Asked, next-reads.Learnt, wide32-reads.Asked, wide32-reads.Learnt, one-arm-below t, one-arm.Post, small-reads.Asked, small-reads.Learnt, note-branch-reads.Asked, note-branch-reads.Learnt, after-arm-reads.Asked, after-arm-reads.Learnt, fewer-reads.Asked, fewer-reads.Learnt, commit-reads.Asked, commit-reads.Learnt, refuse-reads.Asked, refuse-reads.Learnt) (choices-at t) choices.Post choices-Inv-loop choices-μ-loop
 choices-returns t c = (
-  rw (← (parent-of (c .before .before .before .before .before .before .before .before .before .before .before .before .before .before .before .before .before .before .before .next .ensures))) (acted-from _ _ _ _ _ _ _ (c .before .before .before .before .before .before .before .before .before .before .before .before .before .before .before .wide .ensures) (done-moved ((top-set ((c .before .before .before .before .before .before .one-arm .ensures .1) .noting) (c .before .small .ensures)) .moved) (c .before .before .before .before .before .before .one-arm .ensures .1) ((top-set ((c .before .before .before .before .before .before .one-arm .ensures .1) .noting) (c .before .small .ensures)) .top-is) ((top-set ((c .before .before .before .before .before .before .one-arm .ensures .1) .noting) (c .before .small .ensures)) .ret-kept) (choosing-out (c .before .before .before .before .before .before .before .before .before .before .before .before .before .loop .inv .0) (c .before .before .before .before .before .before .before .before .before .before .before .before .loop-test .taken) (armed-from _ _ _ _ _ _ _ _ (c .before .before .before .before .before .before .before .before .before .before .before .before .before .loop .inv .1) (c .before .before .before .before .before .before .one-arm .ensures .0)) (end-other _ (c .before .before .before .before .before .before .one-arm .ensures .1) (c .match .keys2))))),
+  rw (← (parent-of (c .before .before .before .before .before .before .before .before .before .before .before .before .before .before .before .before .before .before .before .next .ensures))) (acted-from _ _ _ _ _ _ _ (c .before .before .before .before .before .before .before .before .before .before .before .before .before .before .before .wide32 .ensures .0) (done-moved ((top-set ((c .before .before .before .before .before .before .one-arm .ensures .1) .noting) (c .before .small .ensures)) .moved) (c .before .before .before .before .before .before .one-arm .ensures .1) ((top-set ((c .before .before .before .before .before .before .one-arm .ensures .1) .noting) (c .before .small .ensures)) .top-is) ((top-set ((c .before .before .before .before .before .before .one-arm .ensures .1) .noting) (c .before .small .ensures)) .ret-kept) (choosing-out (c .before .before .before .before .before .before .before .before .before .before .before .before .before .loop .inv .0) (c .before .before .before .before .before .before .before .before .before .before .before .before .loop-test .taken) (armed-from _ _ _ _ _ _ _ _ (c .before .before .before .before .before .before .before .before .before .before .before .before .before .loop .inv .1) (c .before .before .before .before .before .before .one-arm .ensures .0)) (end-other _ (c .before .before .before .before .before .before .one-arm .ensures .1) (c .match .keys2))))),
   tells-moved ((top-set ((c .before .before .before .before .before .before .one-arm .ensures .1) .noting) (c .before .small .ensures)) .moved) (c .before .before .before .before .before .before .one-arm .ensures .1),
 )
 
-choices-note-branch-requires : (t : ℕ) → choices-lts.Need-note-branch-requires (next-reads.Asked, next-reads.Learnt, wide-reads.Asked, wide-reads.Learnt, one-arm-below t, one-arm.Post, small-reads.Asked, small-reads.Learnt, note-branch-reads.Asked, note-branch-reads.Learnt, after-arm-reads.Asked, after-arm-reads.Learnt, fewer-reads.Asked, fewer-reads.Learnt, commit-reads.Asked, commit-reads.Learnt, refuse-reads.Asked, refuse-reads.Learnt) (choices-at t) choices.Post choices-Inv-loop choices-μ-loop
+choices-note-branch-requires : (t : ℕ) → choices-lts.Need-note-branch-requires (next-reads.Asked, next-reads.Learnt, wide32-reads.Asked, wide32-reads.Learnt, one-arm-below t, one-arm.Post, small-reads.Asked, small-reads.Learnt, note-branch-reads.Asked, note-branch-reads.Learnt, after-arm-reads.Asked, after-arm-reads.Learnt, fewer-reads.Asked, fewer-reads.Learnt, commit-reads.Asked, commit-reads.Learnt, refuse-reads.Asked, refuse-reads.Learnt) (choices-at t) choices.Post choices-Inv-loop choices-μ-loop
 choices-note-branch-requires t c κs =
     let f = c .before .before .before .before .before .before .before .before .before .before .before .one-arm .ensures .0 .fine (end-shallow _ (c .before .before .before .before .enum-told .given .1)) in
-    (((c .before .before .before .before .before .before .before .before .before .before .before .before .before .before .before .before .before .before .loop .inv .0) .spent .fit .high, omega (arith, c .before .before .before .before .before .before .before .wide2 .ensures, f .left .fit .high)), ((c .before .before .before .before .before .before .before .before .before .before .before .before .before .before .before .before .before .before .loop .inv .0) .tally .lm, (c .before .before .before .before .before .before .before .before .before .before .before .before .before .before .before .before .before .before .loop .inv .0) .tally .lc))
+    (((c .before .before .before .before .before .before .before .before .before .before .before .before .before .before .before .before .before .before .loop .inv .0) .spent .fit .high, omega (arith, c .before .before .before .before .before .before .before .wide322 .ensures .0, f .left .fit .high)), ((c .before .before .before .before .before .before .before .before .before .before .before .before .before .before .before .before .before .before .loop .inv .0) .tally .lm, (c .before .before .before .before .before .before .before .before .before .before .before .before .before .before .before .before .before .before .loop .inv .0) .tally .lc))
 
-choices-after-arm-requires : (t : ℕ) → choices-lts.Need-after-arm-requires (next-reads.Asked, next-reads.Learnt, wide-reads.Asked, wide-reads.Learnt, one-arm-below t, one-arm.Post, small-reads.Asked, small-reads.Learnt, note-branch-reads.Asked, note-branch-reads.Learnt, after-arm-reads.Asked, after-arm-reads.Learnt, fewer-reads.Asked, fewer-reads.Learnt, commit-reads.Asked, commit-reads.Learnt, refuse-reads.Asked, refuse-reads.Learnt) (choices-at t) choices.Post choices-Inv-loop choices-μ-loop
+choices-after-arm-requires : (t : ℕ) → choices-lts.Need-after-arm-requires (next-reads.Asked, next-reads.Learnt, wide32-reads.Asked, wide32-reads.Learnt, one-arm-below t, one-arm.Post, small-reads.Asked, small-reads.Learnt, note-branch-reads.Asked, note-branch-reads.Learnt, after-arm-reads.Asked, after-arm-reads.Learnt, fewer-reads.Asked, fewer-reads.Learnt, commit-reads.Asked, commit-reads.Learnt, refuse-reads.Asked, refuse-reads.Learnt) (choices-at t) choices.Post choices-Inv-loop choices-μ-loop
 choices-after-arm-requires t c κs =
     let b = choosing-branch (c .before .before .before .before .before .before .before .before .before .before .before .before .before .before .before .before .before .before .before .loop .inv .0) (c .before .before .before .before .before .before .before .before .before .before .before .before .before .before .before .before .before .before .loop-test .taken) in
     (((c .before .before .before .before .before .before .before .before .before .before .before .before .before .before .before .before .before .before .before .before .before .before .before .before .before .before .before .before .pre .1 .1 .0) .ready .sound) .headed, (record { nodes = c .before .before .before .before .before .before .before .before .before .before .before .before .before .before .before .before .before .before .before .loop .inv .3; within = b .first .there }, b .block .there))
 
-choices-fewer-requires : (t : ℕ) → choices-lts.Need-fewer-requires (next-reads.Asked, next-reads.Learnt, wide-reads.Asked, wide-reads.Learnt, one-arm-below t, one-arm.Post, small-reads.Asked, small-reads.Learnt, note-branch-reads.Asked, note-branch-reads.Learnt, after-arm-reads.Asked, after-arm-reads.Learnt, fewer-reads.Asked, fewer-reads.Learnt, commit-reads.Asked, commit-reads.Learnt, refuse-reads.Asked, refuse-reads.Learnt) (choices-at t) choices.Post choices-Inv-loop choices-μ-loop
+choices-fewer-requires : (t : ℕ) → choices-lts.Need-fewer-requires (next-reads.Asked, next-reads.Learnt, wide32-reads.Asked, wide32-reads.Learnt, one-arm-below t, one-arm.Post, small-reads.Asked, small-reads.Learnt, note-branch-reads.Asked, note-branch-reads.Learnt, after-arm-reads.Asked, after-arm-reads.Learnt, fewer-reads.Asked, fewer-reads.Learnt, commit-reads.Asked, commit-reads.Learnt, refuse-reads.Asked, refuse-reads.Learnt) (choices-at t) choices.Post choices-Inv-loop choices-μ-loop
 choices-fewer-requires t c κs =
     search needs
 
-choices-loop-less : (t : ℕ) → choices-lts.Need-loop-less (next-reads.Asked, next-reads.Learnt, wide-reads.Asked, wide-reads.Learnt, one-arm-below t, one-arm.Post, small-reads.Asked, small-reads.Learnt, note-branch-reads.Asked, note-branch-reads.Learnt, after-arm-reads.Asked, after-arm-reads.Learnt, fewer-reads.Asked, fewer-reads.Learnt, commit-reads.Asked, commit-reads.Learnt, refuse-reads.Asked, refuse-reads.Learnt) (choices-at t) choices.Post choices-Inv-loop choices-μ-loop
+choices-loop-less : (t : ℕ) → choices-lts.Need-loop-less (next-reads.Asked, next-reads.Learnt, wide32-reads.Asked, wide32-reads.Learnt, one-arm-below t, one-arm.Post, small-reads.Asked, small-reads.Learnt, note-branch-reads.Asked, note-branch-reads.Learnt, after-arm-reads.Asked, after-arm-reads.Learnt, fewer-reads.Asked, fewer-reads.Learnt, commit-reads.Asked, commit-reads.Learnt, refuse-reads.Asked, refuse-reads.Learnt) (choices-at t) choices.Post choices-Inv-loop choices-μ-loop
 choices-loop-less t c =
     omega (arith, c .fewer .ensures, (c .before .before .before .before .before .before .before .before .before .before .before .before .before .before .before .before .before .before .before .before .loop-test .taken))
 
-choices-loop-again : (t : ℕ) → choices-lts.Need-loop-again (next-reads.Asked, next-reads.Learnt, wide-reads.Asked, wide-reads.Learnt, one-arm-below t, one-arm.Post, small-reads.Asked, small-reads.Learnt, note-branch-reads.Asked, note-branch-reads.Learnt, after-arm-reads.Asked, after-arm-reads.Learnt, fewer-reads.Asked, fewer-reads.Learnt, commit-reads.Asked, commit-reads.Learnt, refuse-reads.Asked, refuse-reads.Learnt) (choices-at t) choices.Post choices-Inv-loop choices-μ-loop
+choices-loop-again : (t : ℕ) → choices-lts.Need-loop-again (next-reads.Asked, next-reads.Learnt, wide32-reads.Asked, wide32-reads.Learnt, one-arm-below t, one-arm.Post, small-reads.Asked, small-reads.Learnt, note-branch-reads.Asked, note-branch-reads.Learnt, after-arm-reads.Asked, after-arm-reads.Learnt, fewer-reads.Asked, fewer-reads.Learnt, commit-reads.Asked, commit-reads.Learnt, refuse-reads.Asked, refuse-reads.Learnt) (choices-at t) choices.Post choices-Inv-loop choices-μ-loop
 choices-loop-again t c = (
   choosing-as (tab-moved ((top-set ((c .before .before .before .before .before .before .before .before .before .before .before .before .before .before .one-arm .ensures .1) .noting) (c .before .before .before .before .before .before .before .before .before .small .ensures)) .moved) _) ((top-set ((c .before .before .before .before .before .before .before .before .before .before .before .before .before .before .one-arm .ensures .1) .noting) (c .before .before .before .before .before .before .before .before .before .small .ensures)) .ret-kept)
-      (choosing-next (c .before .before .before .before .before .before .before .before .before .before .before .before .before .before .before .before .before .before .before .before .before .loop .inv .0) (c .before .before .before .before .before .before .before .before .before .before .before .before .before .before .before .before .before .before .before .before .loop-test .taken) (armed-from _ _ _ _ _ _ _ _ (c .before .before .before .before .before .before .before .before .before .before .before .before .before .before .before .before .before .before .before .before .before .loop .inv .1) (c .before .before .before .before .before .before .before .before .before .before .before .before .before .before .one-arm .ensures .0)) (c .before .after-arm .ensures .0) (c .fewer .ensures) (end-well _ (c .before .before .before .before .before .before .before .enum-told .given .1)) (c .before .before .before .before .before .before .before .before .before .before .wide2 .ensures) (c .before .before .note-branch .ensures)),
+      (choosing-next (c .before .before .before .before .before .before .before .before .before .before .before .before .before .before .before .before .before .before .before .before .before .loop .inv .0) (c .before .before .before .before .before .before .before .before .before .before .before .before .before .before .before .before .before .before .before .before .loop-test .taken) (armed-from _ _ _ _ _ _ _ _ (c .before .before .before .before .before .before .before .before .before .before .before .before .before .before .before .before .before .before .before .before .before .loop .inv .1) (c .before .before .before .before .before .before .before .before .before .before .before .before .before .before .one-arm .ensures .0)) (c .before .after-arm .ensures .0) (c .fewer .ensures) (end-well _ (c .before .before .before .before .before .before .before .enum-told .given .1)) (c .before .before .before .before .before .before .before .before .before .before .wide322 .ensures .0) (c .before .before .note-branch .ensures)),
   (top-set ((c .before .before .before .before .before .before .before .before .before .before .before .before .before .before .one-arm .ensures .1) .noting) (c .before .before .before .before .before .before .before .before .before .small .ensures)) .top-is,
   moved-noting ((top-set ((c .before .before .before .before .before .before .before .before .before .before .before .before .before .before .one-arm .ensures .1) .noting) (c .before .before .before .before .before .before .before .before .before .small .ensures)) .moved),
   c .before .after-arm .ensures .1,
 )
 
-choices-commit-requires : (t : ℕ) → choices-lts.Need-commit-requires (next-reads.Asked, next-reads.Learnt, wide-reads.Asked, wide-reads.Learnt, one-arm-below t, one-arm.Post, small-reads.Asked, small-reads.Learnt, note-branch-reads.Asked, note-branch-reads.Learnt, after-arm-reads.Asked, after-arm-reads.Learnt, fewer-reads.Asked, fewer-reads.Learnt, commit-reads.Asked, commit-reads.Learnt, refuse-reads.Asked, refuse-reads.Learnt) (choices-at t) choices.Post choices-Inv-loop choices-μ-loop
+choices-commit-requires : (t : ℕ) → choices-lts.Need-commit-requires (next-reads.Asked, next-reads.Learnt, wide32-reads.Asked, wide32-reads.Learnt, one-arm-below t, one-arm.Post, small-reads.Asked, small-reads.Learnt, note-branch-reads.Asked, note-branch-reads.Learnt, after-arm-reads.Asked, after-arm-reads.Learnt, fewer-reads.Asked, fewer-reads.Learnt, commit-reads.Asked, commit-reads.Learnt, refuse-reads.Asked, refuse-reads.Learnt) (choices-at t) choices.Post choices-Inv-loop choices-μ-loop
 choices-commit-requires t c κs =
     ((c .before .before .before .before .loop .inv .0) .spent .fit .high, (c .before .before .before .before .loop .inv .0) .spent .fit .long)
 
-choices-enum-told-2 : (t : ℕ) → choices-lts.Need-enum-told-2 (next-reads.Asked, next-reads.Learnt, wide-reads.Asked, wide-reads.Learnt, one-arm-below t, one-arm.Post, small-reads.Asked, small-reads.Learnt, note-branch-reads.Asked, note-branch-reads.Learnt, after-arm-reads.Asked, after-arm-reads.Learnt, fewer-reads.Asked, fewer-reads.Learnt, commit-reads.Asked, commit-reads.Learnt, refuse-reads.Asked, refuse-reads.Learnt) (choices-at t) choices.Post choices-Inv-loop choices-μ-loop
+choices-enum-told-2 : (t : ℕ) → choices-lts.Need-enum-told-2 (next-reads.Asked, next-reads.Learnt, wide32-reads.Asked, wide32-reads.Learnt, one-arm-below t, one-arm.Post, small-reads.Asked, small-reads.Learnt, note-branch-reads.Asked, note-branch-reads.Learnt, after-arm-reads.Asked, after-arm-reads.Learnt, fewer-reads.Asked, fewer-reads.Learnt, commit-reads.Asked, commit-reads.Learnt, refuse-reads.Asked, refuse-reads.Learnt) (choices-at t) choices.Post choices-Inv-loop choices-μ-loop
 choices-enum-told-2 t c = search needs
 
-choices-enum-known-merge : (t : ℕ) → choices-lts.Need-enum-known-merge (next-reads.Asked, next-reads.Learnt, wide-reads.Asked, wide-reads.Learnt, one-arm-below t, one-arm.Post, small-reads.Asked, small-reads.Learnt, note-branch-reads.Asked, note-branch-reads.Learnt, after-arm-reads.Asked, after-arm-reads.Learnt, fewer-reads.Asked, fewer-reads.Learnt, commit-reads.Asked, commit-reads.Learnt, refuse-reads.Asked, refuse-reads.Learnt) (choices-at t) choices.Post choices-Inv-loop choices-μ-loop
+choices-enum-known-merge : (t : ℕ) → choices-lts.Need-enum-known-merge (next-reads.Asked, next-reads.Learnt, wide32-reads.Asked, wide32-reads.Learnt, one-arm-below t, one-arm.Post, small-reads.Asked, small-reads.Learnt, note-branch-reads.Asked, note-branch-reads.Learnt, after-arm-reads.Asked, after-arm-reads.Learnt, fewer-reads.Asked, fewer-reads.Learnt, commit-reads.Asked, commit-reads.Learnt, refuse-reads.Asked, refuse-reads.Learnt) (choices-at t) choices.Post choices-Inv-loop choices-μ-loop
 choices-enum-known-merge t c = search needs
 
-choices-refuse-requires : (t : ℕ) → choices-lts.Need-refuse-requires (next-reads.Asked, next-reads.Learnt, wide-reads.Asked, wide-reads.Learnt, one-arm-below t, one-arm.Post, small-reads.Asked, small-reads.Learnt, note-branch-reads.Asked, note-branch-reads.Learnt, after-arm-reads.Asked, after-arm-reads.Learnt, fewer-reads.Asked, fewer-reads.Learnt, commit-reads.Asked, commit-reads.Learnt, refuse-reads.Asked, refuse-reads.Learnt) (choices-at t) choices.Post choices-Inv-loop choices-μ-loop
+choices-refuse-requires : (t : ℕ) → choices-lts.Need-refuse-requires (next-reads.Asked, next-reads.Learnt, wide32-reads.Asked, wide32-reads.Learnt, one-arm-below t, one-arm.Post, small-reads.Asked, small-reads.Learnt, note-branch-reads.Asked, note-branch-reads.Learnt, after-arm-reads.Asked, after-arm-reads.Learnt, fewer-reads.Asked, fewer-reads.Learnt, commit-reads.Asked, commit-reads.Learnt, refuse-reads.Asked, refuse-reads.Learnt) (choices-at t) choices.Post choices-Inv-loop choices-μ-loop
 choices-refuse-requires t c κs =
     c .before .before .before .before .before .before .before .before .before .loop .inv .2
 
-choices-same-length-2 : (t : ℕ) → choices-lts.Need-same-length-2 (next-reads.Asked, next-reads.Learnt, wide-reads.Asked, wide-reads.Learnt, one-arm-below t, one-arm.Post, small-reads.Asked, small-reads.Learnt, note-branch-reads.Asked, note-branch-reads.Learnt, after-arm-reads.Asked, after-arm-reads.Learnt, fewer-reads.Asked, fewer-reads.Learnt, commit-reads.Asked, commit-reads.Learnt, refuse-reads.Asked, refuse-reads.Learnt) (choices-at t) choices.Post choices-Inv-loop choices-μ-loop
+choices-same-length-2 : (t : ℕ) → choices-lts.Need-same-length-2 (next-reads.Asked, next-reads.Learnt, wide32-reads.Asked, wide32-reads.Learnt, one-arm-below t, one-arm.Post, small-reads.Asked, small-reads.Learnt, note-branch-reads.Asked, note-branch-reads.Learnt, after-arm-reads.Asked, after-arm-reads.Learnt, fewer-reads.Asked, fewer-reads.Learnt, commit-reads.Asked, commit-reads.Learnt, refuse-reads.Asked, refuse-reads.Learnt) (choices-at t) choices.Post choices-Inv-loop choices-μ-loop
 choices-same-length-2 t c = search needs
 
-choices-returns-2 : (t : ℕ) → choices-lts.Need-returns-2 (next-reads.Asked, next-reads.Learnt, wide-reads.Asked, wide-reads.Learnt, one-arm-below t, one-arm.Post, small-reads.Asked, small-reads.Learnt, note-branch-reads.Asked, note-branch-reads.Learnt, after-arm-reads.Asked, after-arm-reads.Learnt, fewer-reads.Asked, fewer-reads.Learnt, commit-reads.Asked, commit-reads.Learnt, refuse-reads.Asked, refuse-reads.Learnt) (choices-at t) choices.Post choices-Inv-loop choices-μ-loop
+choices-returns-2 : (t : ℕ) → choices-lts.Need-returns-2 (next-reads.Asked, next-reads.Learnt, wide32-reads.Asked, wide32-reads.Learnt, one-arm-below t, one-arm.Post, small-reads.Asked, small-reads.Learnt, note-branch-reads.Asked, note-branch-reads.Learnt, after-arm-reads.Asked, after-arm-reads.Learnt, fewer-reads.Asked, fewer-reads.Learnt, commit-reads.Asked, commit-reads.Learnt, refuse-reads.Asked, refuse-reads.Learnt) (choices-at t) choices.Post choices-Inv-loop choices-μ-loop
 choices-returns-2 t c = (
-  rw (← (parent-of (c .before .before .before .before .before .before .before .before .before .before .before .before .before .next .ensures))) (acted-from _ _ _ _ _ _ _ (c .before .before .before .before .before .before .before .before .before .wide .ensures) (done-any refl refl (done-ends refl (c .before .before .before .before .before .before .before .loop .inv .1) refl
+  rw (← (parent-of (c .before .before .before .before .before .before .before .before .before .before .before .before .before .next .ensures))) (acted-from _ _ _ _ _ _ _ (c .before .before .before .before .before .before .before .before .before .wide32 .ensures .0) (done-any refl refl (done-ends refl (c .before .before .before .before .before .before .before .loop .inv .1) refl
       (choosing-end (stmt-at (parent-of (c .before .before .before .before .before .before .before .before .before .before .before .before .before .next .ensures)) (c .before .before .before .before .before .before .before .before .before .before .before .before .before .before .before .before .pre .1 .1 .1)) (c .before .before .before .before .before .before .before .loop .inv .0) (c .before .before .before .before .before .before .loop-test .left) (rw (c .enum-told2 .given .1) at (c .before .before .commit .ensures)))))),
   tells-ok (c .before .before .before .before .before .before .before .loop .inv .2) (λ e. done-apart e),
 )
 
-choices-same-length-3 : (t : ℕ) → choices-lts.Need-same-length-3 (next-reads.Asked, next-reads.Learnt, wide-reads.Asked, wide-reads.Learnt, one-arm-below t, one-arm.Post, small-reads.Asked, small-reads.Learnt, note-branch-reads.Asked, note-branch-reads.Learnt, after-arm-reads.Asked, after-arm-reads.Learnt, fewer-reads.Asked, fewer-reads.Learnt, commit-reads.Asked, commit-reads.Learnt, refuse-reads.Asked, refuse-reads.Learnt) (choices-at t) choices.Post choices-Inv-loop choices-μ-loop
+choices-same-length-3 : (t : ℕ) → choices-lts.Need-same-length-3 (next-reads.Asked, next-reads.Learnt, wide32-reads.Asked, wide32-reads.Learnt, one-arm-below t, one-arm.Post, small-reads.Asked, small-reads.Learnt, note-branch-reads.Asked, note-branch-reads.Learnt, after-arm-reads.Asked, after-arm-reads.Learnt, fewer-reads.Asked, fewer-reads.Learnt, commit-reads.Asked, commit-reads.Learnt, refuse-reads.Asked, refuse-reads.Learnt) (choices-at t) choices.Post choices-Inv-loop choices-μ-loop
 choices-same-length-3 t c = search needs
 
-choices-returns-3 : (t : ℕ) → choices-lts.Need-returns-3 (next-reads.Asked, next-reads.Learnt, wide-reads.Asked, wide-reads.Learnt, one-arm-below t, one-arm.Post, small-reads.Asked, small-reads.Learnt, note-branch-reads.Asked, note-branch-reads.Learnt, after-arm-reads.Asked, after-arm-reads.Learnt, fewer-reads.Asked, fewer-reads.Learnt, commit-reads.Asked, commit-reads.Learnt, refuse-reads.Asked, refuse-reads.Learnt) (choices-at t) choices.Post choices-Inv-loop choices-μ-loop
+choices-returns-3 : (t : ℕ) → choices-lts.Need-returns-3 (next-reads.Asked, next-reads.Learnt, wide32-reads.Asked, wide32-reads.Learnt, one-arm-below t, one-arm.Post, small-reads.Asked, small-reads.Learnt, note-branch-reads.Asked, note-branch-reads.Learnt, after-arm-reads.Asked, after-arm-reads.Learnt, fewer-reads.Asked, fewer-reads.Learnt, commit-reads.Asked, commit-reads.Learnt, refuse-reads.Asked, refuse-reads.Learnt) (choices-at t) choices.Post choices-Inv-loop choices-μ-loop
 choices-returns-3 t c =
     let f = refused-at (first-place (c .before .before .before .before .before .before .before .before .before .before .before .before .before .before .before .before .next .ensures)) (c .refuse .ensures) in
     let k = rw (c .before .before .before .merge .given .1) at (c .before .before .before .before .before .commit .ensures) in
     let h = few-nodes ((c .before .before .before .before .before .before .before .before .before .before .before .before .before .before .before .before .before .before .before .pre .1 .1 .0) .ready .sound) in
     let i = (c .before .before .before .before .before .before .before .before .before .before .before .before .before .before .before .before .before .before .before .pre .1 .1 .1) .there in (
-      rw (← (parent-of (c .before .before .before .before .before .before .before .before .before .before .before .before .before .before .before .before .next .ensures))) (acted-from _ _ _ _ _ _ _ (c .before .before .before .before .before .before .before .before .before .before .before .before .wide .ensures) (done-refused f (omega (arith, h, i, (c .before .before .before .before .before .before .before .before .before .before .before .before .before .before .before .before .next .ensures .at))) (clash-small k) (omega arith) (f .top ∙ c .before .before .before .before .before .before .before .before .before .before .loop .inv .1) (f .ret)
+      rw (← (parent-of (c .before .before .before .before .before .before .before .before .before .before .before .before .before .before .before .before .next .ensures))) (acted-from _ _ _ _ _ _ _ (c .before .before .before .before .before .before .before .before .before .before .before .before .wide32 .ensures .0) (done-refused f (omega (arith, h, i, (c .before .before .before .before .before .before .before .before .before .before .before .before .before .before .before .before .next .ensures .at))) (clash-small k) (omega arith) (f .top ∙ c .before .before .before .before .before .before .before .before .before .before .loop .inv .1) (f .ret)
           (choosing-end (stmt-at (parent-of (c .before .before .before .before .before .before .before .before .before .before .before .before .before .before .before .before .next .ensures)) (c .before .before .before .before .before .before .before .before .before .before .before .before .before .before .before .before .before .before .before .pre .1 .1 .1)) (c .before .before .before .before .before .before .before .before .before .before .loop .inv .0) (c .before .before .before .before .before .before .before .before .before .loop-test .left) k))),
       tells-refused (λ z. omega arith) (λ z. omega arith) f,
     )
 
-define-element-copy-out-wide : (t : ℕ) → define-lts.Need-element-copy-out-wide (wide-reads.Asked, wide-reads.Learnt, refuse-reads.Asked, refuse-reads.Learnt, next-reads.Asked, next-reads.Learnt, clear-reads.Asked, clear-reads.Learnt, parameters-reads.Asked, parameters-reads.Learnt, small-reads.Asked, small-reads.Learnt, block-below t, block.Post) (define-at t) define.Post
-define-element-copy-out-wide t c = search needs
+define-element-copy-out-wide32 : (t : ℕ) → define-lts.Need-element-copy-out-wide32 (wide32-reads.Asked, wide32-reads.Learnt, refuse-reads.Asked, refuse-reads.Learnt, next-reads.Asked, next-reads.Learnt, clear-reads.Asked, clear-reads.Learnt, parameters-reads.Asked, parameters-reads.Learnt, small-reads.Asked, small-reads.Learnt, block-below t, block.Post) (define-at t) define.Post
+define-element-copy-out-wide32 t c = search needs
 
-define-wide-requires : (t : ℕ) → define-lts.Need-wide-requires (wide-reads.Asked, wide-reads.Learnt, refuse-reads.Asked, refuse-reads.Learnt, next-reads.Asked, next-reads.Learnt, clear-reads.Asked, clear-reads.Learnt, parameters-reads.Asked, parameters-reads.Learnt, small-reads.Asked, small-reads.Learnt, block-below t, block.Post) (define-at t) define.Post
-define-wide-requires t c κs =
+define-wide32-requires : (t : ℕ) → define-lts.Need-wide32-requires (wide32-reads.Asked, wide32-reads.Learnt, refuse-reads.Asked, refuse-reads.Learnt, next-reads.Asked, next-reads.Learnt, clear-reads.Asked, clear-reads.Learnt, parameters-reads.Asked, parameters-reads.Learnt, small-reads.Asked, small-reads.Learnt, block-below t, block.Post) (define-at t) define.Post
+define-wide32-requires t c κs =
     search needs
 
-define-element-copy-out-ret : (t : ℕ) → define-lts.Need-element-copy-out-ret (wide-reads.Asked, wide-reads.Learnt, refuse-reads.Asked, refuse-reads.Learnt, next-reads.Asked, next-reads.Learnt, clear-reads.Asked, clear-reads.Learnt, parameters-reads.Asked, parameters-reads.Learnt, small-reads.Asked, small-reads.Learnt, block-below t, block.Post) (define-at t) define.Post
+define-element-copy-out-ret : (t : ℕ) → define-lts.Need-element-copy-out-ret (wide32-reads.Asked, wide32-reads.Learnt, refuse-reads.Asked, refuse-reads.Learnt, next-reads.Asked, next-reads.Learnt, clear-reads.Asked, clear-reads.Learnt, parameters-reads.Asked, parameters-reads.Learnt, small-reads.Asked, small-reads.Learnt, block-below t, block.Post) (define-at t) define.Post
 define-element-copy-out-ret t c = search needs
 
-define-refuse-requires : (t : ℕ) → define-lts.Need-refuse-requires (wide-reads.Asked, wide-reads.Learnt, refuse-reads.Asked, refuse-reads.Learnt, next-reads.Asked, next-reads.Learnt, clear-reads.Asked, clear-reads.Learnt, parameters-reads.Asked, parameters-reads.Learnt, small-reads.Asked, small-reads.Learnt, block-below t, block.Post) (define-at t) define.Post
+define-refuse-requires : (t : ℕ) → define-lts.Need-refuse-requires (wide32-reads.Asked, wide32-reads.Learnt, refuse-reads.Asked, refuse-reads.Learnt, next-reads.Asked, next-reads.Learnt, clear-reads.Asked, clear-reads.Learnt, parameters-reads.Asked, parameters-reads.Learnt, small-reads.Asked, small-reads.Learnt, block-below t, block.Post) (define-at t) define.Post
 define-refuse-requires t c κs =
     (c .before .before .before .before .before .before .before .pre .1 .0)
 
-define-returns : (t : ℕ) → define-lts.Need-returns (wide-reads.Asked, wide-reads.Learnt, refuse-reads.Asked, refuse-reads.Learnt, next-reads.Asked, next-reads.Learnt, clear-reads.Asked, clear-reads.Learnt, parameters-reads.Asked, parameters-reads.Learnt, small-reads.Asked, small-reads.Learnt, block-below t, block.Post) (define-at t) define.Post
+define-returns : (t : ℕ) → define-lts.Need-returns (wide32-reads.Asked, wide32-reads.Learnt, refuse-reads.Asked, refuse-reads.Learnt, next-reads.Asked, next-reads.Learnt, clear-reads.Asked, clear-reads.Learnt, parameters-reads.Asked, parameters-reads.Learnt, small-reads.Asked, small-reads.Learnt, block-below t, block.Post) (define-at t) define.Post
 define-returns t c =
     let f = c .refuse .ensures in (
       (λ loop. done-noted f (small-node ((c .before .before .before .before .before .before .before .before .pre .1 .1 .0) .ready .sound) ((c .before .before .before .before .before .before .before .before .pre .1 .1 .1) .there)) (omega arith) (omega arith) (f .top) (f .ret)
-          (def-deep (c .before .before .before .before .before .before .before .before .pre .1 .1 .0) (c .before .before .before .before .before .before .before .before .pre .1 .1 .1) refl (omega (arith, (c .before .before .before .before .wide .ensures), c .before .before .if1 .taken)) _ loop)),
+          (def-deep (c .before .before .before .before .before .before .before .before .pre .1 .1 .0) (c .before .before .before .before .before .before .before .before .pre .1 .1 .1) refl (omega (arith, (c .before .before .before .before .wide32 .ensures .0), c .before .before .if1 .taken)) _ loop)),
       tells-ok (record { long = f .long }) (λ e. deep-apart e),
     )
 
-define-next-requires : (t : ℕ) → define-lts.Need-next-requires (wide-reads.Asked, wide-reads.Learnt, refuse-reads.Asked, refuse-reads.Learnt, next-reads.Asked, next-reads.Learnt, clear-reads.Asked, clear-reads.Learnt, parameters-reads.Asked, parameters-reads.Learnt, small-reads.Asked, small-reads.Learnt, block-below t, block.Post) (define-at t) define.Post
+define-next-requires : (t : ℕ) → define-lts.Need-next-requires (wide32-reads.Asked, wide32-reads.Learnt, refuse-reads.Asked, refuse-reads.Learnt, next-reads.Asked, next-reads.Learnt, clear-reads.Asked, clear-reads.Learnt, parameters-reads.Asked, parameters-reads.Learnt, small-reads.Asked, small-reads.Learnt, block-below t, block.Post) (define-at t) define.Post
 define-next-requires t c κs =
     (((c .before .before .before .before .before .before .pre .1 .1 .0) .ready .sound) .headed, record { nodes = (c .before .before .before .before .before .before .pre .1 .1 .0) .ready .nodes-at; within = (c .before .before .before .before .before .before .pre .1 .1 .1) .there })
 
-define-cast-n : (t : ℕ) → define-lts.Need-cast-n (wide-reads.Asked, wide-reads.Learnt, refuse-reads.Asked, refuse-reads.Learnt, next-reads.Asked, next-reads.Learnt, clear-reads.Asked, clear-reads.Learnt, parameters-reads.Asked, parameters-reads.Learnt, small-reads.Asked, small-reads.Learnt, block-below t, block.Post) (define-at t) define.Post
+define-cast-n : (t : ℕ) → define-lts.Need-cast-n (wide32-reads.Asked, wide32-reads.Learnt, refuse-reads.Asked, refuse-reads.Learnt, next-reads.Asked, next-reads.Learnt, clear-reads.Asked, clear-reads.Learnt, parameters-reads.Asked, parameters-reads.Learnt, small-reads.Asked, small-reads.Learnt, block-below t, block.Post) (define-at t) define.Post
 define-cast-n t c = search needs
 
-define-add-clear : (t : ℕ) → define-lts.Need-add-clear (wide-reads.Asked, wide-reads.Learnt, refuse-reads.Asked, refuse-reads.Learnt, next-reads.Asked, next-reads.Learnt, clear-reads.Asked, clear-reads.Learnt, parameters-reads.Asked, parameters-reads.Learnt, small-reads.Asked, small-reads.Learnt, block-below t, block.Post) (define-at t) define.Post
+define-add-clear : (t : ℕ) → define-lts.Need-add-clear (wide32-reads.Asked, wide32-reads.Learnt, refuse-reads.Asked, refuse-reads.Learnt, next-reads.Asked, next-reads.Learnt, clear-reads.Asked, clear-reads.Learnt, parameters-reads.Asked, parameters-reads.Learnt, small-reads.Asked, small-reads.Learnt, block-below t, block.Post) (define-at t) define.Post
 define-add-clear t c =
     omega (arith, c .before .before .before .before .before .if1 .left)
 
-define-clear-requires : (t : ℕ) → define-lts.Need-clear-requires (wide-reads.Asked, wide-reads.Learnt, refuse-reads.Asked, refuse-reads.Learnt, next-reads.Asked, next-reads.Learnt, clear-reads.Asked, clear-reads.Learnt, parameters-reads.Asked, parameters-reads.Learnt, small-reads.Asked, small-reads.Learnt, block-below t, block.Post) (define-at t) define.Post
+define-clear-requires : (t : ℕ) → define-lts.Need-clear-requires (wide32-reads.Asked, wide32-reads.Learnt, refuse-reads.Asked, refuse-reads.Learnt, next-reads.Asked, next-reads.Learnt, clear-reads.Asked, clear-reads.Learnt, parameters-reads.Asked, parameters-reads.Learnt, small-reads.Asked, small-reads.Learnt, block-below t, block.Post) (define-at t) define.Post
 define-clear-requires t c κs =
     omega (arith, c .before .before .before .before .before .if1 .left)
 
-define-add-parameters : (t : ℕ) → define-lts.Need-add-parameters (wide-reads.Asked, wide-reads.Learnt, refuse-reads.Asked, refuse-reads.Learnt, next-reads.Asked, next-reads.Learnt, clear-reads.Asked, clear-reads.Learnt, parameters-reads.Asked, parameters-reads.Learnt, small-reads.Asked, small-reads.Learnt, block-below t, block.Post) (define-at t) define.Post
+define-add-parameters : (t : ℕ) → define-lts.Need-add-parameters (wide32-reads.Asked, wide32-reads.Learnt, refuse-reads.Asked, refuse-reads.Learnt, next-reads.Asked, next-reads.Learnt, clear-reads.Asked, clear-reads.Learnt, parameters-reads.Asked, parameters-reads.Learnt, small-reads.Asked, small-reads.Learnt, block-below t, block.Post) (define-at t) define.Post
 define-add-parameters t c =
     omega (arith, c .before .before .before .before .before .before .before .if1 .left)
 
-define-sub-parameters : (t : ℕ) → define-lts.Need-sub-parameters (wide-reads.Asked, wide-reads.Learnt, refuse-reads.Asked, refuse-reads.Learnt, next-reads.Asked, next-reads.Learnt, clear-reads.Asked, clear-reads.Learnt, parameters-reads.Asked, parameters-reads.Learnt, small-reads.Asked, small-reads.Learnt, block-below t, block.Post) (define-at t) define.Post
+define-sub-parameters : (t : ℕ) → define-lts.Need-sub-parameters (wide32-reads.Asked, wide32-reads.Learnt, refuse-reads.Asked, refuse-reads.Learnt, next-reads.Asked, next-reads.Learnt, clear-reads.Asked, clear-reads.Learnt, parameters-reads.Asked, parameters-reads.Learnt, small-reads.Asked, small-reads.Learnt, block-below t, block.Post) (define-at t) define.Post
 define-sub-parameters t c =
     omega (arith, def-some (c .before .before .before .before .before .before .before .before .before .before .before .before .before .pre .1 .1 .0) (c .before .before .before .before .before .before .before .before .before .before .before .before .before .pre .1 .1 .1) (ap (λ d. d .children) (c .before .before .before .before .before .before .next .ensures .node)))
 
-define-parameters-requires : (t : ℕ) → define-lts.Need-parameters-requires (wide-reads.Asked, wide-reads.Learnt, refuse-reads.Asked, refuse-reads.Learnt, next-reads.Asked, next-reads.Learnt, clear-reads.Asked, clear-reads.Learnt, parameters-reads.Asked, parameters-reads.Learnt, small-reads.Asked, small-reads.Learnt, block-below t, block.Post) (define-at t) define.Post
+define-parameters-requires : (t : ℕ) → define-lts.Need-parameters-requires (wide32-reads.Asked, wide32-reads.Learnt, refuse-reads.Asked, refuse-reads.Learnt, next-reads.Asked, next-reads.Learnt, clear-reads.Asked, clear-reads.Learnt, parameters-reads.Asked, parameters-reads.Learnt, small-reads.Asked, small-reads.Learnt, block-below t, block.Post) (define-at t) define.Post
 define-parameters-requires t c κs =
     (((c .before .before .before .before .before .before .before .before .before .before .before .before .before .pre .1 .1 .0) .ready .sound), (c .before .before .before .before .before .before .next .ensures .nodes, (omega (arith, c .before .before .before .before .before .before .before .if1 .left), def-params (c .before .before .before .before .before .before .before .before .before .before .before .before .before .pre .1 .1 .0) (c .before .before .before .before .before .before .before .before .before .before .before .before .before .pre .1 .1 .1) (ap (λ d. d .children) (c .before .before .before .before .before .before .next .ensures .node)) (c .before .before .before .before .before .before .next .ensures .at))))
 
-define-add-small : (t : ℕ) → define-lts.Need-add-small (wide-reads.Asked, wide-reads.Learnt, refuse-reads.Asked, refuse-reads.Learnt, next-reads.Asked, next-reads.Learnt, clear-reads.Asked, clear-reads.Learnt, parameters-reads.Asked, parameters-reads.Learnt, small-reads.Asked, small-reads.Learnt, block-below t, block.Post) (define-at t) define.Post
+define-add-small : (t : ℕ) → define-lts.Need-add-small (wide32-reads.Asked, wide32-reads.Learnt, refuse-reads.Asked, refuse-reads.Learnt, next-reads.Asked, next-reads.Learnt, clear-reads.Asked, clear-reads.Learnt, parameters-reads.Asked, parameters-reads.Learnt, small-reads.Asked, small-reads.Learnt, block-below t, block.Post) (define-at t) define.Post
 define-add-small t c =
     omega (arith, c .before .before .before .before .before .before .before .before .if1 .left)
 
-define-small-requires : (t : ℕ) → define-lts.Need-small-requires (wide-reads.Asked, wide-reads.Learnt, refuse-reads.Asked, refuse-reads.Learnt, next-reads.Asked, next-reads.Learnt, clear-reads.Asked, clear-reads.Learnt, parameters-reads.Asked, parameters-reads.Learnt, small-reads.Asked, small-reads.Learnt, block-below t, block.Post) (define-at t) define.Post
+define-small-requires : (t : ℕ) → define-lts.Need-small-requires (wide32-reads.Asked, wide32-reads.Learnt, refuse-reads.Asked, refuse-reads.Learnt, next-reads.Asked, next-reads.Learnt, clear-reads.Asked, clear-reads.Learnt, parameters-reads.Asked, parameters-reads.Learnt, small-reads.Asked, small-reads.Learnt, block-below t, block.Post) (define-at t) define.Post
 define-small-requires t c κs =
     omega (arith, c .before .before .before .before .before .before .before .before .if1 .left)
 
-define-element-write-notes : (t : ℕ) → define-lts.Need-element-write-notes (wide-reads.Asked, wide-reads.Learnt, refuse-reads.Asked, refuse-reads.Learnt, next-reads.Asked, next-reads.Learnt, clear-reads.Asked, clear-reads.Learnt, parameters-reads.Asked, parameters-reads.Learnt, small-reads.Asked, small-reads.Learnt, block-below t, block.Post) (define-at t) define.Post
+define-element-write-notes : (t : ℕ) → define-lts.Need-element-write-notes (wide32-reads.Asked, wide32-reads.Learnt, refuse-reads.Asked, refuse-reads.Learnt, next-reads.Asked, next-reads.Learnt, clear-reads.Asked, clear-reads.Learnt, parameters-reads.Asked, parameters-reads.Learnt, small-reads.Asked, small-reads.Learnt, block-below t, block.Post) (define-at t) define.Post
 define-element-write-notes t c = search needs
 
-define-element-write-notes-2 : (t : ℕ) → define-lts.Need-element-write-notes-2 (wide-reads.Asked, wide-reads.Learnt, refuse-reads.Asked, refuse-reads.Learnt, next-reads.Asked, next-reads.Learnt, clear-reads.Asked, clear-reads.Learnt, parameters-reads.Asked, parameters-reads.Learnt, small-reads.Asked, small-reads.Learnt, block-below t, block.Post) (define-at t) define.Post
+define-element-write-notes-2 : (t : ℕ) → define-lts.Need-element-write-notes-2 (wide32-reads.Asked, wide32-reads.Learnt, refuse-reads.Asked, refuse-reads.Learnt, next-reads.Asked, next-reads.Learnt, clear-reads.Asked, clear-reads.Learnt, parameters-reads.Asked, parameters-reads.Learnt, small-reads.Asked, small-reads.Learnt, block-below t, block.Post) (define-at t) define.Post
 define-element-write-notes-2 t c = search needs
 
-define-block-requires : (t : ℕ) → define-lts.Need-block-requires (wide-reads.Asked, wide-reads.Learnt, refuse-reads.Asked, refuse-reads.Learnt, next-reads.Asked, next-reads.Learnt, clear-reads.Asked, clear-reads.Learnt, parameters-reads.Asked, parameters-reads.Learnt, small-reads.Asked, small-reads.Learnt, block-below t, block.Post) (define-at t) define.Post
+define-block-requires : (t : ℕ) → define-lts.Need-block-requires (wide32-reads.Asked, wide32-reads.Learnt, refuse-reads.Asked, refuse-reads.Learnt, next-reads.Asked, next-reads.Learnt, clear-reads.Asked, clear-reads.Learnt, parameters-reads.Asked, parameters-reads.Learnt, small-reads.Asked, small-reads.Learnt, block-below t, block.Post) (define-at t) define.Post
 define-block-requires t c κs = (
   omega (arith, c .before .before .before .before .before .before .before .before .before .before .before .before .before .before .before .before .before .before .before .pre .0),
   (
     moved-noting (moved-trans ((top-set (c .before .before .before .before .before .before .before .before .before .before .before .before .before .before .before .before .before .before .before .pre .1 .0) (c .before .before .before .before .small .ensures)) .moved) ((ret-clear (moved-noting ((top-set (c .before .before .before .before .before .before .before .before .before .before .before .before .before .before .before .before .before .before .before .pre .1 .0) (c .before .before .before .before .small .ensures)) .moved))) .moved)),
     (
-      standing-as (tab-moved (moved-trans ((top-set (c .before .before .before .before .before .before .before .before .before .before .before .before .before .before .before .before .before .before .before .pre .1 .0) (c .before .before .before .before .small .ensures)) .moved) ((ret-clear (moved-noting ((top-set (c .before .before .before .before .before .before .before .before .before .before .before .before .before .before .before .before .before .before .before .pre .1 .0) (c .before .before .before .before .small .ensures)) .moved))) .moved)) _) ((ret-clear (moved-noting ((top-set (c .before .before .before .before .before .before .before .before .before .before .before .before .before .before .before .before .before .before .before .pre .1 .0) (c .before .before .before .before .small .ensures)) .moved))) .top-kept ∙ (top-set (c .before .before .before .before .before .before .before .before .before .before .before .before .before .before .before .before .before .before .before .pre .1 .0) (c .before .before .before .before .small .ensures)) .top-is) ((ret-clear (moved-noting ((top-set (c .before .before .before .before .before .before .before .before .before .before .before .before .before .before .before .before .before .before .before .pre .1 .0) (c .before .before .before .before .small .ensures)) .moved))) .ret-is) (standing-nodes (c .before .before .before .before .before .parameters .ensures .0 .1) (def-standing (standing-as refl (c .before .before .before .before .before .before .before .before .before .before .before .before .before .before .before .wide .ensures) refl (c .before .before .before .before .before .before .before .before .before .before .before .before .before .before .before .before .before .before .before .pre .1 .1 .0)) (c .before .before .before .before .before .before .before .before .before .before .before .before .before .before .before .before .before .before .before .pre .1 .1 .1) (ap (λ d. d .children) (c .before .before .before .before .before .before .before .before .before .before .before .before .next .ensures .node)) (c .before .before .before .before .before .before .before .before .before .before .before .before .before .if1 .left) (c .before .before .before .before .before .before .before .clear .ensures) (c .before .before .before .before .before .before .before .before .before .before .before .before .next .ensures .at) (c .before .before .before .before .before .parameters .ensures .1) (c .before .before .before .before .before .parameters .ensures .0 .0))),
-      def-at-block (standing-as refl (c .before .before .before .before .before .before .before .before .before .before .before .before .before .before .before .wide .ensures) refl (c .before .before .before .before .before .before .before .before .before .before .before .before .before .before .before .before .before .before .before .pre .1 .1 .0)) (c .before .before .before .before .before .before .before .before .before .before .before .before .before .before .before .before .before .before .before .pre .1 .1 .1) (ap (λ d. d .children) (c .before .before .before .before .before .before .before .before .before .before .before .before .next .ensures .node)) (c .before .before .before .before .before .before .before .before .before .before .before .before .before .if1 .left) (c .before .before .before .before .before .before .before .clear .ensures) (c .before .before .before .before .before .before .before .before .before .before .before .before .next .ensures .at) (c .before .before .before .before .before .parameters .ensures .1) (c .before .before .before .before .before .parameters .ensures .0 .0),
+      standing-as (tab-moved (moved-trans ((top-set (c .before .before .before .before .before .before .before .before .before .before .before .before .before .before .before .before .before .before .before .pre .1 .0) (c .before .before .before .before .small .ensures)) .moved) ((ret-clear (moved-noting ((top-set (c .before .before .before .before .before .before .before .before .before .before .before .before .before .before .before .before .before .before .before .pre .1 .0) (c .before .before .before .before .small .ensures)) .moved))) .moved)) _) ((ret-clear (moved-noting ((top-set (c .before .before .before .before .before .before .before .before .before .before .before .before .before .before .before .before .before .before .before .pre .1 .0) (c .before .before .before .before .small .ensures)) .moved))) .top-kept ∙ (top-set (c .before .before .before .before .before .before .before .before .before .before .before .before .before .before .before .before .before .before .before .pre .1 .0) (c .before .before .before .before .small .ensures)) .top-is) ((ret-clear (moved-noting ((top-set (c .before .before .before .before .before .before .before .before .before .before .before .before .before .before .before .before .before .before .before .pre .1 .0) (c .before .before .before .before .small .ensures)) .moved))) .ret-is) (standing-nodes (c .before .before .before .before .before .parameters .ensures .0 .1) (def-standing (standing-as refl (c .before .before .before .before .before .before .before .before .before .before .before .before .before .before .before .wide32 .ensures .0) refl (c .before .before .before .before .before .before .before .before .before .before .before .before .before .before .before .before .before .before .before .pre .1 .1 .0)) (c .before .before .before .before .before .before .before .before .before .before .before .before .before .before .before .before .before .before .before .pre .1 .1 .1) (ap (λ d. d .children) (c .before .before .before .before .before .before .before .before .before .before .before .before .next .ensures .node)) (c .before .before .before .before .before .before .before .before .before .before .before .before .before .if1 .left) (c .before .before .before .before .before .before .before .clear .ensures) (c .before .before .before .before .before .before .before .before .before .before .before .before .next .ensures .at) (c .before .before .before .before .before .parameters .ensures .1) (c .before .before .before .before .before .parameters .ensures .0 .0))),
+      def-at-block (standing-as refl (c .before .before .before .before .before .before .before .before .before .before .before .before .before .before .before .wide32 .ensures .0) refl (c .before .before .before .before .before .before .before .before .before .before .before .before .before .before .before .before .before .before .before .pre .1 .1 .0)) (c .before .before .before .before .before .before .before .before .before .before .before .before .before .before .before .before .before .before .before .pre .1 .1 .1) (ap (λ d. d .children) (c .before .before .before .before .before .before .before .before .before .before .before .before .next .ensures .node)) (c .before .before .before .before .before .before .before .before .before .before .before .before .before .if1 .left) (c .before .before .before .before .before .before .before .clear .ensures) (c .before .before .before .before .before .before .before .before .before .before .before .before .next .ensures .at) (c .before .before .before .before .before .parameters .ensures .1) (c .before .before .before .before .before .parameters .ensures .0 .0),
     ),
   ),
 )
 
-define-element-write-notes-3 : (t : ℕ) → define-lts.Need-element-write-notes-3 (wide-reads.Asked, wide-reads.Learnt, refuse-reads.Asked, refuse-reads.Learnt, next-reads.Asked, next-reads.Learnt, clear-reads.Asked, clear-reads.Learnt, parameters-reads.Asked, parameters-reads.Learnt, small-reads.Asked, small-reads.Learnt, block-below t, block.Post) (define-at t) define.Post
+define-element-write-notes-3 : (t : ℕ) → define-lts.Need-element-write-notes-3 (wide32-reads.Asked, wide32-reads.Learnt, refuse-reads.Asked, refuse-reads.Learnt, next-reads.Asked, next-reads.Learnt, clear-reads.Asked, clear-reads.Learnt, parameters-reads.Asked, parameters-reads.Learnt, small-reads.Asked, small-reads.Learnt, block-below t, block.Post) (define-at t) define.Post
 define-element-write-notes-3 t c = search needs
 
-define-enum-told : (t : ℕ) → define-lts.Need-enum-told (wide-reads.Asked, wide-reads.Learnt, refuse-reads.Asked, refuse-reads.Learnt, next-reads.Asked, next-reads.Learnt, clear-reads.Asked, clear-reads.Learnt, parameters-reads.Asked, parameters-reads.Learnt, small-reads.Asked, small-reads.Learnt, block-below t, block.Post) (define-at t) define.Post
+define-enum-told : (t : ℕ) → define-lts.Need-enum-told (wide32-reads.Asked, wide32-reads.Learnt, refuse-reads.Asked, refuse-reads.Learnt, next-reads.Asked, next-reads.Learnt, clear-reads.Asked, clear-reads.Learnt, parameters-reads.Asked, parameters-reads.Learnt, small-reads.Asked, small-reads.Learnt, block-below t, block.Post) (define-at t) define.Post
 define-enum-told t c = search needs
 
-define-same-length : (t : ℕ) → define-lts.Need-same-length (wide-reads.Asked, wide-reads.Learnt, refuse-reads.Asked, refuse-reads.Learnt, next-reads.Asked, next-reads.Learnt, clear-reads.Asked, clear-reads.Learnt, parameters-reads.Asked, parameters-reads.Learnt, small-reads.Asked, small-reads.Learnt, block-below t, block.Post) (define-at t) define.Post
+define-same-length : (t : ℕ) → define-lts.Need-same-length (wide32-reads.Asked, wide32-reads.Learnt, refuse-reads.Asked, refuse-reads.Learnt, next-reads.Asked, next-reads.Learnt, clear-reads.Asked, clear-reads.Learnt, parameters-reads.Asked, parameters-reads.Learnt, small-reads.Asked, small-reads.Learnt, block-below t, block.Post) (define-at t) define.Post
 define-same-length t c = search needs
 
-define-returns-2 : (t : ℕ) → define-lts.Need-returns-2 (wide-reads.Asked, wide-reads.Learnt, refuse-reads.Asked, refuse-reads.Learnt, next-reads.Asked, next-reads.Learnt, clear-reads.Asked, clear-reads.Learnt, parameters-reads.Asked, parameters-reads.Learnt, small-reads.Asked, small-reads.Learnt, block-below t, block.Post) (define-at t) define.Post
+define-returns-2 : (t : ℕ) → define-lts.Need-returns-2 (wide32-reads.Asked, wide32-reads.Learnt, refuse-reads.Asked, refuse-reads.Learnt, next-reads.Asked, next-reads.Learnt, clear-reads.Asked, clear-reads.Learnt, parameters-reads.Asked, parameters-reads.Learnt, small-reads.Asked, small-reads.Learnt, block-below t, block.Post) (define-at t) define.Post
 define-returns-2 t c = (
-  (λ loop. acted-from _ _ _ _ _ _ _ (c .before .before .before .before .before .before .before .before .before .before .before .before .before .before .before .before .before .before .before .wide .ensures) (done-moved ((ret-back (c .before .before .before .before .before .before .before .before .before .before .before .before .before .before .before .before .before .before .before .before .before .before .before .pre .1 .0) ((c .before .before .before .block .ensures .1) .noting)) .moved) (c .before .before .before .block .ensures .1) ((ret-back (c .before .before .before .before .before .before .before .before .before .before .before .before .before .before .before .before .before .before .before .before .before .before .before .pre .1 .0) ((c .before .before .before .block .ensures .1) .noting)) .top-kept) ((ret-back (c .before .before .before .before .before .before .before .before .before .before .before .before .before .before .before .before .before .before .before .before .before .before .before .pre .1 .0) ((c .before .before .before .block .ensures .1) .noting)) .ret-is) (def-bad (standing-as refl (c .before .before .before .before .before .before .before .before .before .before .before .before .before .before .before .before .before .before .before .wide .ensures) refl (c .before .before .before .before .before .before .before .before .before .before .before .before .before .before .before .before .before .before .before .before .before .before .before .pre .1 .1 .0)) (c .before .before .before .before .before .before .before .before .before .before .before .before .before .before .before .before .before .before .before .before .before .before .before .pre .1 .1 .1) (ap (λ d. d .children) (c .before .before .before .before .before .before .before .before .before .before .before .before .before .before .before .before .next .ensures .node)) (c .before .before .before .before .before .before .before .before .before .before .before .before .before .before .before .before .before .if1 .left) (c .before .before .before .before .before .before .before .before .before .before .before .clear .ensures) (c .before .before .before .before .before .before .before .before .before .before .before .before .before .before .before .before .next .ensures .at) (c .before .before .before .before .before .before .before .before .before .parameters .ensures .1) (c .before .before .before .before .before .before .before .before .before .parameters .ensures .0 .0) _ (body-from _ _ _ _ _ _ _ (tab-moved (moved-trans ((top-set (c .before .before .before .before .before .before .before .before .before .before .before .before .before .before .before .before .before .before .before .before .before .before .before .pre .1 .0) (c .before .before .before .before .before .before .before .before .small .ensures)) .moved) ((ret-clear (moved-noting ((top-set (c .before .before .before .before .before .before .before .before .before .before .before .before .before .before .before .before .before .before .before .before .before .before .before .pre .1 .0) (c .before .before .before .before .before .before .before .before .small .ensures)) .moved))) .moved)) _) ((ret-clear (moved-noting ((top-set (c .before .before .before .before .before .before .before .before .before .before .before .before .before .before .before .before .before .before .before .before .before .before .before .pre .1 .0) (c .before .before .before .before .before .before .before .before .small .ensures)) .moved))) .top-kept ∙ (top-set (c .before .before .before .before .before .before .before .before .before .before .before .before .before .before .before .before .before .before .before .before .before .before .before .pre .1 .0) (c .before .before .before .before .before .before .before .before .small .ensures)) .top-is) ((ret-clear (moved-noting ((top-set (c .before .before .before .before .before .before .before .before .before .before .before .before .before .before .before .before .before .before .before .before .before .before .before .pre .1 .0) (c .before .before .before .before .before .before .before .before .small .ensures)) .moved))) .ret-is) (c .before .before .before .block .ensures .0)) (end-other _ (c .before .before .before .block .ensures .1) (c .match .keys2)) loop))),
+  (λ loop. acted-from _ _ _ _ _ _ _ (c .before .before .before .before .before .before .before .before .before .before .before .before .before .before .before .before .before .before .before .wide32 .ensures .0) (done-moved ((ret-back (c .before .before .before .before .before .before .before .before .before .before .before .before .before .before .before .before .before .before .before .before .before .before .before .pre .1 .0) ((c .before .before .before .block .ensures .1) .noting)) .moved) (c .before .before .before .block .ensures .1) ((ret-back (c .before .before .before .before .before .before .before .before .before .before .before .before .before .before .before .before .before .before .before .before .before .before .before .pre .1 .0) ((c .before .before .before .block .ensures .1) .noting)) .top-kept) ((ret-back (c .before .before .before .before .before .before .before .before .before .before .before .before .before .before .before .before .before .before .before .before .before .before .before .pre .1 .0) ((c .before .before .before .block .ensures .1) .noting)) .ret-is) (def-bad (standing-as refl (c .before .before .before .before .before .before .before .before .before .before .before .before .before .before .before .before .before .before .before .wide32 .ensures .0) refl (c .before .before .before .before .before .before .before .before .before .before .before .before .before .before .before .before .before .before .before .before .before .before .before .pre .1 .1 .0)) (c .before .before .before .before .before .before .before .before .before .before .before .before .before .before .before .before .before .before .before .before .before .before .before .pre .1 .1 .1) (ap (λ d. d .children) (c .before .before .before .before .before .before .before .before .before .before .before .before .before .before .before .before .next .ensures .node)) (c .before .before .before .before .before .before .before .before .before .before .before .before .before .before .before .before .before .if1 .left) (c .before .before .before .before .before .before .before .before .before .before .before .clear .ensures) (c .before .before .before .before .before .before .before .before .before .before .before .before .before .before .before .before .next .ensures .at) (c .before .before .before .before .before .before .before .before .before .parameters .ensures .1) (c .before .before .before .before .before .before .before .before .before .parameters .ensures .0 .0) _ (body-from _ _ _ _ _ _ _ (tab-moved (moved-trans ((top-set (c .before .before .before .before .before .before .before .before .before .before .before .before .before .before .before .before .before .before .before .before .before .before .before .pre .1 .0) (c .before .before .before .before .before .before .before .before .small .ensures)) .moved) ((ret-clear (moved-noting ((top-set (c .before .before .before .before .before .before .before .before .before .before .before .before .before .before .before .before .before .before .before .before .before .before .before .pre .1 .0) (c .before .before .before .before .before .before .before .before .small .ensures)) .moved))) .moved)) _) ((ret-clear (moved-noting ((top-set (c .before .before .before .before .before .before .before .before .before .before .before .before .before .before .before .before .before .before .before .before .before .before .before .pre .1 .0) (c .before .before .before .before .before .before .before .before .small .ensures)) .moved))) .top-kept ∙ (top-set (c .before .before .before .before .before .before .before .before .before .before .before .before .before .before .before .before .before .before .before .before .before .before .before .pre .1 .0) (c .before .before .before .before .before .before .before .before .small .ensures)) .top-is) ((ret-clear (moved-noting ((top-set (c .before .before .before .before .before .before .before .before .before .before .before .before .before .before .before .before .before .before .before .before .before .before .before .pre .1 .0) (c .before .before .before .before .before .before .before .before .small .ensures)) .moved))) .ret-is) (c .before .before .before .block .ensures .0)) (end-other _ (c .before .before .before .block .ensures .1) (c .match .keys2)) loop))),
   tells-moved ((ret-back (c .before .before .before .before .before .before .before .before .before .before .before .before .before .before .before .before .before .before .before .before .before .before .before .pre .1 .0) ((c .before .before .before .block .ensures .1) .noting)) .moved) (c .before .before .before .block .ensures .1),
 )
 
-define-element-copy-out-notes : (t : ℕ) → define-lts.Need-element-copy-out-notes (wide-reads.Asked, wide-reads.Learnt, refuse-reads.Asked, refuse-reads.Learnt, next-reads.Asked, next-reads.Learnt, clear-reads.Asked, clear-reads.Learnt, parameters-reads.Asked, parameters-reads.Learnt, small-reads.Asked, small-reads.Learnt, block-below t, block.Post) (define-at t) define.Post
+define-element-copy-out-notes : (t : ℕ) → define-lts.Need-element-copy-out-notes (wide32-reads.Asked, wide32-reads.Learnt, refuse-reads.Asked, refuse-reads.Learnt, next-reads.Asked, next-reads.Learnt, clear-reads.Asked, clear-reads.Learnt, parameters-reads.Asked, parameters-reads.Learnt, small-reads.Asked, small-reads.Learnt, block-below t, block.Post) (define-at t) define.Post
 define-element-copy-out-notes t c = search needs
 
-define-sub-notes : (t : ℕ) → define-lts.Need-sub-notes (wide-reads.Asked, wide-reads.Learnt, refuse-reads.Asked, refuse-reads.Learnt, next-reads.Asked, next-reads.Learnt, clear-reads.Asked, clear-reads.Learnt, parameters-reads.Asked, parameters-reads.Learnt, small-reads.Asked, small-reads.Learnt, block-below t, block.Post) (define-at t) define.Post
+define-sub-notes : (t : ℕ) → define-lts.Need-sub-notes (wide32-reads.Asked, wide32-reads.Learnt, refuse-reads.Asked, refuse-reads.Learnt, next-reads.Asked, next-reads.Learnt, clear-reads.Asked, clear-reads.Learnt, parameters-reads.Asked, parameters-reads.Learnt, small-reads.Asked, small-reads.Learnt, block-below t, block.Post) (define-at t) define.Post
 define-sub-notes t c =
     let f = c .before .before .before .before .before .block .ensures .0 .fine (end-shallow _ (c .before .enum-told .given .1)) in
     let z = (ret-back (c .before .before .before .before .before .before .before .before .before .before .before .before .before .before .before .before .before .before .before .before .before .before .before .before .before .pre .1 .0) ((c .before .before .before .before .before .block .ensures .1) .noting)) in
@@ -430,301 +430,301 @@ define-sub-notes t c =
     let a = (top-set (c .before .before .before .before .before .before .before .before .before .before .before .before .before .before .before .before .before .before .before .before .before .before .before .before .before .pre .1 .0) (c .before .before .before .before .before .before .before .before .before .before .small .ensures)) in
     omega (arith, f .raised, z .top-kept, b .top-kept, a .top-is)
 
-define-element-write-notes-4 : (t : ℕ) → define-lts.Need-element-write-notes-4 (wide-reads.Asked, wide-reads.Learnt, refuse-reads.Asked, refuse-reads.Learnt, next-reads.Asked, next-reads.Learnt, clear-reads.Asked, clear-reads.Learnt, parameters-reads.Asked, parameters-reads.Learnt, small-reads.Asked, small-reads.Learnt, block-below t, block.Post) (define-at t) define.Post
+define-element-write-notes-4 : (t : ℕ) → define-lts.Need-element-write-notes-4 (wide32-reads.Asked, wide32-reads.Learnt, refuse-reads.Asked, refuse-reads.Learnt, next-reads.Asked, next-reads.Learnt, clear-reads.Asked, clear-reads.Learnt, parameters-reads.Asked, parameters-reads.Learnt, small-reads.Asked, small-reads.Learnt, block-below t, block.Post) (define-at t) define.Post
 define-element-write-notes-4 t c = search needs
 
-define-same-length-2 : (t : ℕ) → define-lts.Need-same-length-2 (wide-reads.Asked, wide-reads.Learnt, refuse-reads.Asked, refuse-reads.Learnt, next-reads.Asked, next-reads.Learnt, clear-reads.Asked, clear-reads.Learnt, parameters-reads.Asked, parameters-reads.Learnt, small-reads.Asked, small-reads.Learnt, block-below t, block.Post) (define-at t) define.Post
+define-same-length-2 : (t : ℕ) → define-lts.Need-same-length-2 (wide32-reads.Asked, wide32-reads.Learnt, refuse-reads.Asked, refuse-reads.Learnt, next-reads.Asked, next-reads.Learnt, clear-reads.Asked, clear-reads.Learnt, parameters-reads.Asked, parameters-reads.Learnt, small-reads.Asked, small-reads.Learnt, block-below t, block.Post) (define-at t) define.Post
 define-same-length-2 t c = search needs
 
-define-returns-3 : (t : ℕ) → define-lts.Need-returns-3 (wide-reads.Asked, wide-reads.Learnt, refuse-reads.Asked, refuse-reads.Learnt, next-reads.Asked, next-reads.Learnt, clear-reads.Asked, clear-reads.Learnt, parameters-reads.Asked, parameters-reads.Learnt, small-reads.Asked, small-reads.Learnt, block-below t, block.Post) (define-at t) define.Post
+define-returns-3 : (t : ℕ) → define-lts.Need-returns-3 (wide32-reads.Asked, wide32-reads.Learnt, refuse-reads.Asked, refuse-reads.Learnt, next-reads.Asked, next-reads.Learnt, clear-reads.Asked, clear-reads.Learnt, parameters-reads.Asked, parameters-reads.Learnt, small-reads.Asked, small-reads.Learnt, block-below t, block.Post) (define-at t) define.Post
 define-returns-3 t c =
     let z = (ret-back (c .before .before .before .before .before .before .before .before .before .before .before .before .before .before .before .before .before .before .before .before .before .before .before .before .before .pre .1 .0) ((c .before .before .before .before .before .block .ensures .1) .noting)) in
     let y = top-down (moved-noting (z .moved)) in (
-      (λ loop. acted-from _ _ _ _ _ _ _ (c .before .before .before .before .before .before .before .before .before .before .before .before .before .before .before .before .before .before .before .before .before .wide .ensures) (done-any refl refl
+      (λ loop. acted-from _ _ _ _ _ _ _ (c .before .before .before .before .before .before .before .before .before .before .before .before .before .before .before .before .before .before .before .before .before .wide32 .ensures .0) (done-any refl refl
           (done-ends (tab-moved (moved-trans (z .moved) (y .moved)) _) (y .top-is ∙ ap (λ h. h - 1) (z .top-kept)) (y .ret-kept ∙ z .ret-is)
-          (def-done (standing-as refl (c .before .before .before .before .before .before .before .before .before .before .before .before .before .before .before .before .before .before .before .before .before .wide .ensures) refl (c .before .before .before .before .before .before .before .before .before .before .before .before .before .before .before .before .before .before .before .before .before .before .before .before .before .pre .1 .1 .0)) (c .before .before .before .before .before .before .before .before .before .before .before .before .before .before .before .before .before .before .before .before .before .before .before .before .before .pre .1 .1 .1) (ap (λ d. d .children) (c .before .before .before .before .before .before .before .before .before .before .before .before .before .before .before .before .before .before .next .ensures .node)) (c .before .before .before .before .before .before .before .before .before .before .before .before .before .before .before .before .before .before .before .if1 .left) (c .before .before .before .before .before .before .before .before .before .before .before .before .before .clear .ensures) (c .before .before .before .before .before .before .before .before .before .before .before .before .before .before .before .before .before .before .next .ensures .at) (c .before .before .before .before .before .before .before .before .before .before .before .parameters .ensures .1) (c .before .before .before .before .before .before .before .before .before .before .before .parameters .ensures .0 .0) _ (body-from _ _ _ _ _ _ _ (tab-moved (moved-trans ((top-set (c .before .before .before .before .before .before .before .before .before .before .before .before .before .before .before .before .before .before .before .before .before .before .before .before .before .pre .1 .0) (c .before .before .before .before .before .before .before .before .before .before .small .ensures)) .moved) ((ret-clear (moved-noting ((top-set (c .before .before .before .before .before .before .before .before .before .before .before .before .before .before .before .before .before .before .before .before .before .before .before .before .before .pre .1 .0) (c .before .before .before .before .before .before .before .before .before .before .small .ensures)) .moved))) .moved)) _) ((ret-clear (moved-noting ((top-set (c .before .before .before .before .before .before .before .before .before .before .before .before .before .before .before .before .before .before .before .before .before .before .before .before .before .pre .1 .0) (c .before .before .before .before .before .before .before .before .before .before .small .ensures)) .moved))) .top-kept ∙ (top-set (c .before .before .before .before .before .before .before .before .before .before .before .before .before .before .before .before .before .before .before .before .before .before .before .before .before .pre .1 .0) (c .before .before .before .before .before .before .before .before .before .before .small .ensures)) .top-is) ((ret-clear (moved-noting ((top-set (c .before .before .before .before .before .before .before .before .before .before .before .before .before .before .before .before .before .before .before .before .before .before .before .before .before .pre .1 .0) (c .before .before .before .before .before .before .before .before .before .before .small .ensures)) .moved))) .ret-is) (c .before .before .before .before .before .block .ensures .0)) (end-well _ (c .before .enum-told .given .1)) loop)))),
+          (def-done (standing-as refl (c .before .before .before .before .before .before .before .before .before .before .before .before .before .before .before .before .before .before .before .before .before .wide32 .ensures .0) refl (c .before .before .before .before .before .before .before .before .before .before .before .before .before .before .before .before .before .before .before .before .before .before .before .before .before .pre .1 .1 .0)) (c .before .before .before .before .before .before .before .before .before .before .before .before .before .before .before .before .before .before .before .before .before .before .before .before .before .pre .1 .1 .1) (ap (λ d. d .children) (c .before .before .before .before .before .before .before .before .before .before .before .before .before .before .before .before .before .before .next .ensures .node)) (c .before .before .before .before .before .before .before .before .before .before .before .before .before .before .before .before .before .before .before .if1 .left) (c .before .before .before .before .before .before .before .before .before .before .before .before .before .clear .ensures) (c .before .before .before .before .before .before .before .before .before .before .before .before .before .before .before .before .before .before .next .ensures .at) (c .before .before .before .before .before .before .before .before .before .before .before .parameters .ensures .1) (c .before .before .before .before .before .before .before .before .before .before .before .parameters .ensures .0 .0) _ (body-from _ _ _ _ _ _ _ (tab-moved (moved-trans ((top-set (c .before .before .before .before .before .before .before .before .before .before .before .before .before .before .before .before .before .before .before .before .before .before .before .before .before .pre .1 .0) (c .before .before .before .before .before .before .before .before .before .before .small .ensures)) .moved) ((ret-clear (moved-noting ((top-set (c .before .before .before .before .before .before .before .before .before .before .before .before .before .before .before .before .before .before .before .before .before .before .before .before .before .pre .1 .0) (c .before .before .before .before .before .before .before .before .before .before .small .ensures)) .moved))) .moved)) _) ((ret-clear (moved-noting ((top-set (c .before .before .before .before .before .before .before .before .before .before .before .before .before .before .before .before .before .before .before .before .before .before .before .before .before .pre .1 .0) (c .before .before .before .before .before .before .before .before .before .before .small .ensures)) .moved))) .top-kept ∙ (top-set (c .before .before .before .before .before .before .before .before .before .before .before .before .before .before .before .before .before .before .before .before .before .before .before .before .before .pre .1 .0) (c .before .before .before .before .before .before .before .before .before .before .small .ensures)) .top-is) ((ret-clear (moved-noting ((top-set (c .before .before .before .before .before .before .before .before .before .before .before .before .before .before .before .before .before .before .before .before .before .before .before .before .before .pre .1 .0) (c .before .before .before .before .before .before .before .before .before .before .small .ensures)) .moved))) .ret-is) (c .before .before .before .before .before .block .ensures .0)) (end-well _ (c .before .enum-told .given .1)) loop)))),
       tells-ok (moved-noting (y .moved)) (λ e. done-apart e),
     )
 
-each-element-copy-out-wide : (t : ℕ) → each-lts.Need-element-copy-out-wide (wide-reads.Asked, wide-reads.Learnt, next-reads.Asked, next-reads.Learnt, elements-reads.Asked, elements-reads.Learnt, bind-reads.Asked, bind-reads.Learnt, over-reads.Asked, over-reads.Learnt, block-below t, block.Post, small-reads.Asked, small-reads.Learnt) (each-at t) each.Post
-each-element-copy-out-wide t c = search needs
+each-element-copy-out-wide32 : (t : ℕ) → each-lts.Need-element-copy-out-wide32 (wide32-reads.Asked, wide32-reads.Learnt, next-reads.Asked, next-reads.Learnt, elements-reads.Asked, elements-reads.Learnt, bind-reads.Asked, bind-reads.Learnt, over-reads.Asked, over-reads.Learnt, block-below t, block.Post, small-reads.Asked, small-reads.Learnt) (each-at t) each.Post
+each-element-copy-out-wide32 t c = search needs
 
-each-wide-requires : (t : ℕ) → each-lts.Need-wide-requires (wide-reads.Asked, wide-reads.Learnt, next-reads.Asked, next-reads.Learnt, elements-reads.Asked, elements-reads.Learnt, bind-reads.Asked, bind-reads.Learnt, over-reads.Asked, over-reads.Learnt, block-below t, block.Post, small-reads.Asked, small-reads.Learnt) (each-at t) each.Post
-each-wide-requires t c κs =
+each-wide32-requires : (t : ℕ) → each-lts.Need-wide32-requires (wide32-reads.Asked, wide32-reads.Learnt, next-reads.Asked, next-reads.Learnt, elements-reads.Asked, elements-reads.Learnt, bind-reads.Asked, bind-reads.Learnt, over-reads.Asked, over-reads.Learnt, block-below t, block.Post, small-reads.Asked, small-reads.Learnt) (each-at t) each.Post
+each-wide32-requires t c κs =
     search needs
 
-each-next-requires : (t : ℕ) → each-lts.Need-next-requires (wide-reads.Asked, wide-reads.Learnt, next-reads.Asked, next-reads.Learnt, elements-reads.Asked, elements-reads.Learnt, bind-reads.Asked, bind-reads.Learnt, over-reads.Asked, over-reads.Learnt, block-below t, block.Post, small-reads.Asked, small-reads.Learnt) (each-at t) each.Post
+each-next-requires : (t : ℕ) → each-lts.Need-next-requires (wide32-reads.Asked, wide32-reads.Learnt, next-reads.Asked, next-reads.Learnt, elements-reads.Asked, elements-reads.Learnt, bind-reads.Asked, bind-reads.Learnt, over-reads.Asked, over-reads.Learnt, block-below t, block.Post, small-reads.Asked, small-reads.Learnt) (each-at t) each.Post
 each-next-requires t c κs =
     (((c .before .before .before .before .pre .1 .1 .0) .ready .sound) .headed, record { nodes = (c .before .before .before .before .pre .1 .1 .0) .ready .nodes-at; within = (c .before .before .before .before .pre .1 .1 .1) .there })
 
-each-elements-requires : (t : ℕ) → each-lts.Need-elements-requires (wide-reads.Asked, wide-reads.Learnt, next-reads.Asked, next-reads.Learnt, elements-reads.Asked, elements-reads.Learnt, bind-reads.Asked, bind-reads.Learnt, over-reads.Asked, over-reads.Learnt, block-below t, block.Post, small-reads.Asked, small-reads.Learnt) (each-at t) each.Post
+each-elements-requires : (t : ℕ) → each-lts.Need-elements-requires (wide32-reads.Asked, wide32-reads.Learnt, next-reads.Asked, next-reads.Learnt, elements-reads.Asked, elements-reads.Learnt, bind-reads.Asked, bind-reads.Learnt, over-reads.Asked, over-reads.Learnt, block-below t, block.Post, small-reads.Asked, small-reads.Learnt) (each-at t) each.Post
 each-elements-requires t c κs =
-    ((c .before .before .before .before .before .before .before .before .before .before .pre .1 .0), rw (c .before .before .before .before .before .next .ensures .at) (ready-nodes (c .before .before .before .before .before .next .ensures .nodes) (first-ready (standing-as refl (c .before .before .before .before .before .before .wide .ensures) refl (c .before .before .before .before .before .before .before .before .before .before .pre .1 .1 .0)) (pair-for ((c .before .before .before .before .before .before .before .before .before .before .pre .1 .1 .0) .ready .sound) (c .before .before .before .before .before .before .before .before .before .before .pre .1 .1 .1))), (pair-for ((c .before .before .before .before .before .before .before .before .before .before .pre .1 .1 .0) .ready .sound) (c .before .before .before .before .before .before .before .before .before .before .pre .1 .1 .1)) .first))
+    ((c .before .before .before .before .before .before .before .before .before .before .pre .1 .0), rw (c .before .before .before .before .before .next .ensures .at) (ready-nodes (c .before .before .before .before .before .next .ensures .nodes) (first-ready (standing-as refl (c .before .before .before .before .before .before .wide32 .ensures .0) refl (c .before .before .before .before .before .before .before .before .before .before .pre .1 .1 .0)) (pair-for ((c .before .before .before .before .before .before .before .before .before .before .pre .1 .1 .0) .ready .sound) (c .before .before .before .before .before .before .before .before .before .before .pre .1 .1 .1))), (pair-for ((c .before .before .before .before .before .before .before .before .before .before .pre .1 .1 .0) .ready .sound) (c .before .before .before .before .before .before .before .before .before .before .pre .1 .1 .1)) .first))
 
-each-enum-known-v : (t : ℕ) → each-lts.Need-enum-known-v (wide-reads.Asked, wide-reads.Learnt, next-reads.Asked, next-reads.Learnt, elements-reads.Asked, elements-reads.Learnt, bind-reads.Asked, bind-reads.Learnt, over-reads.Asked, over-reads.Learnt, block-below t, block.Post, small-reads.Asked, small-reads.Learnt) (each-at t) each.Post
+each-enum-known-v : (t : ℕ) → each-lts.Need-enum-known-v (wide32-reads.Asked, wide32-reads.Learnt, next-reads.Asked, next-reads.Learnt, elements-reads.Asked, elements-reads.Learnt, bind-reads.Asked, bind-reads.Learnt, over-reads.Asked, over-reads.Learnt, block-below t, block.Post, small-reads.Asked, small-reads.Learnt) (each-at t) each.Post
 each-enum-known-v t c = search needs
 
-each-enum-told : (t : ℕ) → each-lts.Need-enum-told (wide-reads.Asked, wide-reads.Learnt, next-reads.Asked, next-reads.Learnt, elements-reads.Asked, elements-reads.Learnt, bind-reads.Asked, bind-reads.Learnt, over-reads.Asked, over-reads.Learnt, block-below t, block.Post, small-reads.Asked, small-reads.Learnt) (each-at t) each.Post
+each-enum-told : (t : ℕ) → each-lts.Need-enum-told (wide32-reads.Asked, wide32-reads.Learnt, next-reads.Asked, next-reads.Learnt, elements-reads.Asked, elements-reads.Learnt, bind-reads.Asked, bind-reads.Learnt, over-reads.Asked, over-reads.Learnt, block-below t, block.Post, small-reads.Asked, small-reads.Learnt) (each-at t) each.Post
 each-enum-told t c = search needs
 
-each-same-length : (t : ℕ) → each-lts.Need-same-length (wide-reads.Asked, wide-reads.Learnt, next-reads.Asked, next-reads.Learnt, elements-reads.Asked, elements-reads.Learnt, bind-reads.Asked, bind-reads.Learnt, over-reads.Asked, over-reads.Learnt, block-below t, block.Post, small-reads.Asked, small-reads.Learnt) (each-at t) each.Post
+each-same-length : (t : ℕ) → each-lts.Need-same-length (wide32-reads.Asked, wide32-reads.Learnt, next-reads.Asked, next-reads.Learnt, elements-reads.Asked, elements-reads.Learnt, bind-reads.Asked, bind-reads.Learnt, over-reads.Asked, over-reads.Learnt, block-below t, block.Post, small-reads.Asked, small-reads.Learnt) (each-at t) each.Post
 each-same-length t c = search needs
 
-each-returns : (t : ℕ) → each-lts.Need-returns (wide-reads.Asked, wide-reads.Learnt, next-reads.Asked, next-reads.Learnt, elements-reads.Asked, elements-reads.Learnt, bind-reads.Asked, bind-reads.Learnt, over-reads.Asked, over-reads.Learnt, block-below t, block.Post, small-reads.Asked, small-reads.Learnt) (each-at t) each.Post
+each-returns : (t : ℕ) → each-lts.Need-returns (wide32-reads.Asked, wide32-reads.Learnt, next-reads.Asked, next-reads.Learnt, elements-reads.Asked, elements-reads.Learnt, bind-reads.Asked, bind-reads.Learnt, over-reads.Asked, over-reads.Learnt, block-below t, block.Post, small-reads.Asked, small-reads.Learnt) (each-at t) each.Post
 each-returns t c = (
-  (λ loop. acted-from _ _ _ _ _ _ _ (c .before .before .before .before .before .before .before .before .before .before .before .wide .ensures) (done-ends refl ((c .before .before .before .before .elements .ensures .1) .top ∙ sym (c .before .before .before .before .before .before .before .before .before .before .before .wide .ensures)) ((c .before .before .before .before .elements .ensures .1) .ret) (for-bad (standing-as refl (c .before .before .before .before .before .before .before .before .before .before .before .wide .ensures) refl (c .before .before .before .before .before .before .before .before .before .before .before .before .before .before .before .pre .1 .1 .0)) (c .before .before .before .before .before .before .before .before .before .before .before .before .before .before .before .pre .1 .1 .1) (ap (λ d. d .arg) (c .before .before .before .before .before .before .before .before .before .before .next .ensures .node)) (iterated-err _ (c .enum-told .given .1) (rw (c .before .before .before .before .before .before .before .before .before .before .next .ensures .at) at (c .before .before .before .before .elements .ensures .0))) ((c .before .before .before .before .elements .ensures .1) .coded (c .enum-told .given .1)) _ loop))),
+  (λ loop. acted-from _ _ _ _ _ _ _ (c .before .before .before .before .before .before .before .before .before .before .before .wide32 .ensures .0) (done-ends refl ((c .before .before .before .before .elements .ensures .1) .top ∙ sym (c .before .before .before .before .before .before .before .before .before .before .before .wide32 .ensures .0)) ((c .before .before .before .before .elements .ensures .1) .ret) (for-bad (standing-as refl (c .before .before .before .before .before .before .before .before .before .before .before .wide32 .ensures .0) refl (c .before .before .before .before .before .before .before .before .before .before .before .before .before .before .before .pre .1 .1 .0)) (c .before .before .before .before .before .before .before .before .before .before .before .before .before .before .before .pre .1 .1 .1) (ap (λ d. d .arg) (c .before .before .before .before .before .before .before .before .before .before .next .ensures .node)) (iterated-err _ (c .enum-told .given .1) (rw (c .before .before .before .before .before .before .before .before .before .before .next .ensures .at) at (c .before .before .before .before .elements .ensures .0))) ((c .before .before .before .before .elements .ensures .1) .coded (c .enum-told .given .1)) _ loop))),
   tells-kept (kept-as (λ _. (c .enum-told .given .1)) (c .before .before .before .before .elements .ensures .1)) (λ _. (iterated-err _ (c .enum-told .given .1) (rw (c .before .before .before .before .before .before .before .before .before .before .next .ensures .at) at (c .before .before .before .before .elements .ensures .0))) .typing),
 )
 
-each-cast-bind : (t : ℕ) → each-lts.Need-cast-bind (wide-reads.Asked, wide-reads.Learnt, next-reads.Asked, next-reads.Learnt, elements-reads.Asked, elements-reads.Learnt, bind-reads.Asked, bind-reads.Learnt, over-reads.Asked, over-reads.Learnt, block-below t, block.Post, small-reads.Asked, small-reads.Learnt) (each-at t) each.Post
+each-cast-bind : (t : ℕ) → each-lts.Need-cast-bind (wide32-reads.Asked, wide32-reads.Learnt, next-reads.Asked, next-reads.Learnt, elements-reads.Asked, elements-reads.Learnt, bind-reads.Asked, bind-reads.Learnt, over-reads.Asked, over-reads.Learnt, block-below t, block.Post, small-reads.Asked, small-reads.Learnt) (each-at t) each.Post
 each-cast-bind t c = search needs
 
-each-bind-requires : (t : ℕ) → each-lts.Need-bind-requires (wide-reads.Asked, wide-reads.Learnt, next-reads.Asked, next-reads.Learnt, elements-reads.Asked, elements-reads.Learnt, bind-reads.Asked, bind-reads.Learnt, over-reads.Asked, over-reads.Learnt, block-below t, block.Post, small-reads.Asked, small-reads.Learnt) (each-at t) each.Post
+each-bind-requires : (t : ℕ) → each-lts.Need-bind-requires (wide32-reads.Asked, wide32-reads.Learnt, next-reads.Asked, next-reads.Learnt, elements-reads.Asked, elements-reads.Learnt, bind-reads.Asked, bind-reads.Learnt, over-reads.Asked, over-reads.Learnt, block-below t, block.Post, small-reads.Asked, small-reads.Learnt) (each-at t) each.Post
 each-bind-requires t c κs =
-    ((standing-as refl (c .before .before .before .before .before .before .before .before .before .before .before .before .before .before .before .wide .ensures) refl (c .before .before .before .before .before .before .before .before .before .before .before .before .before .before .before .before .before .before .before .pre .1 .1 .0)) .ready .fit .high, for-name (standing-as refl (c .before .before .before .before .before .before .before .before .before .before .before .before .before .before .before .wide .ensures) refl (c .before .before .before .before .before .before .before .before .before .before .before .before .before .before .before .before .before .before .before .pre .1 .1 .0)) (c .before .before .before .before .before .before .before .before .before .before .before .before .before .before .before .before .before .before .before .pre .1 .1 .1) (ap (λ d. d .arg) (c .before .before .before .before .before .before .before .before .before .before .before .before .before .before .next .ensures .node)) (iterated-ok _ (c .before .before .before .before .v .given .1) (rw (c .before .before .before .before .before .before .before .before .before .before .before .before .before .before .next .ensures .at) at (c .before .before .before .before .before .before .before .before .elements .ensures .0))), for-small (standing-as refl (c .before .before .before .before .before .before .before .before .before .before .before .before .before .before .before .wide .ensures) refl (c .before .before .before .before .before .before .before .before .before .before .before .before .before .before .before .before .before .before .before .pre .1 .1 .0)) (c .before .before .before .before .before .before .before .before .before .before .before .before .before .before .before .before .before .before .before .pre .1 .1 .1) (ap (λ d. d .arg) (c .before .before .before .before .before .before .before .before .before .before .before .before .before .before .next .ensures .node)) (iterated-ok _ (c .before .before .before .before .v .given .1) (rw (c .before .before .before .before .before .before .before .before .before .before .before .before .before .before .next .ensures .at) at (c .before .before .before .before .before .before .before .before .elements .ensures .0))) refl)
+    ((standing-as refl (c .before .before .before .before .before .before .before .before .before .before .before .before .before .before .before .wide32 .ensures .0) refl (c .before .before .before .before .before .before .before .before .before .before .before .before .before .before .before .before .before .before .before .pre .1 .1 .0)) .ready .fit .high, for-name (standing-as refl (c .before .before .before .before .before .before .before .before .before .before .before .before .before .before .before .wide32 .ensures .0) refl (c .before .before .before .before .before .before .before .before .before .before .before .before .before .before .before .before .before .before .before .pre .1 .1 .0)) (c .before .before .before .before .before .before .before .before .before .before .before .before .before .before .before .before .before .before .before .pre .1 .1 .1) (ap (λ d. d .arg) (c .before .before .before .before .before .before .before .before .before .before .before .before .before .before .next .ensures .node)) (iterated-ok _ (c .before .before .before .before .v .given .1) (rw (c .before .before .before .before .before .before .before .before .before .before .before .before .before .before .next .ensures .at) at (c .before .before .before .before .before .before .before .before .elements .ensures .0))), for-small (standing-as refl (c .before .before .before .before .before .before .before .before .before .before .before .before .before .before .before .wide32 .ensures .0) refl (c .before .before .before .before .before .before .before .before .before .before .before .before .before .before .before .before .before .before .before .pre .1 .1 .0)) (c .before .before .before .before .before .before .before .before .before .before .before .before .before .before .before .before .before .before .before .pre .1 .1 .1) (ap (λ d. d .arg) (c .before .before .before .before .before .before .before .before .before .before .before .before .before .before .next .ensures .node)) (iterated-ok _ (c .before .before .before .before .v .given .1) (rw (c .before .before .before .before .before .before .before .before .before .before .before .before .before .before .next .ensures .at) at (c .before .before .before .before .before .before .before .before .elements .ensures .0))) refl)
 
-each-over-requires : (t : ℕ) → each-lts.Need-over-requires (wide-reads.Asked, wide-reads.Learnt, next-reads.Asked, next-reads.Learnt, elements-reads.Asked, elements-reads.Learnt, bind-reads.Asked, bind-reads.Learnt, over-reads.Asked, over-reads.Learnt, block-below t, block.Post, small-reads.Asked, small-reads.Learnt) (each-at t) each.Post
+each-over-requires : (t : ℕ) → each-lts.Need-over-requires (wide32-reads.Asked, wide32-reads.Learnt, next-reads.Asked, next-reads.Learnt, elements-reads.Asked, elements-reads.Learnt, bind-reads.Asked, bind-reads.Learnt, over-reads.Asked, over-reads.Learnt, block-below t, block.Post, small-reads.Asked, small-reads.Learnt) (each-at t) each.Post
 each-over-requires t c κs =
     (((c .before .before .before .before .before .before .before .before .before .before .before .before .before .before .before .before .before .before .before .before .pre .1 .1 .0) .ready .sound) .headed, record { nodes = c .before .before .before .before .before .before .before .before .before .before .before .before .before .before .before .next .ensures .nodes; within = rw (c .before .before .before .before .before .before .before .before .before .before .before .before .before .before .before .next .ensures .at) ((pair-for ((c .before .before .before .before .before .before .before .before .before .before .before .before .before .before .before .before .before .before .before .before .pre .1 .1 .0) .ready .sound) (c .before .before .before .before .before .before .before .before .before .before .before .before .before .before .before .before .before .before .before .before .pre .1 .1 .1)) .first .there) })
 
-each-block-requires : (t : ℕ) → each-lts.Need-block-requires (wide-reads.Asked, wide-reads.Learnt, next-reads.Asked, next-reads.Learnt, elements-reads.Asked, elements-reads.Learnt, bind-reads.Asked, bind-reads.Learnt, over-reads.Asked, over-reads.Learnt, block-below t, block.Post, small-reads.Asked, small-reads.Learnt) (each-at t) each.Post
+each-block-requires : (t : ℕ) → each-lts.Need-block-requires (wide32-reads.Asked, wide32-reads.Learnt, next-reads.Asked, next-reads.Learnt, elements-reads.Asked, elements-reads.Learnt, bind-reads.Asked, bind-reads.Learnt, over-reads.Asked, over-reads.Learnt, block-below t, block.Post, small-reads.Asked, small-reads.Learnt) (each-at t) each.Post
 each-block-requires t c κs = (
   omega (arith, c .before .before .before .before .before .before .before .before .before .before .before .before .before .before .before .before .before .before .before .before .before .before .before .before .before .before .pre .0),
   (
     kept-noting (c .before .before .before .before .before .before .before .before .before .before .before .before .before .before .before .elements .ensures .1),
     (
-      standing-as refl ((c .before .before .before .before .before .before .before .before .before .before .before .before .before .before .before .elements .ensures .1) .top ∙ sym (c .before .before .before .before .before .before .before .before .before .before .before .before .before .before .before .before .before .before .before .before .before .before .wide .ensures)) ((c .before .before .before .before .before .before .before .before .before .before .before .before .before .before .before .elements .ensures .1) .ret)
-          (standing-nodes (c .before .before .before .before .before .over .ensures .nodes) (for-standing (standing-as refl (c .before .before .before .before .before .before .before .before .before .before .before .before .before .before .before .before .before .before .before .before .before .before .wide .ensures) refl (c .before .before .before .before .before .before .before .before .before .before .before .before .before .before .before .before .before .before .before .before .before .before .before .before .before .before .pre .1 .1 .0)) (c .before .before .before .before .before .before .before .before .before .before .before .before .before .before .before .before .before .before .before .before .before .before .before .before .before .before .pre .1 .1 .1) (ap (λ d. d .arg) (c .before .before .before .before .before .before .before .before .before .before .before .before .before .before .before .before .before .before .before .before .before .next .ensures .node)) (iterated-ok _ (c .before .before .before .before .before .before .before .before .before .before .before .v .given .1) (rw (c .before .before .before .before .before .before .before .before .before .before .before .before .before .before .before .before .before .before .before .before .before .next .ensures .at) at (c .before .before .before .before .before .before .before .before .before .before .before .before .before .before .before .elements .ensures .0))) refl (c .before .before .before .before .before .before .bind .ensures) (second-of (c .before .before .before .before .before .before .before .before .before .before .before .before .before .before .before .before .before .before .before .before .before .next .ensures) (c .before .before .before .before .before .over .ensures)))),
-      second-at (standing-as refl (c .before .before .before .before .before .before .before .before .before .before .before .before .before .before .before .before .before .before .before .before .before .before .wide .ensures) refl (c .before .before .before .before .before .before .before .before .before .before .before .before .before .before .before .before .before .before .before .before .before .before .before .before .before .before .pre .1 .1 .0)) (pair-for ((c .before .before .before .before .before .before .before .before .before .before .before .before .before .before .before .before .before .before .before .before .before .before .before .before .before .before .pre .1 .1 .0) .ready .sound) (c .before .before .before .before .before .before .before .before .before .before .before .before .before .before .before .before .before .before .before .before .before .before .before .before .before .before .pre .1 .1 .1)) (second-of (c .before .before .before .before .before .before .before .before .before .before .before .before .before .before .before .before .before .before .before .before .before .next .ensures) (c .before .before .before .before .before .over .ensures)),
+      standing-as refl ((c .before .before .before .before .before .before .before .before .before .before .before .before .before .before .before .elements .ensures .1) .top ∙ sym (c .before .before .before .before .before .before .before .before .before .before .before .before .before .before .before .before .before .before .before .before .before .before .wide32 .ensures .0)) ((c .before .before .before .before .before .before .before .before .before .before .before .before .before .before .before .elements .ensures .1) .ret)
+          (standing-nodes (c .before .before .before .before .before .over .ensures .nodes) (for-standing (standing-as refl (c .before .before .before .before .before .before .before .before .before .before .before .before .before .before .before .before .before .before .before .before .before .before .wide32 .ensures .0) refl (c .before .before .before .before .before .before .before .before .before .before .before .before .before .before .before .before .before .before .before .before .before .before .before .before .before .before .pre .1 .1 .0)) (c .before .before .before .before .before .before .before .before .before .before .before .before .before .before .before .before .before .before .before .before .before .before .before .before .before .before .pre .1 .1 .1) (ap (λ d. d .arg) (c .before .before .before .before .before .before .before .before .before .before .before .before .before .before .before .before .before .before .before .before .before .next .ensures .node)) (iterated-ok _ (c .before .before .before .before .before .before .before .before .before .before .before .v .given .1) (rw (c .before .before .before .before .before .before .before .before .before .before .before .before .before .before .before .before .before .before .before .before .before .next .ensures .at) at (c .before .before .before .before .before .before .before .before .before .before .before .before .before .before .before .elements .ensures .0))) refl (c .before .before .before .before .before .before .bind .ensures) (second-of (c .before .before .before .before .before .before .before .before .before .before .before .before .before .before .before .before .before .before .before .before .before .next .ensures) (c .before .before .before .before .before .over .ensures)))),
+      second-at (standing-as refl (c .before .before .before .before .before .before .before .before .before .before .before .before .before .before .before .before .before .before .before .before .before .before .wide32 .ensures .0) refl (c .before .before .before .before .before .before .before .before .before .before .before .before .before .before .before .before .before .before .before .before .before .before .before .before .before .before .pre .1 .1 .0)) (pair-for ((c .before .before .before .before .before .before .before .before .before .before .before .before .before .before .before .before .before .before .before .before .before .before .before .before .before .before .pre .1 .1 .0) .ready .sound) (c .before .before .before .before .before .before .before .before .before .before .before .before .before .before .before .before .before .before .before .before .before .before .before .before .before .before .pre .1 .1 .1)) (second-of (c .before .before .before .before .before .before .before .before .before .before .before .before .before .before .before .before .before .before .before .before .before .next .ensures) (c .before .before .before .before .before .over .ensures)),
     ),
   ),
 )
 
-each-small-requires : (t : ℕ) → each-lts.Need-small-requires (wide-reads.Asked, wide-reads.Learnt, next-reads.Asked, next-reads.Learnt, elements-reads.Asked, elements-reads.Learnt, bind-reads.Asked, bind-reads.Learnt, over-reads.Asked, over-reads.Learnt, block-below t, block.Post, small-reads.Asked, small-reads.Learnt) (each-at t) each.Post
+each-small-requires : (t : ℕ) → each-lts.Need-small-requires (wide32-reads.Asked, wide32-reads.Learnt, next-reads.Asked, next-reads.Learnt, elements-reads.Asked, elements-reads.Learnt, bind-reads.Asked, bind-reads.Learnt, over-reads.Asked, over-reads.Learnt, block-below t, block.Post, small-reads.Asked, small-reads.Learnt) (each-at t) each.Post
 each-small-requires t c κs =
-    omega (arith, (c .before .before .before .before .before .before .before .before .before .before .before .before .before .before .before .before .before .before .before .before .before .before .before .before .before .wide .ensures), (c .before .before .before .before .before .before .before .before .before .before .before .before .before .before .before .before .before .before .before .before .before .before .before .before .before .before .before .before .before .pre .1 .1 .0) .ready .fit .high)
+    omega (arith, (c .before .before .before .before .before .before .before .before .before .before .before .before .before .before .before .before .before .before .before .before .before .before .before .before .before .wide32 .ensures .0), (c .before .before .before .before .before .before .before .before .before .before .before .before .before .before .before .before .before .before .before .before .before .before .before .before .before .before .before .before .before .pre .1 .1 .0) .ready .fit .high)
 
-each-element-write-notes : (t : ℕ) → each-lts.Need-element-write-notes (wide-reads.Asked, wide-reads.Learnt, next-reads.Asked, next-reads.Learnt, elements-reads.Asked, elements-reads.Learnt, bind-reads.Asked, bind-reads.Learnt, over-reads.Asked, over-reads.Learnt, block-below t, block.Post, small-reads.Asked, small-reads.Learnt) (each-at t) each.Post
+each-element-write-notes : (t : ℕ) → each-lts.Need-element-write-notes (wide32-reads.Asked, wide32-reads.Learnt, next-reads.Asked, next-reads.Learnt, elements-reads.Asked, elements-reads.Learnt, bind-reads.Asked, bind-reads.Learnt, over-reads.Asked, over-reads.Learnt, block-below t, block.Post, small-reads.Asked, small-reads.Learnt) (each-at t) each.Post
 each-element-write-notes t c = search needs
 
-each-same-length-2 : (t : ℕ) → each-lts.Need-same-length-2 (wide-reads.Asked, wide-reads.Learnt, next-reads.Asked, next-reads.Learnt, elements-reads.Asked, elements-reads.Learnt, bind-reads.Asked, bind-reads.Learnt, over-reads.Asked, over-reads.Learnt, block-below t, block.Post, small-reads.Asked, small-reads.Learnt) (each-at t) each.Post
+each-same-length-2 : (t : ℕ) → each-lts.Need-same-length-2 (wide32-reads.Asked, wide32-reads.Learnt, next-reads.Asked, next-reads.Learnt, elements-reads.Asked, elements-reads.Learnt, bind-reads.Asked, bind-reads.Learnt, over-reads.Asked, over-reads.Learnt, block-below t, block.Post, small-reads.Asked, small-reads.Learnt) (each-at t) each.Post
 each-same-length-2 t c =
     let a = c .before .before .table2 .given in
     let b = c .before .before .before .before .before .before .before .before .before .before .before .before .before .before .before .before .before .before .table .given in
     search needs
 
-each-returns-2 : (t : ℕ) → each-lts.Need-returns-2 (wide-reads.Asked, wide-reads.Learnt, next-reads.Asked, next-reads.Learnt, elements-reads.Asked, elements-reads.Learnt, bind-reads.Asked, bind-reads.Learnt, over-reads.Asked, over-reads.Learnt, block-below t, block.Post, small-reads.Asked, small-reads.Learnt) (each-at t) each.Post
+each-returns-2 : (t : ℕ) → each-lts.Need-returns-2 (wide32-reads.Asked, wide32-reads.Learnt, next-reads.Asked, next-reads.Learnt, elements-reads.Asked, elements-reads.Learnt, bind-reads.Asked, bind-reads.Learnt, over-reads.Asked, over-reads.Learnt, block-below t, block.Post, small-reads.Asked, small-reads.Learnt) (each-at t) each.Post
 each-returns-2 t c = (
-  (λ loop. acted-from _ _ _ _ _ _ _ (c .before .before .before .before .before .before .before .before .before .before .before .before .before .before .before .before .before .before .before .before .before .before .before .before .before .before .wide .ensures) (done-moved ((top-set ((c .before .before .before .block .ensures .1) .noting) (c .small .ensures)) .moved) (c .before .before .before .block .ensures .1) ((top-set ((c .before .before .before .block .ensures .1) .noting) (c .small .ensures)) .top-is) ((top-set ((c .before .before .before .block .ensures .1) .noting) (c .small .ensures)) .ret-kept) (for-done (standing-as refl (c .before .before .before .before .before .before .before .before .before .before .before .before .before .before .before .before .before .before .before .before .before .before .before .before .before .before .wide .ensures) refl (c .before .before .before .before .before .before .before .before .before .before .before .before .before .before .before .before .before .before .before .before .before .before .before .before .before .before .before .before .before .before .pre .1 .1 .0)) (c .before .before .before .before .before .before .before .before .before .before .before .before .before .before .before .before .before .before .before .before .before .before .before .before .before .before .before .before .before .before .pre .1 .1 .1) (ap (λ d. d .arg) (c .before .before .before .before .before .before .before .before .before .before .before .before .before .before .before .before .before .before .before .before .before .before .before .before .before .next .ensures .node)) (iterated-ok _ (c .before .before .before .before .before .before .before .before .before .before .before .before .before .before .before .v .given .1) (rw (c .before .before .before .before .before .before .before .before .before .before .before .before .before .before .before .before .before .before .before .before .before .before .before .before .before .next .ensures .at) at (c .before .before .before .before .before .before .before .before .before .before .before .before .before .before .before .before .before .before .before .elements .ensures .0))) refl (c .before .before .before .before .before .before .before .before .before .before .bind .ensures) _ (second-of (c .before .before .before .before .before .before .before .before .before .before .before .before .before .before .before .before .before .before .before .before .before .before .before .before .before .next .ensures) (c .before .before .before .before .before .before .before .before .before .over .ensures)) (body-from _ _ _ _ _ _ _ refl ((c .before .before .before .before .before .before .before .before .before .before .before .before .before .before .before .before .before .before .before .elements .ensures .1) .top ∙ sym (c .before .before .before .before .before .before .before .before .before .before .before .before .before .before .before .before .before .before .before .before .before .before .before .before .before .before .wide .ensures)) ((c .before .before .before .before .before .before .before .before .before .before .before .before .before .before .before .before .before .before .before .elements .ensures .1) .ret) (c .before .before .before .block .ensures .0)) loop))),
+  (λ loop. acted-from _ _ _ _ _ _ _ (c .before .before .before .before .before .before .before .before .before .before .before .before .before .before .before .before .before .before .before .before .before .before .before .before .before .before .wide32 .ensures .0) (done-moved ((top-set ((c .before .before .before .block .ensures .1) .noting) (c .small .ensures)) .moved) (c .before .before .before .block .ensures .1) ((top-set ((c .before .before .before .block .ensures .1) .noting) (c .small .ensures)) .top-is) ((top-set ((c .before .before .before .block .ensures .1) .noting) (c .small .ensures)) .ret-kept) (for-done (standing-as refl (c .before .before .before .before .before .before .before .before .before .before .before .before .before .before .before .before .before .before .before .before .before .before .before .before .before .before .wide32 .ensures .0) refl (c .before .before .before .before .before .before .before .before .before .before .before .before .before .before .before .before .before .before .before .before .before .before .before .before .before .before .before .before .before .before .pre .1 .1 .0)) (c .before .before .before .before .before .before .before .before .before .before .before .before .before .before .before .before .before .before .before .before .before .before .before .before .before .before .before .before .before .before .pre .1 .1 .1) (ap (λ d. d .arg) (c .before .before .before .before .before .before .before .before .before .before .before .before .before .before .before .before .before .before .before .before .before .before .before .before .before .next .ensures .node)) (iterated-ok _ (c .before .before .before .before .before .before .before .before .before .before .before .before .before .before .before .v .given .1) (rw (c .before .before .before .before .before .before .before .before .before .before .before .before .before .before .before .before .before .before .before .before .before .before .before .before .before .next .ensures .at) at (c .before .before .before .before .before .before .before .before .before .before .before .before .before .before .before .before .before .before .before .elements .ensures .0))) refl (c .before .before .before .before .before .before .before .before .before .before .bind .ensures) _ (second-of (c .before .before .before .before .before .before .before .before .before .before .before .before .before .before .before .before .before .before .before .before .before .before .before .before .before .next .ensures) (c .before .before .before .before .before .before .before .before .before .over .ensures)) (body-from _ _ _ _ _ _ _ refl ((c .before .before .before .before .before .before .before .before .before .before .before .before .before .before .before .before .before .before .before .elements .ensures .1) .top ∙ sym (c .before .before .before .before .before .before .before .before .before .before .before .before .before .before .before .before .before .before .before .before .before .before .before .before .before .before .wide32 .ensures .0)) ((c .before .before .before .before .before .before .before .before .before .before .before .before .before .before .before .before .before .before .before .elements .ensures .1) .ret) (c .before .before .before .block .ensures .0)) loop))),
   tells-moved ((top-set ((c .before .before .before .block .ensures .1) .noting) (c .small .ensures)) .moved) (c .before .before .before .block .ensures .1),
 )
 
-one-arm-element-copy-out-wide : (t : ℕ) → one-arm-lts.Need-element-copy-out-wide (wide-reads.Asked, wide-reads.Learnt, ensure-bool-reads.Asked, ensure-bool-reads.Learnt, over-reads.Asked, over-reads.Learnt, block-below t, block.Post) (one-arm-at t) one-arm.Post
-one-arm-element-copy-out-wide t c = search needs
+one-arm-element-copy-out-wide32 : (t : ℕ) → one-arm-lts.Need-element-copy-out-wide32 (wide32-reads.Asked, wide32-reads.Learnt, ensure-bool-reads.Asked, ensure-bool-reads.Learnt, over-reads.Asked, over-reads.Learnt, block-below t, block.Post) (one-arm-at t) one-arm.Post
+one-arm-element-copy-out-wide32 t c = search needs
 
-one-arm-wide-requires : (t : ℕ) → one-arm-lts.Need-wide-requires (wide-reads.Asked, wide-reads.Learnt, ensure-bool-reads.Asked, ensure-bool-reads.Learnt, over-reads.Asked, over-reads.Learnt, block-below t, block.Post) (one-arm-at t) one-arm.Post
-one-arm-wide-requires t c κs =
+one-arm-wide32-requires : (t : ℕ) → one-arm-lts.Need-wide32-requires (wide32-reads.Asked, wide32-reads.Learnt, ensure-bool-reads.Asked, ensure-bool-reads.Learnt, over-reads.Asked, over-reads.Learnt, block-below t, block.Post) (one-arm-at t) one-arm.Post
+one-arm-wide32-requires t c κs =
     search needs
 
-one-arm-ensure-bool-requires : (t : ℕ) → one-arm-lts.Need-ensure-bool-requires (wide-reads.Asked, wide-reads.Learnt, ensure-bool-reads.Asked, ensure-bool-reads.Learnt, over-reads.Asked, over-reads.Learnt, block-below t, block.Post) (one-arm-at t) one-arm.Post
+one-arm-ensure-bool-requires : (t : ℕ) → one-arm-lts.Need-ensure-bool-requires (wide32-reads.Asked, wide32-reads.Learnt, ensure-bool-reads.Asked, ensure-bool-reads.Learnt, over-reads.Asked, over-reads.Learnt, block-below t, block.Post) (one-arm-at t) one-arm.Post
 one-arm-ensure-bool-requires t c κs =
-    ((c .before .before .before .before .before .before .before .before .before .pre .1 .0), (when-ready true (standing-as refl (c .before .before .before .before .wide .ensures) refl (c .before .before .before .before .before .before .before .before .before .pre .1 .1 .0)) (c .before .before .before .before .before .before .before .before .before .pre .1 .1 .1) (c .before .before .before .before .before .before .if1 .taken), (c .before .before .before .before .before .before .before .before .before .pre .1 .1 .1) .first))
+    ((c .before .before .before .before .before .before .before .before .before .pre .1 .0), (when-ready true (standing-as refl (c .before .before .before .before .wide32 .ensures .0) refl (c .before .before .before .before .before .before .before .before .before .pre .1 .1 .0)) (c .before .before .before .before .before .before .before .before .before .pre .1 .1 .1) (c .before .before .before .before .before .before .if1 .taken), (c .before .before .before .before .before .before .before .before .before .pre .1 .1 .1) .first))
 
-one-arm-enum-told : (t : ℕ) → one-arm-lts.Need-enum-told (wide-reads.Asked, wide-reads.Learnt, ensure-bool-reads.Asked, ensure-bool-reads.Learnt, over-reads.Asked, over-reads.Learnt, block-below t, block.Post) (one-arm-at t) one-arm.Post
+one-arm-enum-told : (t : ℕ) → one-arm-lts.Need-enum-told (wide32-reads.Asked, wide32-reads.Learnt, ensure-bool-reads.Asked, ensure-bool-reads.Learnt, over-reads.Asked, over-reads.Learnt, block-below t, block.Post) (one-arm-at t) one-arm.Post
 one-arm-enum-told t c = search needs
 
-one-arm-enum-told-2 : (t : ℕ) → one-arm-lts.Need-enum-told-2 (wide-reads.Asked, wide-reads.Learnt, ensure-bool-reads.Asked, ensure-bool-reads.Learnt, over-reads.Asked, over-reads.Learnt, block-below t, block.Post) (one-arm-at t) one-arm.Post
+one-arm-enum-told-2 : (t : ℕ) → one-arm-lts.Need-enum-told-2 (wide32-reads.Asked, wide32-reads.Learnt, ensure-bool-reads.Asked, ensure-bool-reads.Learnt, over-reads.Asked, over-reads.Learnt, block-below t, block.Post) (one-arm-at t) one-arm.Post
 one-arm-enum-told-2 t c = search needs
 
-one-arm-same-length : (t : ℕ) → one-arm-lts.Need-same-length (wide-reads.Asked, wide-reads.Learnt, ensure-bool-reads.Asked, ensure-bool-reads.Learnt, over-reads.Asked, over-reads.Learnt, block-below t, block.Post) (one-arm-at t) one-arm.Post
+one-arm-same-length : (t : ℕ) → one-arm-lts.Need-same-length (wide32-reads.Asked, wide32-reads.Learnt, ensure-bool-reads.Asked, ensure-bool-reads.Learnt, over-reads.Asked, over-reads.Learnt, block-below t, block.Post) (one-arm-at t) one-arm.Post
 one-arm-same-length t c = search needs
 
-one-arm-returns : (t : ℕ) → one-arm-lts.Need-returns (wide-reads.Asked, wide-reads.Learnt, ensure-bool-reads.Asked, ensure-bool-reads.Learnt, over-reads.Asked, over-reads.Learnt, block-below t, block.Post) (one-arm-at t) one-arm.Post
+one-arm-returns : (t : ℕ) → one-arm-lts.Need-returns (wide32-reads.Asked, wide32-reads.Learnt, ensure-bool-reads.Asked, ensure-bool-reads.Learnt, over-reads.Asked, over-reads.Learnt, block-below t, block.Post) (one-arm-at t) one-arm.Post
 one-arm-returns t c = (
-  armed-from _ _ _ _ _ _ _ _ (c .before .before .before .before .before .before .before .before .before .wide .ensures) (done-ends refl ((c .before .before .before .before .ensure-bool .ensures .1) .top ∙ sym (c .before .before .before .before .before .before .before .before .before .wide .ensures)) ((c .before .before .before .before .ensure-bool .ensures .1) .ret) (arm-bad _ (standing-as refl (c .before .before .before .before .before .before .before .before .before .wide .ensures) refl (c .before .before .before .before .before .before .before .before .before .before .before .before .before .before .pre .1 .1 .0)) (c .before .before .before .before .before .before .before .before .before .before .before .before .before .before .pre .1 .1 .1) (c .before .before .before .before .before .before .before .before .before .before .before .if1 .taken) (assigned-err _ (c .enum-told2 .given .1) (c .before .before .before .before .ensure-bool .ensures .0)) _ ((c .before .before .before .before .ensure-bool .ensures .1) .coded (c .enum-told2 .given .1)))),
+  armed-from _ _ _ _ _ _ _ _ (c .before .before .before .before .before .before .before .before .before .wide32 .ensures .0) (done-ends refl ((c .before .before .before .before .ensure-bool .ensures .1) .top ∙ sym (c .before .before .before .before .before .before .before .before .before .wide32 .ensures .0)) ((c .before .before .before .before .ensure-bool .ensures .1) .ret) (arm-bad _ (standing-as refl (c .before .before .before .before .before .before .before .before .before .wide32 .ensures .0) refl (c .before .before .before .before .before .before .before .before .before .before .before .before .before .before .pre .1 .1 .0)) (c .before .before .before .before .before .before .before .before .before .before .before .before .before .before .pre .1 .1 .1) (c .before .before .before .before .before .before .before .before .before .before .before .if1 .taken) (assigned-err _ (c .enum-told2 .given .1) (c .before .before .before .before .ensure-bool .ensures .0)) _ ((c .before .before .before .before .ensure-bool .ensures .1) .coded (c .enum-told2 .given .1)))),
   tells-kept (kept-as (λ _. (c .enum-told2 .given .1)) (c .before .before .before .before .ensure-bool .ensures .1)) (λ _. (assigned-err _ (c .enum-told2 .given .1) (c .before .before .before .before .ensure-bool .ensures .0)) .typing),
 )
 
-one-arm-over-requires : (t : ℕ) → one-arm-lts.Need-over-requires (wide-reads.Asked, wide-reads.Learnt, ensure-bool-reads.Asked, ensure-bool-reads.Learnt, over-reads.Asked, over-reads.Learnt, block-below t, block.Post) (one-arm-at t) one-arm.Post
+one-arm-over-requires : (t : ℕ) → one-arm-lts.Need-over-requires (wide32-reads.Asked, wide32-reads.Learnt, ensure-bool-reads.Asked, ensure-bool-reads.Learnt, over-reads.Asked, over-reads.Learnt, block-below t, block.Post) (one-arm-at t) one-arm.Post
 one-arm-over-requires t c κs =
     (((c .before .before .before .before .before .before .before .before .before .before .before .before .before .before .pre .1 .1 .0) .ready .sound) .headed, record { nodes = (c .before .before .before .before .before .before .before .before .before .before .before .before .before .before .pre .1 .1 .0) .ready .nodes-at; within = (c .before .before .before .before .before .before .before .before .before .before .before .before .before .before .pre .1 .1 .1) .first .there })
 
-one-arm-block-requires : (t : ℕ) → one-arm-lts.Need-block-requires (wide-reads.Asked, wide-reads.Learnt, ensure-bool-reads.Asked, ensure-bool-reads.Learnt, over-reads.Asked, over-reads.Learnt, block-below t, block.Post) (one-arm-at t) one-arm.Post
+one-arm-block-requires : (t : ℕ) → one-arm-lts.Need-block-requires (wide32-reads.Asked, wide32-reads.Learnt, ensure-bool-reads.Asked, ensure-bool-reads.Learnt, over-reads.Asked, over-reads.Learnt, block-below t, block.Post) (one-arm-at t) one-arm.Post
 one-arm-block-requires t c κs = (
   omega (arith, c .before .before .before .before .before .before .before .before .before .before .before .before .before .before .before .before .before .before .before .before .pre .0),
   (
     kept-noting (c .before .before .before .before .before .before .before .before .before .before .ensure-bool .ensures .1),
     (
-      standing-as refl ((c .before .before .before .before .before .before .before .before .before .before .ensure-bool .ensures .1) .top ∙ sym (c .before .before .before .before .before .before .before .before .before .before .before .before .before .before .before .wide .ensures)) ((c .before .before .before .before .before .before .before .before .before .before .ensure-bool .ensures .1) .ret) (standing-nodes (c .before .before .before .before .before .over .ensures .nodes) (when-standing true (standing-as refl (c .before .before .before .before .before .before .before .before .before .before .before .before .before .before .before .wide .ensures) refl (c .before .before .before .before .before .before .before .before .before .before .before .before .before .before .before .before .before .before .before .before .pre .1 .1 .0)) (c .before .before .before .before .before .before .before .before .before .before .before .before .before .before .before .before .before .before .before .before .pre .1 .1 .1) (c .before .before .before .before .before .before .before .before .before .before .before .before .before .before .before .before .before .if1 .taken) (assigned-ok _ (c .before .before .before .before .before .before .enum-told .given .1) (c .before .before .before .before .before .before .before .before .before .before .ensure-bool .ensures .0)) (stops (c .before .before .before .before .before .over .ensures)))),
-      when-at true (standing-as refl (c .before .before .before .before .before .before .before .before .before .before .before .before .before .before .before .wide .ensures) refl (c .before .before .before .before .before .before .before .before .before .before .before .before .before .before .before .before .before .before .before .before .pre .1 .1 .0)) (c .before .before .before .before .before .before .before .before .before .before .before .before .before .before .before .before .before .before .before .before .pre .1 .1 .1) (c .before .before .before .before .before .before .before .before .before .before .before .before .before .before .before .before .before .if1 .taken) (assigned-ok _ (c .before .before .before .before .before .before .enum-told .given .1) (c .before .before .before .before .before .before .before .before .before .before .ensure-bool .ensures .0)) (stops (c .before .before .before .before .before .over .ensures)),
+      standing-as refl ((c .before .before .before .before .before .before .before .before .before .before .ensure-bool .ensures .1) .top ∙ sym (c .before .before .before .before .before .before .before .before .before .before .before .before .before .before .before .wide32 .ensures .0)) ((c .before .before .before .before .before .before .before .before .before .before .ensure-bool .ensures .1) .ret) (standing-nodes (c .before .before .before .before .before .over .ensures .nodes) (when-standing true (standing-as refl (c .before .before .before .before .before .before .before .before .before .before .before .before .before .before .before .wide32 .ensures .0) refl (c .before .before .before .before .before .before .before .before .before .before .before .before .before .before .before .before .before .before .before .before .pre .1 .1 .0)) (c .before .before .before .before .before .before .before .before .before .before .before .before .before .before .before .before .before .before .before .before .pre .1 .1 .1) (c .before .before .before .before .before .before .before .before .before .before .before .before .before .before .before .before .before .if1 .taken) (assigned-ok _ (c .before .before .before .before .before .before .enum-told .given .1) (c .before .before .before .before .before .before .before .before .before .before .ensure-bool .ensures .0)) (stops (c .before .before .before .before .before .over .ensures)))),
+      when-at true (standing-as refl (c .before .before .before .before .before .before .before .before .before .before .before .before .before .before .before .wide32 .ensures .0) refl (c .before .before .before .before .before .before .before .before .before .before .before .before .before .before .before .before .before .before .before .before .pre .1 .1 .0)) (c .before .before .before .before .before .before .before .before .before .before .before .before .before .before .before .before .before .before .before .before .pre .1 .1 .1) (c .before .before .before .before .before .before .before .before .before .before .before .before .before .before .before .before .before .if1 .taken) (assigned-ok _ (c .before .before .before .before .before .before .enum-told .given .1) (c .before .before .before .before .before .before .before .before .before .before .ensure-bool .ensures .0)) (stops (c .before .before .before .before .before .over .ensures)),
     ),
   ),
 )
 
-one-arm-same-length-2 : (t : ℕ) → one-arm-lts.Need-same-length-2 (wide-reads.Asked, wide-reads.Learnt, ensure-bool-reads.Asked, ensure-bool-reads.Learnt, over-reads.Asked, over-reads.Learnt, block-below t, block.Post) (one-arm-at t) one-arm.Post
+one-arm-same-length-2 : (t : ℕ) → one-arm-lts.Need-same-length-2 (wide32-reads.Asked, wide32-reads.Learnt, ensure-bool-reads.Asked, ensure-bool-reads.Learnt, over-reads.Asked, over-reads.Learnt, block-below t, block.Post) (one-arm-at t) one-arm.Post
 one-arm-same-length-2 t c = search needs
 
-one-arm-returns-2 : (t : ℕ) → one-arm-lts.Need-returns-2 (wide-reads.Asked, wide-reads.Learnt, ensure-bool-reads.Asked, ensure-bool-reads.Learnt, over-reads.Asked, over-reads.Learnt, block-below t, block.Post) (one-arm-at t) one-arm.Post
+one-arm-returns-2 : (t : ℕ) → one-arm-lts.Need-returns-2 (wide32-reads.Asked, wide32-reads.Learnt, ensure-bool-reads.Asked, ensure-bool-reads.Learnt, over-reads.Asked, over-reads.Learnt, block-below t, block.Post) (one-arm-at t) one-arm.Post
 one-arm-returns-2 t c =
-    (armed-from _ _ _ _ _ _ _ _ (c .before .before .before .before .before .before .before .before .before .before .before .before .before .before .before .before .before .before .wide .ensures) (arm-done _ (standing-as refl (c .before .before .before .before .before .before .before .before .before .before .before .before .before .before .before .before .before .before .wide .ensures) refl (c .before .before .before .before .before .before .before .before .before .before .before .before .before .before .before .before .before .before .before .before .before .before .before .pre .1 .1 .0)) (c .before .before .before .before .before .before .before .before .before .before .before .before .before .before .before .before .before .before .before .before .before .before .before .pre .1 .1 .1) (c .before .before .before .before .before .before .before .before .before .before .before .before .before .before .before .before .before .before .before .before .if1 .taken) (assigned-ok _ (c .before .before .before .before .before .before .before .before .before .enum-told .given .1) (c .before .before .before .before .before .before .before .before .before .before .before .before .before .ensure-bool .ensures .0)) (stops (c .before .before .before .before .before .before .before .before .over .ensures)) _ (drops-if _) refl (body-from _ _ _ _ _ _ _ refl ((c .before .before .before .before .before .before .before .before .before .before .before .before .before .ensure-bool .ensures .1) .top ∙ sym (c .before .before .before .before .before .before .before .before .before .before .before .before .before .before .before .before .before .before .wide .ensures)) ((c .before .before .before .before .before .before .before .before .before .before .before .before .before .ensure-bool .ensures .1) .ret) (c .before .before .block .ensures .0))), c .before .before .block .ensures .1)
+    (armed-from _ _ _ _ _ _ _ _ (c .before .before .before .before .before .before .before .before .before .before .before .before .before .before .before .before .before .before .wide32 .ensures .0) (arm-done _ (standing-as refl (c .before .before .before .before .before .before .before .before .before .before .before .before .before .before .before .before .before .before .wide32 .ensures .0) refl (c .before .before .before .before .before .before .before .before .before .before .before .before .before .before .before .before .before .before .before .before .before .before .before .pre .1 .1 .0)) (c .before .before .before .before .before .before .before .before .before .before .before .before .before .before .before .before .before .before .before .before .before .before .before .pre .1 .1 .1) (c .before .before .before .before .before .before .before .before .before .before .before .before .before .before .before .before .before .before .before .before .if1 .taken) (assigned-ok _ (c .before .before .before .before .before .before .before .before .before .enum-told .given .1) (c .before .before .before .before .before .before .before .before .before .before .before .before .before .ensure-bool .ensures .0)) (stops (c .before .before .before .before .before .before .before .before .over .ensures)) _ (drops-if _) refl (body-from _ _ _ _ _ _ _ refl ((c .before .before .before .before .before .before .before .before .before .before .before .before .before .ensure-bool .ensures .1) .top ∙ sym (c .before .before .before .before .before .before .before .before .before .before .before .before .before .before .before .before .before .before .wide32 .ensures .0)) ((c .before .before .before .before .before .before .before .before .before .before .before .before .before .ensure-bool .ensures .1) .ret) (c .before .before .block .ensures .0))), c .before .before .block .ensures .1)
 
-one-arm-block-requires-2 : (t : ℕ) → one-arm-lts.Need-block-requires-2 (wide-reads.Asked, wide-reads.Learnt, ensure-bool-reads.Asked, ensure-bool-reads.Learnt, over-reads.Asked, over-reads.Learnt, block-below t, block.Post) (one-arm-at t) one-arm.Post
+one-arm-block-requires-2 : (t : ℕ) → one-arm-lts.Need-block-requires-2 (wide32-reads.Asked, wide32-reads.Learnt, ensure-bool-reads.Asked, ensure-bool-reads.Learnt, over-reads.Asked, over-reads.Learnt, block-below t, block.Post) (one-arm-at t) one-arm.Post
 one-arm-block-requires-2 t c κs =
     (omega (arith, c .before .before .before .before .before .before .before .pre .0), ((c .before .before .before .before .before .before .before .pre .1 .0), (last-standing true (c .before .before .before .before .before .before .before .pre .1 .1 .0) (c .before .before .before .before .before .before .before .pre .1 .1 .1) (c .before .before .before .before .if1 .left), (c .before .before .before .before .before .before .before .pre .1 .1 .1) .first)))
 
-one-arm-same-length-3 : (t : ℕ) → one-arm-lts.Need-same-length-3 (wide-reads.Asked, wide-reads.Learnt, ensure-bool-reads.Asked, ensure-bool-reads.Learnt, over-reads.Asked, over-reads.Learnt, block-below t, block.Post) (one-arm-at t) one-arm.Post
+one-arm-same-length-3 : (t : ℕ) → one-arm-lts.Need-same-length-3 (wide32-reads.Asked, wide32-reads.Learnt, ensure-bool-reads.Asked, ensure-bool-reads.Learnt, over-reads.Asked, over-reads.Learnt, block-below t, block.Post) (one-arm-at t) one-arm.Post
 one-arm-same-length-3 t c = search needs
 
-one-arm-returns-3 : (t : ℕ) → one-arm-lts.Need-returns-3 (wide-reads.Asked, wide-reads.Learnt, ensure-bool-reads.Asked, ensure-bool-reads.Learnt, over-reads.Asked, over-reads.Learnt, block-below t, block.Post) (one-arm-at t) one-arm.Post
+one-arm-returns-3 : (t : ℕ) → one-arm-lts.Need-returns-3 (wide32-reads.Asked, wide32-reads.Learnt, ensure-bool-reads.Asked, ensure-bool-reads.Learnt, over-reads.Asked, over-reads.Learnt, block-below t, block.Post) (one-arm-at t) one-arm.Post
 one-arm-returns-3 t c =
     (arm-last _ (c .before .before .before .before .before .before .before .before .before .before .pre .1 .1 .0) (c .before .before .before .before .before .before .before .before .before .before .pre .1 .1 .1) (c .before .before .before .before .before .before .before .if1 .left) _ (drops-if _) (c .before .before .block2 .ensures .0), c .before .before .block2 .ensures .1)
 
-repeat-element-copy-out-wide : (t : ℕ) → repeat-lts.Need-element-copy-out-wide (wide-reads.Asked, wide-reads.Learnt, next-reads.Asked, next-reads.Learnt, ensure-bool-reads.Asked, ensure-bool-reads.Learnt, over-reads.Asked, over-reads.Learnt, block-below t, block.Post, small-reads.Asked, small-reads.Learnt) (repeat-at t) repeat.Post
-repeat-element-copy-out-wide t c = search needs
+repeat-element-copy-out-wide32 : (t : ℕ) → repeat-lts.Need-element-copy-out-wide32 (wide32-reads.Asked, wide32-reads.Learnt, next-reads.Asked, next-reads.Learnt, ensure-bool-reads.Asked, ensure-bool-reads.Learnt, over-reads.Asked, over-reads.Learnt, block-below t, block.Post, small-reads.Asked, small-reads.Learnt) (repeat-at t) repeat.Post
+repeat-element-copy-out-wide32 t c = search needs
 
-repeat-wide-requires : (t : ℕ) → repeat-lts.Need-wide-requires (wide-reads.Asked, wide-reads.Learnt, next-reads.Asked, next-reads.Learnt, ensure-bool-reads.Asked, ensure-bool-reads.Learnt, over-reads.Asked, over-reads.Learnt, block-below t, block.Post, small-reads.Asked, small-reads.Learnt) (repeat-at t) repeat.Post
-repeat-wide-requires t c κs =
+repeat-wide32-requires : (t : ℕ) → repeat-lts.Need-wide32-requires (wide32-reads.Asked, wide32-reads.Learnt, next-reads.Asked, next-reads.Learnt, ensure-bool-reads.Asked, ensure-bool-reads.Learnt, over-reads.Asked, over-reads.Learnt, block-below t, block.Post, small-reads.Asked, small-reads.Learnt) (repeat-at t) repeat.Post
+repeat-wide32-requires t c κs =
     search needs
 
-repeat-next-requires : (t : ℕ) → repeat-lts.Need-next-requires (wide-reads.Asked, wide-reads.Learnt, next-reads.Asked, next-reads.Learnt, ensure-bool-reads.Asked, ensure-bool-reads.Learnt, over-reads.Asked, over-reads.Learnt, block-below t, block.Post, small-reads.Asked, small-reads.Learnt) (repeat-at t) repeat.Post
+repeat-next-requires : (t : ℕ) → repeat-lts.Need-next-requires (wide32-reads.Asked, wide32-reads.Learnt, next-reads.Asked, next-reads.Learnt, ensure-bool-reads.Asked, ensure-bool-reads.Learnt, over-reads.Asked, over-reads.Learnt, block-below t, block.Post, small-reads.Asked, small-reads.Learnt) (repeat-at t) repeat.Post
 repeat-next-requires t c κs =
     (((c .before .before .before .before .pre .1 .1 .0) .ready .sound) .headed, record { nodes = (c .before .before .before .before .pre .1 .1 .0) .ready .nodes-at; within = (c .before .before .before .before .pre .1 .1 .1) .there })
 
-repeat-ensure-bool-requires : (t : ℕ) → repeat-lts.Need-ensure-bool-requires (wide-reads.Asked, wide-reads.Learnt, next-reads.Asked, next-reads.Learnt, ensure-bool-reads.Asked, ensure-bool-reads.Learnt, over-reads.Asked, over-reads.Learnt, block-below t, block.Post, small-reads.Asked, small-reads.Learnt) (repeat-at t) repeat.Post
+repeat-ensure-bool-requires : (t : ℕ) → repeat-lts.Need-ensure-bool-requires (wide32-reads.Asked, wide32-reads.Learnt, next-reads.Asked, next-reads.Learnt, ensure-bool-reads.Asked, ensure-bool-reads.Learnt, over-reads.Asked, over-reads.Learnt, block-below t, block.Post, small-reads.Asked, small-reads.Learnt) (repeat-at t) repeat.Post
 repeat-ensure-bool-requires t c κs =
-    ((c .before .before .before .before .before .before .before .before .before .pre .1 .0), rw (c .before .before .before .before .next .ensures .at) (ready-nodes (c .before .before .before .before .next .ensures .nodes) (first-ready (standing-as refl (c .before .before .before .before .before .wide .ensures) refl (c .before .before .before .before .before .before .before .before .before .pre .1 .1 .0)) (pair-while ((c .before .before .before .before .before .before .before .before .before .pre .1 .1 .0) .ready .sound) (c .before .before .before .before .before .before .before .before .before .pre .1 .1 .1))), (pair-while ((c .before .before .before .before .before .before .before .before .before .pre .1 .1 .0) .ready .sound) (c .before .before .before .before .before .before .before .before .before .pre .1 .1 .1)) .first))
+    ((c .before .before .before .before .before .before .before .before .before .pre .1 .0), rw (c .before .before .before .before .next .ensures .at) (ready-nodes (c .before .before .before .before .next .ensures .nodes) (first-ready (standing-as refl (c .before .before .before .before .before .wide32 .ensures .0) refl (c .before .before .before .before .before .before .before .before .before .pre .1 .1 .0)) (pair-while ((c .before .before .before .before .before .before .before .before .before .pre .1 .1 .0) .ready .sound) (c .before .before .before .before .before .before .before .before .before .pre .1 .1 .1))), (pair-while ((c .before .before .before .before .before .before .before .before .before .pre .1 .1 .0) .ready .sound) (c .before .before .before .before .before .before .before .before .before .pre .1 .1 .1)) .first))
 
-repeat-enum-told : (t : ℕ) → repeat-lts.Need-enum-told (wide-reads.Asked, wide-reads.Learnt, next-reads.Asked, next-reads.Learnt, ensure-bool-reads.Asked, ensure-bool-reads.Learnt, over-reads.Asked, over-reads.Learnt, block-below t, block.Post, small-reads.Asked, small-reads.Learnt) (repeat-at t) repeat.Post
+repeat-enum-told : (t : ℕ) → repeat-lts.Need-enum-told (wide32-reads.Asked, wide32-reads.Learnt, next-reads.Asked, next-reads.Learnt, ensure-bool-reads.Asked, ensure-bool-reads.Learnt, over-reads.Asked, over-reads.Learnt, block-below t, block.Post, small-reads.Asked, small-reads.Learnt) (repeat-at t) repeat.Post
 repeat-enum-told t c = search needs
 
-repeat-enum-told-2 : (t : ℕ) → repeat-lts.Need-enum-told-2 (wide-reads.Asked, wide-reads.Learnt, next-reads.Asked, next-reads.Learnt, ensure-bool-reads.Asked, ensure-bool-reads.Learnt, over-reads.Asked, over-reads.Learnt, block-below t, block.Post, small-reads.Asked, small-reads.Learnt) (repeat-at t) repeat.Post
+repeat-enum-told-2 : (t : ℕ) → repeat-lts.Need-enum-told-2 (wide32-reads.Asked, wide32-reads.Learnt, next-reads.Asked, next-reads.Learnt, ensure-bool-reads.Asked, ensure-bool-reads.Learnt, over-reads.Asked, over-reads.Learnt, block-below t, block.Post, small-reads.Asked, small-reads.Learnt) (repeat-at t) repeat.Post
 repeat-enum-told-2 t c = search needs
 
-repeat-same-length : (t : ℕ) → repeat-lts.Need-same-length (wide-reads.Asked, wide-reads.Learnt, next-reads.Asked, next-reads.Learnt, ensure-bool-reads.Asked, ensure-bool-reads.Learnt, over-reads.Asked, over-reads.Learnt, block-below t, block.Post, small-reads.Asked, small-reads.Learnt) (repeat-at t) repeat.Post
+repeat-same-length : (t : ℕ) → repeat-lts.Need-same-length (wide32-reads.Asked, wide32-reads.Learnt, next-reads.Asked, next-reads.Learnt, ensure-bool-reads.Asked, ensure-bool-reads.Learnt, over-reads.Asked, over-reads.Learnt, block-below t, block.Post, small-reads.Asked, small-reads.Learnt) (repeat-at t) repeat.Post
 repeat-same-length t c = search needs
 
-repeat-returns : (t : ℕ) → repeat-lts.Need-returns (wide-reads.Asked, wide-reads.Learnt, next-reads.Asked, next-reads.Learnt, ensure-bool-reads.Asked, ensure-bool-reads.Learnt, over-reads.Asked, over-reads.Learnt, block-below t, block.Post, small-reads.Asked, small-reads.Learnt) (repeat-at t) repeat.Post
+repeat-returns : (t : ℕ) → repeat-lts.Need-returns (wide32-reads.Asked, wide32-reads.Learnt, next-reads.Asked, next-reads.Learnt, ensure-bool-reads.Asked, ensure-bool-reads.Learnt, over-reads.Asked, over-reads.Learnt, block-below t, block.Post, small-reads.Asked, small-reads.Learnt) (repeat-at t) repeat.Post
 repeat-returns t c = (
-  (λ loop. acted-from _ _ _ _ _ _ _ (c .before .before .before .before .before .before .before .before .before .before .wide .ensures) (done-ends refl ((c .before .before .before .before .ensure-bool .ensures .1) .top ∙ sym (c .before .before .before .before .before .before .before .before .before .before .wide .ensures)) ((c .before .before .before .before .ensure-bool .ensures .1) .ret) (while-bad (standing-as refl (c .before .before .before .before .before .before .before .before .before .before .wide .ensures) refl (c .before .before .before .before .before .before .before .before .before .before .before .before .before .before .pre .1 .1 .0)) (c .before .before .before .before .before .before .before .before .before .before .before .before .before .before .pre .1 .1 .1) (assigned-err _ (c .enum-told2 .given .1) (rw (c .before .before .before .before .before .before .before .before .before .next .ensures .at) at (c .before .before .before .before .ensure-bool .ensures .0))) ((c .before .before .before .before .ensure-bool .ensures .1) .coded (c .enum-told2 .given .1)) _ loop))),
+  (λ loop. acted-from _ _ _ _ _ _ _ (c .before .before .before .before .before .before .before .before .before .before .wide32 .ensures .0) (done-ends refl ((c .before .before .before .before .ensure-bool .ensures .1) .top ∙ sym (c .before .before .before .before .before .before .before .before .before .before .wide32 .ensures .0)) ((c .before .before .before .before .ensure-bool .ensures .1) .ret) (while-bad (standing-as refl (c .before .before .before .before .before .before .before .before .before .before .wide32 .ensures .0) refl (c .before .before .before .before .before .before .before .before .before .before .before .before .before .before .pre .1 .1 .0)) (c .before .before .before .before .before .before .before .before .before .before .before .before .before .before .pre .1 .1 .1) (assigned-err _ (c .enum-told2 .given .1) (rw (c .before .before .before .before .before .before .before .before .before .next .ensures .at) at (c .before .before .before .before .ensure-bool .ensures .0))) ((c .before .before .before .before .ensure-bool .ensures .1) .coded (c .enum-told2 .given .1)) _ loop))),
   tells-kept (kept-as (λ _. (c .enum-told2 .given .1)) (c .before .before .before .before .ensure-bool .ensures .1)) (λ _. (assigned-err _ (c .enum-told2 .given .1) (rw (c .before .before .before .before .before .before .before .before .before .next .ensures .at) at (c .before .before .before .before .ensure-bool .ensures .0))) .typing),
 )
 
-repeat-over-requires : (t : ℕ) → repeat-lts.Need-over-requires (wide-reads.Asked, wide-reads.Learnt, next-reads.Asked, next-reads.Learnt, ensure-bool-reads.Asked, ensure-bool-reads.Learnt, over-reads.Asked, over-reads.Learnt, block-below t, block.Post, small-reads.Asked, small-reads.Learnt) (repeat-at t) repeat.Post
+repeat-over-requires : (t : ℕ) → repeat-lts.Need-over-requires (wide32-reads.Asked, wide32-reads.Learnt, next-reads.Asked, next-reads.Learnt, ensure-bool-reads.Asked, ensure-bool-reads.Learnt, over-reads.Asked, over-reads.Learnt, block-below t, block.Post, small-reads.Asked, small-reads.Learnt) (repeat-at t) repeat.Post
 repeat-over-requires t c κs =
     (((c .before .before .before .before .before .before .before .before .before .before .before .before .before .before .before .pre .1 .1 .0) .ready .sound) .headed, record { nodes = c .before .before .before .before .before .before .before .before .before .before .next .ensures .nodes; within = rw (c .before .before .before .before .before .before .before .before .before .before .next .ensures .at) ((pair-while ((c .before .before .before .before .before .before .before .before .before .before .before .before .before .before .before .pre .1 .1 .0) .ready .sound) (c .before .before .before .before .before .before .before .before .before .before .before .before .before .before .before .pre .1 .1 .1)) .first .there) })
 
-repeat-block-requires : (t : ℕ) → repeat-lts.Need-block-requires (wide-reads.Asked, wide-reads.Learnt, next-reads.Asked, next-reads.Learnt, ensure-bool-reads.Asked, ensure-bool-reads.Learnt, over-reads.Asked, over-reads.Learnt, block-below t, block.Post, small-reads.Asked, small-reads.Learnt) (repeat-at t) repeat.Post
+repeat-block-requires : (t : ℕ) → repeat-lts.Need-block-requires (wide32-reads.Asked, wide32-reads.Learnt, next-reads.Asked, next-reads.Learnt, ensure-bool-reads.Asked, ensure-bool-reads.Learnt, over-reads.Asked, over-reads.Learnt, block-below t, block.Post, small-reads.Asked, small-reads.Learnt) (repeat-at t) repeat.Post
 repeat-block-requires t c κs = (
   omega (arith, c .before .before .before .before .before .before .before .before .before .before .before .before .before .before .before .before .before .before .before .before .before .pre .0),
   (
     kept-noting (c .before .before .before .before .before .before .before .before .before .before .before .ensure-bool .ensures .1),
     (
-      standing-as refl ((c .before .before .before .before .before .before .before .before .before .before .before .ensure-bool .ensures .1) .top ∙ sym (c .before .before .before .before .before .before .before .before .before .before .before .before .before .before .before .before .before .wide .ensures)) ((c .before .before .before .before .before .before .before .before .before .before .before .ensure-bool .ensures .1) .ret)
-          (standing-nodes (c .before .before .before .before .before .over .ensures .nodes) (second-standing (standing-as refl (c .before .before .before .before .before .before .before .before .before .before .before .before .before .before .before .before .before .wide .ensures) refl (c .before .before .before .before .before .before .before .before .before .before .before .before .before .before .before .before .before .before .before .before .before .pre .1 .1 .0)) (pair-while ((c .before .before .before .before .before .before .before .before .before .before .before .before .before .before .before .before .before .before .before .before .before .pre .1 .1 .0) .ready .sound) (c .before .before .before .before .before .before .before .before .before .before .before .before .before .before .before .before .before .before .before .before .before .pre .1 .1 .1)) (second-of (c .before .before .before .before .before .before .before .before .before .before .before .before .before .before .before .before .next .ensures) (c .before .before .before .before .before .over .ensures)) ((assigned-ok _ (c .before .before .before .before .before .before .before .enum-told .given .1) (rw (c .before .before .before .before .before .before .before .before .before .before .before .before .before .before .before .before .next .ensures .at) at (c .before .before .before .before .before .before .before .before .before .before .before .ensure-bool .ensures .0))) .left) ((assigned-ok _ (c .before .before .before .before .before .before .before .enum-told .given .1) (rw (c .before .before .before .before .before .before .before .before .before .before .before .before .before .before .before .before .next .ensures .at) at (c .before .before .before .before .before .before .before .before .before .before .before .ensure-bool .ensures .0))) .left .fit))),
-      second-at (standing-as refl (c .before .before .before .before .before .before .before .before .before .before .before .before .before .before .before .before .before .wide .ensures) refl (c .before .before .before .before .before .before .before .before .before .before .before .before .before .before .before .before .before .before .before .before .before .pre .1 .1 .0)) (pair-while ((c .before .before .before .before .before .before .before .before .before .before .before .before .before .before .before .before .before .before .before .before .before .pre .1 .1 .0) .ready .sound) (c .before .before .before .before .before .before .before .before .before .before .before .before .before .before .before .before .before .before .before .before .before .pre .1 .1 .1)) (second-of (c .before .before .before .before .before .before .before .before .before .before .before .before .before .before .before .before .next .ensures) (c .before .before .before .before .before .over .ensures)),
+      standing-as refl ((c .before .before .before .before .before .before .before .before .before .before .before .ensure-bool .ensures .1) .top ∙ sym (c .before .before .before .before .before .before .before .before .before .before .before .before .before .before .before .before .before .wide32 .ensures .0)) ((c .before .before .before .before .before .before .before .before .before .before .before .ensure-bool .ensures .1) .ret)
+          (standing-nodes (c .before .before .before .before .before .over .ensures .nodes) (second-standing (standing-as refl (c .before .before .before .before .before .before .before .before .before .before .before .before .before .before .before .before .before .wide32 .ensures .0) refl (c .before .before .before .before .before .before .before .before .before .before .before .before .before .before .before .before .before .before .before .before .before .pre .1 .1 .0)) (pair-while ((c .before .before .before .before .before .before .before .before .before .before .before .before .before .before .before .before .before .before .before .before .before .pre .1 .1 .0) .ready .sound) (c .before .before .before .before .before .before .before .before .before .before .before .before .before .before .before .before .before .before .before .before .before .pre .1 .1 .1)) (second-of (c .before .before .before .before .before .before .before .before .before .before .before .before .before .before .before .before .next .ensures) (c .before .before .before .before .before .over .ensures)) ((assigned-ok _ (c .before .before .before .before .before .before .before .enum-told .given .1) (rw (c .before .before .before .before .before .before .before .before .before .before .before .before .before .before .before .before .next .ensures .at) at (c .before .before .before .before .before .before .before .before .before .before .before .ensure-bool .ensures .0))) .left) ((assigned-ok _ (c .before .before .before .before .before .before .before .enum-told .given .1) (rw (c .before .before .before .before .before .before .before .before .before .before .before .before .before .before .before .before .next .ensures .at) at (c .before .before .before .before .before .before .before .before .before .before .before .ensure-bool .ensures .0))) .left .fit))),
+      second-at (standing-as refl (c .before .before .before .before .before .before .before .before .before .before .before .before .before .before .before .before .before .wide32 .ensures .0) refl (c .before .before .before .before .before .before .before .before .before .before .before .before .before .before .before .before .before .before .before .before .before .pre .1 .1 .0)) (pair-while ((c .before .before .before .before .before .before .before .before .before .before .before .before .before .before .before .before .before .before .before .before .before .pre .1 .1 .0) .ready .sound) (c .before .before .before .before .before .before .before .before .before .before .before .before .before .before .before .before .before .before .before .before .before .pre .1 .1 .1)) (second-of (c .before .before .before .before .before .before .before .before .before .before .before .before .before .before .before .before .next .ensures) (c .before .before .before .before .before .over .ensures)),
     ),
   ),
 )
 
-repeat-small-requires : (t : ℕ) → repeat-lts.Need-small-requires (wide-reads.Asked, wide-reads.Learnt, next-reads.Asked, next-reads.Learnt, ensure-bool-reads.Asked, ensure-bool-reads.Learnt, over-reads.Asked, over-reads.Learnt, block-below t, block.Post, small-reads.Asked, small-reads.Learnt) (repeat-at t) repeat.Post
+repeat-small-requires : (t : ℕ) → repeat-lts.Need-small-requires (wide32-reads.Asked, wide32-reads.Learnt, next-reads.Asked, next-reads.Learnt, ensure-bool-reads.Asked, ensure-bool-reads.Learnt, over-reads.Asked, over-reads.Learnt, block-below t, block.Post, small-reads.Asked, small-reads.Learnt) (repeat-at t) repeat.Post
 repeat-small-requires t c κs =
-    omega (arith, (c .before .before .before .before .before .before .before .before .before .before .before .before .before .before .before .before .before .before .before .before .wide .ensures), (c .before .before .before .before .before .before .before .before .before .before .before .before .before .before .before .before .before .before .before .before .before .before .before .before .pre .1 .1 .0) .ready .fit .high)
+    omega (arith, (c .before .before .before .before .before .before .before .before .before .before .before .before .before .before .before .before .before .before .before .before .wide32 .ensures .0), (c .before .before .before .before .before .before .before .before .before .before .before .before .before .before .before .before .before .before .before .before .before .before .before .before .pre .1 .1 .0) .ready .fit .high)
 
-repeat-element-write-notes : (t : ℕ) → repeat-lts.Need-element-write-notes (wide-reads.Asked, wide-reads.Learnt, next-reads.Asked, next-reads.Learnt, ensure-bool-reads.Asked, ensure-bool-reads.Learnt, over-reads.Asked, over-reads.Learnt, block-below t, block.Post, small-reads.Asked, small-reads.Learnt) (repeat-at t) repeat.Post
+repeat-element-write-notes : (t : ℕ) → repeat-lts.Need-element-write-notes (wide32-reads.Asked, wide32-reads.Learnt, next-reads.Asked, next-reads.Learnt, ensure-bool-reads.Asked, ensure-bool-reads.Learnt, over-reads.Asked, over-reads.Learnt, block-below t, block.Post, small-reads.Asked, small-reads.Learnt) (repeat-at t) repeat.Post
 repeat-element-write-notes t c = search needs
 
-repeat-same-length-2 : (t : ℕ) → repeat-lts.Need-same-length-2 (wide-reads.Asked, wide-reads.Learnt, next-reads.Asked, next-reads.Learnt, ensure-bool-reads.Asked, ensure-bool-reads.Learnt, over-reads.Asked, over-reads.Learnt, block-below t, block.Post, small-reads.Asked, small-reads.Learnt) (repeat-at t) repeat.Post
+repeat-same-length-2 : (t : ℕ) → repeat-lts.Need-same-length-2 (wide32-reads.Asked, wide32-reads.Learnt, next-reads.Asked, next-reads.Learnt, ensure-bool-reads.Asked, ensure-bool-reads.Learnt, over-reads.Asked, over-reads.Learnt, block-below t, block.Post, small-reads.Asked, small-reads.Learnt) (repeat-at t) repeat.Post
 repeat-same-length-2 t c = search needs
 
-repeat-returns-2 : (t : ℕ) → repeat-lts.Need-returns-2 (wide-reads.Asked, wide-reads.Learnt, next-reads.Asked, next-reads.Learnt, ensure-bool-reads.Asked, ensure-bool-reads.Learnt, over-reads.Asked, over-reads.Learnt, block-below t, block.Post, small-reads.Asked, small-reads.Learnt) (repeat-at t) repeat.Post
+repeat-returns-2 : (t : ℕ) → repeat-lts.Need-returns-2 (wide32-reads.Asked, wide32-reads.Learnt, next-reads.Asked, next-reads.Learnt, ensure-bool-reads.Asked, ensure-bool-reads.Learnt, over-reads.Asked, over-reads.Learnt, block-below t, block.Post, small-reads.Asked, small-reads.Learnt) (repeat-at t) repeat.Post
 repeat-returns-2 t c = (
-  (λ loop. acted-from _ _ _ _ _ _ _ (c .before .before .before .before .before .before .before .before .before .before .before .before .before .before .before .before .before .before .before .before .before .wide .ensures) (done-moved ((top-set ((c .before .before .before .block .ensures .1) .noting) (c .small .ensures)) .moved) (c .before .before .before .block .ensures .1) ((top-set ((c .before .before .before .block .ensures .1) .noting) (c .small .ensures)) .top-is) ((top-set ((c .before .before .before .block .ensures .1) .noting) (c .small .ensures)) .ret-kept) (while-done (standing-as refl (c .before .before .before .before .before .before .before .before .before .before .before .before .before .before .before .before .before .before .before .before .before .wide .ensures) refl (c .before .before .before .before .before .before .before .before .before .before .before .before .before .before .before .before .before .before .before .before .before .before .before .before .before .pre .1 .1 .0)) (c .before .before .before .before .before .before .before .before .before .before .before .before .before .before .before .before .before .before .before .before .before .before .before .before .before .pre .1 .1 .1) (assigned-ok _ (c .before .before .before .before .before .before .before .before .before .before .before .enum-told .given .1) (rw (c .before .before .before .before .before .before .before .before .before .before .before .before .before .before .before .before .before .before .before .before .next .ensures .at) at (c .before .before .before .before .before .before .before .before .before .before .before .before .before .before .before .ensure-bool .ensures .0))) _ (drops-if _) refl (second-of (c .before .before .before .before .before .before .before .before .before .before .before .before .before .before .before .before .before .before .before .before .next .ensures) (c .before .before .before .before .before .before .before .before .before .over .ensures)) (body-from _ _ _ _ _ _ _ refl ((c .before .before .before .before .before .before .before .before .before .before .before .before .before .before .before .ensure-bool .ensures .1) .top ∙ sym (c .before .before .before .before .before .before .before .before .before .before .before .before .before .before .before .before .before .before .before .before .before .wide .ensures)) ((c .before .before .before .before .before .before .before .before .before .before .before .before .before .before .before .ensure-bool .ensures .1) .ret) (c .before .before .before .block .ensures .0)) loop))),
+  (λ loop. acted-from _ _ _ _ _ _ _ (c .before .before .before .before .before .before .before .before .before .before .before .before .before .before .before .before .before .before .before .before .before .wide32 .ensures .0) (done-moved ((top-set ((c .before .before .before .block .ensures .1) .noting) (c .small .ensures)) .moved) (c .before .before .before .block .ensures .1) ((top-set ((c .before .before .before .block .ensures .1) .noting) (c .small .ensures)) .top-is) ((top-set ((c .before .before .before .block .ensures .1) .noting) (c .small .ensures)) .ret-kept) (while-done (standing-as refl (c .before .before .before .before .before .before .before .before .before .before .before .before .before .before .before .before .before .before .before .before .before .wide32 .ensures .0) refl (c .before .before .before .before .before .before .before .before .before .before .before .before .before .before .before .before .before .before .before .before .before .before .before .before .before .pre .1 .1 .0)) (c .before .before .before .before .before .before .before .before .before .before .before .before .before .before .before .before .before .before .before .before .before .before .before .before .before .pre .1 .1 .1) (assigned-ok _ (c .before .before .before .before .before .before .before .before .before .before .before .enum-told .given .1) (rw (c .before .before .before .before .before .before .before .before .before .before .before .before .before .before .before .before .before .before .before .before .next .ensures .at) at (c .before .before .before .before .before .before .before .before .before .before .before .before .before .before .before .ensure-bool .ensures .0))) _ (drops-if _) refl (second-of (c .before .before .before .before .before .before .before .before .before .before .before .before .before .before .before .before .before .before .before .before .next .ensures) (c .before .before .before .before .before .before .before .before .before .over .ensures)) (body-from _ _ _ _ _ _ _ refl ((c .before .before .before .before .before .before .before .before .before .before .before .before .before .before .before .ensure-bool .ensures .1) .top ∙ sym (c .before .before .before .before .before .before .before .before .before .before .before .before .before .before .before .before .before .before .before .before .before .wide32 .ensures .0)) ((c .before .before .before .before .before .before .before .before .before .before .before .before .before .before .before .ensure-bool .ensures .1) .ret) (c .before .before .before .block .ensures .0)) loop))),
   tells-moved ((top-set ((c .before .before .before .block .ensures .1) .noting) (c .small .ensures)) .moved) (c .before .before .before .block .ensures .1),
 )
 
-tc-stmt-next-requires : (t : ℕ) → tc-stmt-lts.Need-next-requires (next-reads.Asked, next-reads.Learnt, choices-below t, choices.Post, repeat-below t, repeat.Post, each-below t, each.Post, define-below t, define.Post, wide-reads.Asked, wide-reads.Learnt, simple-reads.Asked, simple-reads.Learnt, end-of-reads.Asked, end-of-reads.Learnt) (tc-stmt-at t) tc-stmt.Post
+tc-stmt-next-requires : (t : ℕ) → tc-stmt-lts.Need-next-requires (next-reads.Asked, next-reads.Learnt, choices-below t, choices.Post, repeat-below t, repeat.Post, each-below t, each.Post, define-below t, define.Post, wide32-reads.Asked, wide32-reads.Learnt, simple-reads.Asked, simple-reads.Learnt, end-of-reads.Asked, end-of-reads.Learnt) (tc-stmt-at t) tc-stmt.Post
 tc-stmt-next-requires t c κs =
     (((c .before .before .pre .1 .1 .0) .ready .sound) .headed, record { nodes = (c .before .before .pre .1 .1 .0) .ready .nodes-at; within = (c .before .before .pre .1 .1 .1) .there })
 
-tc-stmt-sub-d : (t : ℕ) → tc-stmt-lts.Need-sub-d (next-reads.Asked, next-reads.Learnt, choices-below t, choices.Post, repeat-below t, repeat.Post, each-below t, each.Post, define-below t, define.Post, wide-reads.Asked, wide-reads.Learnt, simple-reads.Asked, simple-reads.Learnt, end-of-reads.Asked, end-of-reads.Learnt) (tc-stmt-at t) tc-stmt.Post
+tc-stmt-sub-d : (t : ℕ) → tc-stmt-lts.Need-sub-d (next-reads.Asked, next-reads.Learnt, choices-below t, choices.Post, repeat-below t, repeat.Post, each-below t, each.Post, define-below t, define.Post, wide32-reads.Asked, wide32-reads.Learnt, simple-reads.Asked, simple-reads.Learnt, end-of-reads.Asked, end-of-reads.Learnt) (tc-stmt-at t) tc-stmt.Post
 tc-stmt-sub-d t c =
     let h = (some-depth ((c .before .before .before .before .pre .1 .1 .0) .ready .sound) (c .before .before .before .before .pre .1 .1 .1)) in
     omega arith
 
-tc-stmt-choices-requires : (t : ℕ) → tc-stmt-lts.Need-choices-requires (next-reads.Asked, next-reads.Learnt, choices-below t, choices.Post, repeat-below t, repeat.Post, each-below t, each.Post, define-below t, define.Post, wide-reads.Asked, wide-reads.Learnt, simple-reads.Asked, simple-reads.Learnt, end-of-reads.Asked, end-of-reads.Learnt) (tc-stmt-at t) tc-stmt.Post
+tc-stmt-choices-requires : (t : ℕ) → tc-stmt-lts.Need-choices-requires (next-reads.Asked, next-reads.Learnt, choices-below t, choices.Post, repeat-below t, repeat.Post, each-below t, each.Post, define-below t, define.Post, wide32-reads.Asked, wide32-reads.Learnt, simple-reads.Asked, simple-reads.Learnt, end-of-reads.Asked, end-of-reads.Learnt) (tc-stmt-at t) tc-stmt.Post
 tc-stmt-choices-requires t c κs =
     (omega (arith, c .before .before .before .before .before .before .before .before .before .pre .0, (some-depth ((c .before .before .before .before .before .before .before .before .before .pre .1 .1 .0) .ready .sound) (c .before .before .before .before .before .before .before .before .before .pre .1 .1 .1))), ((c .before .before .before .before .before .before .before .before .before .pre .1 .0), ((c .before .before .before .before .before .before .before .before .before .pre .1 .1 .0), stmt-here ((c .before .before .before .before .before .before .before .before .before .pre .1 .1 .0) .ready .sound) (c .before .before .before .before .before .before .before .before .before .pre .1 .1 .1) (sym (c .before .before .before .before .match .keys1) ∙ (ap (λ d. d .kind) (c .before .before .before .before .before .before .next .ensures .node))))))
 
-tc-stmt-repeat-requires : (t : ℕ) → tc-stmt-lts.Need-repeat-requires (next-reads.Asked, next-reads.Learnt, choices-below t, choices.Post, repeat-below t, repeat.Post, each-below t, each.Post, define-below t, define.Post, wide-reads.Asked, wide-reads.Learnt, simple-reads.Asked, simple-reads.Learnt, end-of-reads.Asked, end-of-reads.Learnt) (tc-stmt-at t) tc-stmt.Post
+tc-stmt-repeat-requires : (t : ℕ) → tc-stmt-lts.Need-repeat-requires (next-reads.Asked, next-reads.Learnt, choices-below t, choices.Post, repeat-below t, repeat.Post, each-below t, each.Post, define-below t, define.Post, wide32-reads.Asked, wide32-reads.Learnt, simple-reads.Asked, simple-reads.Learnt, end-of-reads.Asked, end-of-reads.Learnt) (tc-stmt-at t) tc-stmt.Post
 tc-stmt-repeat-requires t c κs =
     (omega (arith, c .before .before .before .before .before .before .before .before .before .pre .0, (some-depth ((c .before .before .before .before .before .before .before .before .before .pre .1 .1 .0) .ready .sound) (c .before .before .before .before .before .before .before .before .before .pre .1 .1 .1))), ((c .before .before .before .before .before .before .before .before .before .pre .1 .0), ((c .before .before .before .before .before .before .before .before .before .pre .1 .1 .0), stmt-here ((c .before .before .before .before .before .before .before .before .before .pre .1 .1 .0) .ready .sound) (c .before .before .before .before .before .before .before .before .before .pre .1 .1 .1) (sym (c .before .before .before .before .match .keys2) ∙ (ap (λ d. d .kind) (c .before .before .before .before .before .before .next .ensures .node))))))
 
-tc-stmt-each-requires : (t : ℕ) → tc-stmt-lts.Need-each-requires (next-reads.Asked, next-reads.Learnt, choices-below t, choices.Post, repeat-below t, repeat.Post, each-below t, each.Post, define-below t, define.Post, wide-reads.Asked, wide-reads.Learnt, simple-reads.Asked, simple-reads.Learnt, end-of-reads.Asked, end-of-reads.Learnt) (tc-stmt-at t) tc-stmt.Post
+tc-stmt-each-requires : (t : ℕ) → tc-stmt-lts.Need-each-requires (next-reads.Asked, next-reads.Learnt, choices-below t, choices.Post, repeat-below t, repeat.Post, each-below t, each.Post, define-below t, define.Post, wide32-reads.Asked, wide32-reads.Learnt, simple-reads.Asked, simple-reads.Learnt, end-of-reads.Asked, end-of-reads.Learnt) (tc-stmt-at t) tc-stmt.Post
 tc-stmt-each-requires t c κs =
     (omega (arith, c .before .before .before .before .before .before .before .before .before .pre .0, (some-depth ((c .before .before .before .before .before .before .before .before .before .pre .1 .1 .0) .ready .sound) (c .before .before .before .before .before .before .before .before .before .pre .1 .1 .1))), ((c .before .before .before .before .before .before .before .before .before .pre .1 .0), ((c .before .before .before .before .before .before .before .before .before .pre .1 .1 .0), stmt-here ((c .before .before .before .before .before .before .before .before .before .pre .1 .1 .0) .ready .sound) (c .before .before .before .before .before .before .before .before .before .pre .1 .1 .1) (sym (c .before .before .before .before .match .keys3) ∙ (ap (λ d. d .kind) (c .before .before .before .before .before .before .next .ensures .node))))))
 
-tc-stmt-define-requires : (t : ℕ) → tc-stmt-lts.Need-define-requires (next-reads.Asked, next-reads.Learnt, choices-below t, choices.Post, repeat-below t, repeat.Post, each-below t, each.Post, define-below t, define.Post, wide-reads.Asked, wide-reads.Learnt, simple-reads.Asked, simple-reads.Learnt, end-of-reads.Asked, end-of-reads.Learnt) (tc-stmt-at t) tc-stmt.Post
+tc-stmt-define-requires : (t : ℕ) → tc-stmt-lts.Need-define-requires (next-reads.Asked, next-reads.Learnt, choices-below t, choices.Post, repeat-below t, repeat.Post, each-below t, each.Post, define-below t, define.Post, wide32-reads.Asked, wide32-reads.Learnt, simple-reads.Asked, simple-reads.Learnt, end-of-reads.Asked, end-of-reads.Learnt) (tc-stmt-at t) tc-stmt.Post
 tc-stmt-define-requires t c κs =
     (omega (arith, c .before .before .before .before .before .before .before .before .before .pre .0, (some-depth ((c .before .before .before .before .before .before .before .before .before .pre .1 .1 .0) .ready .sound) (c .before .before .before .before .before .before .before .before .before .pre .1 .1 .1))), ((c .before .before .before .before .before .before .before .before .before .pre .1 .0), ((c .before .before .before .before .before .before .before .before .before .pre .1 .1 .0), stmt-here ((c .before .before .before .before .before .before .before .before .before .pre .1 .1 .0) .ready .sound) (c .before .before .before .before .before .before .before .before .before .pre .1 .1 .1) (sym (c .before .before .before .before .match .keys4) ∙ (ap (λ d. d .kind) (c .before .before .before .before .before .before .next .ensures .node))))))
 
-tc-stmt-element-copy-out-wide : (t : ℕ) → tc-stmt-lts.Need-element-copy-out-wide (next-reads.Asked, next-reads.Learnt, choices-below t, choices.Post, repeat-below t, repeat.Post, each-below t, each.Post, define-below t, define.Post, wide-reads.Asked, wide-reads.Learnt, simple-reads.Asked, simple-reads.Learnt, end-of-reads.Asked, end-of-reads.Learnt) (tc-stmt-at t) tc-stmt.Post
-tc-stmt-element-copy-out-wide t c = search needs
+tc-stmt-element-copy-out-wide32 : (t : ℕ) → tc-stmt-lts.Need-element-copy-out-wide32 (next-reads.Asked, next-reads.Learnt, choices-below t, choices.Post, repeat-below t, repeat.Post, each-below t, each.Post, define-below t, define.Post, wide32-reads.Asked, wide32-reads.Learnt, simple-reads.Asked, simple-reads.Learnt, end-of-reads.Asked, end-of-reads.Learnt) (tc-stmt-at t) tc-stmt.Post
+tc-stmt-element-copy-out-wide32 t c = search needs
 
-tc-stmt-wide-requires : (t : ℕ) → tc-stmt-lts.Need-wide-requires (next-reads.Asked, next-reads.Learnt, choices-below t, choices.Post, repeat-below t, repeat.Post, each-below t, each.Post, define-below t, define.Post, wide-reads.Asked, wide-reads.Learnt, simple-reads.Asked, simple-reads.Learnt, end-of-reads.Asked, end-of-reads.Learnt) (tc-stmt-at t) tc-stmt.Post
-tc-stmt-wide-requires t c κs =
+tc-stmt-wide32-requires : (t : ℕ) → tc-stmt-lts.Need-wide32-requires (next-reads.Asked, next-reads.Learnt, choices-below t, choices.Post, repeat-below t, repeat.Post, each-below t, each.Post, define-below t, define.Post, wide32-reads.Asked, wide32-reads.Learnt, simple-reads.Asked, simple-reads.Learnt, end-of-reads.Asked, end-of-reads.Learnt) (tc-stmt-at t) tc-stmt.Post
+tc-stmt-wide32-requires t c κs =
     search needs
 
-tc-stmt-simple-requires : (t : ℕ) → tc-stmt-lts.Need-simple-requires (next-reads.Asked, next-reads.Learnt, choices-below t, choices.Post, repeat-below t, repeat.Post, each-below t, each.Post, define-below t, define.Post, wide-reads.Asked, wide-reads.Learnt, simple-reads.Asked, simple-reads.Learnt, end-of-reads.Asked, end-of-reads.Learnt) (tc-stmt-at t) tc-stmt.Post
+tc-stmt-simple-requires : (t : ℕ) → tc-stmt-lts.Need-simple-requires (next-reads.Asked, next-reads.Learnt, choices-below t, choices.Post, repeat-below t, repeat.Post, each-below t, each.Post, define-below t, define.Post, wide32-reads.Asked, wide32-reads.Learnt, simple-reads.Asked, simple-reads.Learnt, end-of-reads.Asked, end-of-reads.Learnt) (tc-stmt-at t) tc-stmt.Post
 tc-stmt-simple-requires t c κs =
     let o = c .before .before .before .before .before .before .match .rest in (
       (c .before .before .before .before .before .before .before .before .before .before .before .pre .1 .0),
       (
-        (standing-as refl (c .before .before .before .before .wide .ensures) refl (c .before .before .before .before .before .before .before .before .before .before .before .pre .1 .1 .0)),
+        (standing-as refl (c .before .before .before .before .wide32 .ensures .0) refl (c .before .before .before .before .before .before .before .before .before .before .before .pre .1 .1 .0)),
         (
           stmt-here ((c .before .before .before .before .before .before .before .before .before .before .before .pre .1 .1 .0) .ready .sound) (c .before .before .before .before .before .before .before .before .before .before .before .pre .1 .1 .1) refl,
-          (bodiless (λ e. o .0 .0 .0 .1 ((ap (λ d. d .kind) (c .before .before .before .before .before .before .before .before .next .ensures .node)) ∙ e)) (λ e. o .0 .0 .1 ((ap (λ d. d .kind) (c .before .before .before .before .before .before .before .before .next .ensures .node)) ∙ e)) (λ e. o .0 .1 ((ap (λ d. d .kind) (c .before .before .before .before .before .before .before .before .next .ensures .node)) ∙ e)) (λ e. o .1 ((ap (λ d. d .kind) (c .before .before .before .before .before .before .before .before .next .ensures .node)) ∙ e)), (c .before .before .before .before .wide .ensures)),
+          (bodiless (λ e. o .0 .0 .0 .1 ((ap (λ d. d .kind) (c .before .before .before .before .before .before .before .before .next .ensures .node)) ∙ e)) (λ e. o .0 .0 .1 ((ap (λ d. d .kind) (c .before .before .before .before .before .before .before .before .next .ensures .node)) ∙ e)) (λ e. o .0 .1 ((ap (λ d. d .kind) (c .before .before .before .before .before .before .before .before .next .ensures .node)) ∙ e)) (λ e. o .1 ((ap (λ d. d .kind) (c .before .before .before .before .before .before .before .before .next .ensures .node)) ∙ e)), (c .before .before .before .before .wide32 .ensures .0)),
         ),
       ),
     )
 
-tc-stmt-end-of-requires : (t : ℕ) → tc-stmt-lts.Need-end-of-requires (next-reads.Asked, next-reads.Learnt, choices-below t, choices.Post, repeat-below t, repeat.Post, each-below t, each.Post, define-below t, define.Post, wide-reads.Asked, wide-reads.Learnt, simple-reads.Asked, simple-reads.Learnt, end-of-reads.Asked, end-of-reads.Learnt) (tc-stmt-at t) tc-stmt.Post
+tc-stmt-end-of-requires : (t : ℕ) → tc-stmt-lts.Need-end-of-requires (next-reads.Asked, next-reads.Learnt, choices-below t, choices.Post, repeat-below t, repeat.Post, each-below t, each.Post, define-below t, define.Post, wide32-reads.Asked, wide32-reads.Learnt, simple-reads.Asked, simple-reads.Learnt, end-of-reads.Asked, end-of-reads.Learnt) (tc-stmt-at t) tc-stmt.Post
 tc-stmt-end-of-requires t c κs =
     search needs
 
-tc-stmt-same-length : (t : ℕ) → tc-stmt-lts.Need-same-length (next-reads.Asked, next-reads.Learnt, choices-below t, choices.Post, repeat-below t, repeat.Post, each-below t, each.Post, define-below t, define.Post, wide-reads.Asked, wide-reads.Learnt, simple-reads.Asked, simple-reads.Learnt, end-of-reads.Asked, end-of-reads.Learnt) (tc-stmt-at t) tc-stmt.Post
+tc-stmt-same-length : (t : ℕ) → tc-stmt-lts.Need-same-length (next-reads.Asked, next-reads.Learnt, choices-below t, choices.Post, repeat-below t, repeat.Post, each-below t, each.Post, define-below t, define.Post, wide32-reads.Asked, wide32-reads.Learnt, simple-reads.Asked, simple-reads.Learnt, end-of-reads.Asked, end-of-reads.Learnt) (tc-stmt-at t) tc-stmt.Post
 tc-stmt-same-length t c = search needs
 
-tc-stmt-returns : (t : ℕ) → tc-stmt-lts.Need-returns (next-reads.Asked, next-reads.Learnt, choices-below t, choices.Post, repeat-below t, repeat.Post, each-below t, each.Post, define-below t, define.Post, wide-reads.Asked, wide-reads.Learnt, simple-reads.Asked, simple-reads.Learnt, end-of-reads.Asked, end-of-reads.Learnt) (tc-stmt-at t) tc-stmt.Post
+tc-stmt-returns : (t : ℕ) → tc-stmt-lts.Need-returns (next-reads.Asked, next-reads.Learnt, choices-below t, choices.Post, repeat-below t, repeat.Post, each-below t, each.Post, define-below t, define.Post, wide32-reads.Asked, wide32-reads.Learnt, simple-reads.Asked, simple-reads.Learnt, end-of-reads.Asked, end-of-reads.Learnt) (tc-stmt-at t) tc-stmt.Post
 tc-stmt-returns t c =
     (stmt-done ((c .before .before .before .before .before .before .before .before .before .before .before .before .pre .1 .1 .0) .ready .sound) (c .before .before .before .before .before .before .before .before .before .before .before .before .pre .1 .1 .1) _ _ _ (c .before .before .choices .ensures .0), c .before .before .choices .ensures .1)
 
-tc-stmt-same-length-2 : (t : ℕ) → tc-stmt-lts.Need-same-length-2 (next-reads.Asked, next-reads.Learnt, choices-below t, choices.Post, repeat-below t, repeat.Post, each-below t, each.Post, define-below t, define.Post, wide-reads.Asked, wide-reads.Learnt, simple-reads.Asked, simple-reads.Learnt, end-of-reads.Asked, end-of-reads.Learnt) (tc-stmt-at t) tc-stmt.Post
+tc-stmt-same-length-2 : (t : ℕ) → tc-stmt-lts.Need-same-length-2 (next-reads.Asked, next-reads.Learnt, choices-below t, choices.Post, repeat-below t, repeat.Post, each-below t, each.Post, define-below t, define.Post, wide32-reads.Asked, wide32-reads.Learnt, simple-reads.Asked, simple-reads.Learnt, end-of-reads.Asked, end-of-reads.Learnt) (tc-stmt-at t) tc-stmt.Post
 tc-stmt-same-length-2 t c = search needs
 
-tc-stmt-returns-2 : (t : ℕ) → tc-stmt-lts.Need-returns-2 (next-reads.Asked, next-reads.Learnt, choices-below t, choices.Post, repeat-below t, repeat.Post, each-below t, each.Post, define-below t, define.Post, wide-reads.Asked, wide-reads.Learnt, simple-reads.Asked, simple-reads.Learnt, end-of-reads.Asked, end-of-reads.Learnt) (tc-stmt-at t) tc-stmt.Post
+tc-stmt-returns-2 : (t : ℕ) → tc-stmt-lts.Need-returns-2 (next-reads.Asked, next-reads.Learnt, choices-below t, choices.Post, repeat-below t, repeat.Post, each-below t, each.Post, define-below t, define.Post, wide32-reads.Asked, wide32-reads.Learnt, simple-reads.Asked, simple-reads.Learnt, end-of-reads.Asked, end-of-reads.Learnt) (tc-stmt-at t) tc-stmt.Post
 tc-stmt-returns-2 t c =
     (stmt-done ((c .before .before .before .before .before .before .before .before .before .before .before .before .pre .1 .1 .0) .ready .sound) (c .before .before .before .before .before .before .before .before .before .before .before .before .pre .1 .1 .1) _ _ _ (c .before .before .repeat .ensures .0 _), c .before .before .repeat .ensures .1)
 
-tc-stmt-same-length-3 : (t : ℕ) → tc-stmt-lts.Need-same-length-3 (next-reads.Asked, next-reads.Learnt, choices-below t, choices.Post, repeat-below t, repeat.Post, each-below t, each.Post, define-below t, define.Post, wide-reads.Asked, wide-reads.Learnt, simple-reads.Asked, simple-reads.Learnt, end-of-reads.Asked, end-of-reads.Learnt) (tc-stmt-at t) tc-stmt.Post
+tc-stmt-same-length-3 : (t : ℕ) → tc-stmt-lts.Need-same-length-3 (next-reads.Asked, next-reads.Learnt, choices-below t, choices.Post, repeat-below t, repeat.Post, each-below t, each.Post, define-below t, define.Post, wide32-reads.Asked, wide32-reads.Learnt, simple-reads.Asked, simple-reads.Learnt, end-of-reads.Asked, end-of-reads.Learnt) (tc-stmt-at t) tc-stmt.Post
 tc-stmt-same-length-3 t c = search needs
 
-tc-stmt-returns-3 : (t : ℕ) → tc-stmt-lts.Need-returns-3 (next-reads.Asked, next-reads.Learnt, choices-below t, choices.Post, repeat-below t, repeat.Post, each-below t, each.Post, define-below t, define.Post, wide-reads.Asked, wide-reads.Learnt, simple-reads.Asked, simple-reads.Learnt, end-of-reads.Asked, end-of-reads.Learnt) (tc-stmt-at t) tc-stmt.Post
+tc-stmt-returns-3 : (t : ℕ) → tc-stmt-lts.Need-returns-3 (next-reads.Asked, next-reads.Learnt, choices-below t, choices.Post, repeat-below t, repeat.Post, each-below t, each.Post, define-below t, define.Post, wide32-reads.Asked, wide32-reads.Learnt, simple-reads.Asked, simple-reads.Learnt, end-of-reads.Asked, end-of-reads.Learnt) (tc-stmt-at t) tc-stmt.Post
 tc-stmt-returns-3 t c =
     (stmt-done ((c .before .before .before .before .before .before .before .before .before .before .before .before .pre .1 .1 .0) .ready .sound) (c .before .before .before .before .before .before .before .before .before .before .before .before .pre .1 .1 .1) _ _ _ (c .before .before .each .ensures .0 _), c .before .before .each .ensures .1)
 
-tc-stmt-same-length-4 : (t : ℕ) → tc-stmt-lts.Need-same-length-4 (next-reads.Asked, next-reads.Learnt, choices-below t, choices.Post, repeat-below t, repeat.Post, each-below t, each.Post, define-below t, define.Post, wide-reads.Asked, wide-reads.Learnt, simple-reads.Asked, simple-reads.Learnt, end-of-reads.Asked, end-of-reads.Learnt) (tc-stmt-at t) tc-stmt.Post
+tc-stmt-same-length-4 : (t : ℕ) → tc-stmt-lts.Need-same-length-4 (next-reads.Asked, next-reads.Learnt, choices-below t, choices.Post, repeat-below t, repeat.Post, each-below t, each.Post, define-below t, define.Post, wide32-reads.Asked, wide32-reads.Learnt, simple-reads.Asked, simple-reads.Learnt, end-of-reads.Asked, end-of-reads.Learnt) (tc-stmt-at t) tc-stmt.Post
 tc-stmt-same-length-4 t c = search needs
 
-tc-stmt-returns-4 : (t : ℕ) → tc-stmt-lts.Need-returns-4 (next-reads.Asked, next-reads.Learnt, choices-below t, choices.Post, repeat-below t, repeat.Post, each-below t, each.Post, define-below t, define.Post, wide-reads.Asked, wide-reads.Learnt, simple-reads.Asked, simple-reads.Learnt, end-of-reads.Asked, end-of-reads.Learnt) (tc-stmt-at t) tc-stmt.Post
+tc-stmt-returns-4 : (t : ℕ) → tc-stmt-lts.Need-returns-4 (next-reads.Asked, next-reads.Learnt, choices-below t, choices.Post, repeat-below t, repeat.Post, each-below t, each.Post, define-below t, define.Post, wide32-reads.Asked, wide32-reads.Learnt, simple-reads.Asked, simple-reads.Learnt, end-of-reads.Asked, end-of-reads.Learnt) (tc-stmt-at t) tc-stmt.Post
 tc-stmt-returns-4 t c =
     (stmt-done ((c .before .before .before .before .before .before .before .before .before .before .before .before .pre .1 .1 .0) .ready .sound) (c .before .before .before .before .before .before .before .before .before .before .before .before .pre .1 .1 .1) _ _ _ (c .before .before .define .ensures .0 _), c .before .before .define .ensures .1)
 
-tc-stmt-same-length-5 : (t : ℕ) → tc-stmt-lts.Need-same-length-5 (next-reads.Asked, next-reads.Learnt, choices-below t, choices.Post, repeat-below t, repeat.Post, each-below t, each.Post, define-below t, define.Post, wide-reads.Asked, wide-reads.Learnt, simple-reads.Asked, simple-reads.Learnt, end-of-reads.Asked, end-of-reads.Learnt) (tc-stmt-at t) tc-stmt.Post
+tc-stmt-same-length-5 : (t : ℕ) → tc-stmt-lts.Need-same-length-5 (next-reads.Asked, next-reads.Learnt, choices-below t, choices.Post, repeat-below t, repeat.Post, each-below t, each.Post, define-below t, define.Post, wide32-reads.Asked, wide32-reads.Learnt, simple-reads.Asked, simple-reads.Learnt, end-of-reads.Asked, end-of-reads.Learnt) (tc-stmt-at t) tc-stmt.Post
 tc-stmt-same-length-5 t c = search needs
 
-tc-stmt-returns-5 : (t : ℕ) → tc-stmt-lts.Need-returns-5 (next-reads.Asked, next-reads.Learnt, choices-below t, choices.Post, repeat-below t, repeat.Post, each-below t, each.Post, define-below t, define.Post, wide-reads.Asked, wide-reads.Learnt, simple-reads.Asked, simple-reads.Learnt, end-of-reads.Asked, end-of-reads.Learnt) (tc-stmt-at t) tc-stmt.Post
+tc-stmt-returns-5 : (t : ℕ) → tc-stmt-lts.Need-returns-5 (next-reads.Asked, next-reads.Learnt, choices-below t, choices.Post, repeat-below t, repeat.Post, each-below t, each.Post, define-below t, define.Post, wide32-reads.Asked, wide32-reads.Learnt, simple-reads.Asked, simple-reads.Learnt, end-of-reads.Asked, end-of-reads.Learnt) (tc-stmt-at t) tc-stmt.Post
 tc-stmt-returns-5 t c =
-    (stmt-done ((c .before .before .before .before .before .before .before .before .before .before .before .before .before .before .before .pre .1 .1 .0) .ready .sound) (c .before .before .before .before .before .before .before .before .before .before .before .before .before .before .before .pre .1 .1 .1) _ _ _ (acted-from _ _ _ _ _ _ _ (c .before .before .before .before .before .before .before .before .wide .ensures) (done-end (c .before .before .before .simple .ensures .1) (c .end-of .ensures) (c .before .before .before .simple .ensures .0 _))), tells-end (c .end-of .ensures) (c .before .before .before .simple .ensures .1))
+    (stmt-done ((c .before .before .before .before .before .before .before .before .before .before .before .before .before .before .before .pre .1 .1 .0) .ready .sound) (c .before .before .before .before .before .before .before .before .before .before .before .before .before .before .before .pre .1 .1 .1) _ _ _ (acted-from _ _ _ _ _ _ _ (c .before .before .before .before .before .before .before .before .wide32 .ensures .0) (done-end (c .before .before .before .simple .ensures .1) (c .end-of .ensures) (c .before .before .before .simple .ensures .0 _))), tells-end (c .end-of .ensures) (c .before .before .before .simple .ensures .1))
 
 pub +block+choices+define+each+one-arm+repeat+tc-stmt-spec : {M : Type 1} → statement M
 +block+choices+define+each+one-arm+repeat+tc-stmt-spec =
@@ -761,8 +761,8 @@ pub +block+choices+define+each+one-arm+repeat+tc-stmt-spec : {M : Type 1} → st
     (λ t. choices-lts.spec (
       next-reads.Asked,
       next-reads.Learnt,
-      wide-reads.Asked,
-      wide-reads.Learnt,
+      wide32-reads.Asked,
+      wide32-reads.Learnt,
       one-arm-below t,
       one-arm.Post,
       small-reads.Asked,
@@ -783,13 +783,13 @@ pub +block+choices+define+each+one-arm+repeat+tc-stmt-spec : {M : Type 1} → st
     choices-Inv-loop
     choices-μ-loop
     (choices-next-requires t)
-    (choices-element-copy-out-wide t)
-    (choices-wide-requires t)
+    (choices-element-copy-out-wide32 t)
+    (choices-wide32-requires t)
     (choices-cast-left t)
     (choices-loop-holds t)
     (choices-one-arm-requires t)
-    (choices-element-copy-out-wide-2 t)
-    (choices-wide-requires-2 t)
+    (choices-element-copy-out-wide32-2 t)
+    (choices-wide32-requires-2 t)
     (choices-small-requires t)
     (choices-element-write-notes t)
     (choices-enum-told t)
@@ -809,8 +809,8 @@ pub +block+choices+define+each+one-arm+repeat+tc-stmt-spec : {M : Type 1} → st
     (choices-same-length-3 t)
     (choices-returns-3 t))
     (λ t. define-lts.spec (
-      wide-reads.Asked,
-      wide-reads.Learnt,
+      wide32-reads.Asked,
+      wide32-reads.Learnt,
       refuse-reads.Asked,
       refuse-reads.Learnt,
       next-reads.Asked,
@@ -826,8 +826,8 @@ pub +block+choices+define+each+one-arm+repeat+tc-stmt-spec : {M : Type 1} → st
     )
     (define-at t)
     define.Post
-    (define-element-copy-out-wide t)
-    (define-wide-requires t)
+    (define-element-copy-out-wide32 t)
+    (define-wide32-requires t)
     (define-element-copy-out-ret t)
     (define-refuse-requires t)
     (define-returns t)
@@ -853,8 +853,8 @@ pub +block+choices+define+each+one-arm+repeat+tc-stmt-spec : {M : Type 1} → st
     (define-same-length-2 t)
     (define-returns-3 t))
     (λ t. each-lts.spec (
-      wide-reads.Asked,
-      wide-reads.Learnt,
+      wide32-reads.Asked,
+      wide32-reads.Learnt,
       next-reads.Asked,
       next-reads.Learnt,
       elements-reads.Asked,
@@ -870,8 +870,8 @@ pub +block+choices+define+each+one-arm+repeat+tc-stmt-spec : {M : Type 1} → st
     )
     (each-at t)
     each.Post
-    (each-element-copy-out-wide t)
-    (each-wide-requires t)
+    (each-element-copy-out-wide32 t)
+    (each-wide32-requires t)
     (each-next-requires t)
     (each-elements-requires t)
     (each-enum-known-v t)
@@ -887,8 +887,8 @@ pub +block+choices+define+each+one-arm+repeat+tc-stmt-spec : {M : Type 1} → st
     (each-same-length-2 t)
     (each-returns-2 t))
     (λ t. one-arm-lts.spec (
-      wide-reads.Asked,
-      wide-reads.Learnt,
+      wide32-reads.Asked,
+      wide32-reads.Learnt,
       ensure-bool-reads.Asked,
       ensure-bool-reads.Learnt,
       over-reads.Asked,
@@ -898,8 +898,8 @@ pub +block+choices+define+each+one-arm+repeat+tc-stmt-spec : {M : Type 1} → st
     )
     (one-arm-at t)
     one-arm.Post
-    (one-arm-element-copy-out-wide t)
-    (one-arm-wide-requires t)
+    (one-arm-element-copy-out-wide32 t)
+    (one-arm-wide32-requires t)
     (one-arm-ensure-bool-requires t)
     (one-arm-enum-told t)
     (one-arm-enum-told-2 t)
@@ -913,8 +913,8 @@ pub +block+choices+define+each+one-arm+repeat+tc-stmt-spec : {M : Type 1} → st
     (one-arm-same-length-3 t)
     (one-arm-returns-3 t))
     (λ t. repeat-lts.spec (
-      wide-reads.Asked,
-      wide-reads.Learnt,
+      wide32-reads.Asked,
+      wide32-reads.Learnt,
       next-reads.Asked,
       next-reads.Learnt,
       ensure-bool-reads.Asked,
@@ -928,8 +928,8 @@ pub +block+choices+define+each+one-arm+repeat+tc-stmt-spec : {M : Type 1} → st
     )
     (repeat-at t)
     repeat.Post
-    (repeat-element-copy-out-wide t)
-    (repeat-wide-requires t)
+    (repeat-element-copy-out-wide32 t)
+    (repeat-wide32-requires t)
     (repeat-next-requires t)
     (repeat-ensure-bool-requires t)
     (repeat-enum-told t)
@@ -953,8 +953,8 @@ pub +block+choices+define+each+one-arm+repeat+tc-stmt-spec : {M : Type 1} → st
       each.Post,
       define-below t,
       define.Post,
-      wide-reads.Asked,
-      wide-reads.Learnt,
+      wide32-reads.Asked,
+      wide32-reads.Learnt,
       simple-reads.Asked,
       simple-reads.Learnt,
       end-of-reads.Asked,
@@ -968,8 +968,8 @@ pub +block+choices+define+each+one-arm+repeat+tc-stmt-spec : {M : Type 1} → st
     (tc-stmt-repeat-requires t)
     (tc-stmt-each-requires t)
     (tc-stmt-define-requires t)
-    (tc-stmt-element-copy-out-wide t)
-    (tc-stmt-wide-requires t)
+    (tc-stmt-element-copy-out-wide32 t)
+    (tc-stmt-wide32-requires t)
     (tc-stmt-simple-requires t)
     (tc-stmt-end-of-requires t)
     (tc-stmt-same-length t)

@@ -30,11 +30,11 @@ returns c = (
   tells-kept (kept-as (λ _. (c .enum-told .given .1)) (c .before .before .before .before .tc-expr .ensures .1)) (λ _. typing _ ((c .before .before .before .before .before .before .before .before .before .before .pre .1 .0 .ready) .fit) (checks-err _ (c .enum-told .given .1) (c .before .before .before .before .tc-expr .ensures .0))),
 )
 
-element-copy-out-wide : tie.Need-element-copy-out-wide
-element-copy-out-wide c = search needs
+element-copy-out-wide32 : tie.Need-element-copy-out-wide32
+element-copy-out-wide32 c = search needs
 
-wide-requires : tie.Need-wide-requires
-wide-requires c κs =
+wide32-requires : tie.Need-wide32-requires
+wide32-requires c κs =
     search needs
 
 agreed-requires : tie.Need-agreed-requires
@@ -43,7 +43,7 @@ agreed-requires c κs =
 
 small-requires : tie.Need-small-requires
 small-requires c κs =
-    small-agreed (checks-ok _ (c .before .before .before .before .before .v .given .1) (c .before .before .before .before .before .before .before .before .before .tc-expr .ensures .0)) refl (c .before .before .before .before .before .before .before .before .before .before .before .before .before .before .before .pre .1 .0 .kept) (agreement-from (c .before .before .wide .ensures ∙ (c .before .before .before .before .before .before .before .before .before .tc-expr .ensures .1) .ret) (c .before .agreed .ensures))
+    small-agreed (checks-ok _ (c .before .before .before .before .before .v .given .1) (c .before .before .before .before .before .before .before .before .before .tc-expr .ensures .0)) refl (c .before .before .before .before .before .before .before .before .before .before .before .before .before .before .before .pre .1 .0 .kept) (agreement-from (c .before .before .wide32 .ensures .0 ∙ (c .before .before .before .before .before .before .before .before .before .tc-expr .ensures .1) .ret) (c .before .agreed .ensures))
 
 element-write-notes : tie.Need-element-write-notes
 element-write-notes c = search needs
@@ -54,7 +54,7 @@ same-length-2 c = search needs
 returns-2 : tie.Need-returns-2
 returns-2 c =
     let s = ret-set (kept-noting (c .before .before .before .before .before .before .before .before .before .before .tc-expr .ensures .1)) (c .small .ensures) in (
-      done-any refl refl (done-ends (tab-moved (s .moved) _) (s .top-kept ∙ (c .before .before .before .before .before .before .before .before .before .before .tc-expr .ensures .1) .top ∙ (sym (c .before .before .before .before .before .before .before .before .before .before .before .before .before .before .before .before .pre .1 .1 .1))) (s .ret-is) (give-agreed (c .before .before .before .before .before .before .before .before .before .before .before .before .before .before .before .before .pre .1 .0 .ready) (c .before .before .before .before .before .before .before .before .before .before .before .before .before .before .before .before .pre .1 .1 .0) (checks-ok _ (c .before .before .before .before .before .before .v .given .1) (c .before .before .before .before .before .before .before .before .before .before .tc-expr .ensures .0)) (c .before .before .before .before .before .before .before .before .before .before .before .before .before .before .before .before .pre .1 .0 .kept) refl (agreement-from (c .before .before .before .wide .ensures ∙ (c .before .before .before .before .before .before .before .before .before .before .tc-expr .ensures .1) .ret) (c .before .before .agreed .ensures)) (c .before .if1 .taken))),
+      done-any refl refl (done-ends (tab-moved (s .moved) _) (s .top-kept ∙ (c .before .before .before .before .before .before .before .before .before .before .tc-expr .ensures .1) .top ∙ (sym (c .before .before .before .before .before .before .before .before .before .before .before .before .before .before .before .before .pre .1 .1 .1))) (s .ret-is) (give-agreed (c .before .before .before .before .before .before .before .before .before .before .before .before .before .before .before .before .pre .1 .0 .ready) (c .before .before .before .before .before .before .before .before .before .before .before .before .before .before .before .before .pre .1 .1 .0) (checks-ok _ (c .before .before .before .before .before .before .v .given .1) (c .before .before .before .before .before .before .before .before .before .before .tc-expr .ensures .0)) (c .before .before .before .before .before .before .before .before .before .before .before .before .before .before .before .before .pre .1 .0 .kept) refl (agreement-from (c .before .before .before .wide32 .ensures .0 ∙ (c .before .before .before .before .before .before .before .before .before .before .tc-expr .ensures .1) .ret) (c .before .before .agreed .ensures)) (c .before .if1 .taken))),
       tells-ok (moved-noting (s .moved)) (λ e. outcome-apart e),
     )
 
@@ -67,9 +67,9 @@ same-length-3 c = search needs
 
 returns-3 : tie.Need-returns-3
 returns-3 c =
-    let f = refused-from (c .before .before .before .before .wide .ensures ∙ (c .before .before .before .before .before .before .before .before .before .before .before .tc-expr .ensures .1) .ret) (c .refuse .ensures) in (
+    let f = refused-from (c .before .before .before .before .wide32 .ensures .0 ∙ (c .before .before .before .before .before .before .before .before .before .before .before .tc-expr .ensures .1) .ret) (c .refuse .ensures) in (
       done-refused f (small-node ((c .before .before .before .before .before .before .before .before .before .before .before .before .before .before .before .before .before .pre .1 .0 .ready) .sound) ((c .before .before .before .before .before .before .before .before .before .before .before .before .before .before .before .before .before .pre .1 .1 .0) .there)) (small-old (checks-ok _ (c .before .before .before .before .before .before .before .v .given .1) (c .before .before .before .before .before .before .before .before .before .before .before .tc-expr .ensures .0)) (c .before .before .before .before .before .before .before .before .before .before .before .before .before .before .before .before .before .pre .1 .0 .kept)) (small-type (checks-ok _ (c .before .before .before .before .before .before .before .v .given .1) (c .before .before .before .before .before .before .before .before .before .before .before .tc-expr .ensures .0)) refl) (f .top ∙ (c .before .before .before .before .before .before .before .before .before .before .before .tc-expr .ensures .1) .top ∙ (sym (c .before .before .before .before .before .before .before .before .before .before .before .before .before .before .before .before .before .pre .1 .1 .1))) (f .ret ∙ (c .before .before .before .before .before .before .before .before .before .before .before .tc-expr .ensures .1) .ret)
-          (give-wrong (c .before .before .before .before .before .before .before .before .before .before .before .before .before .before .before .before .before .pre .1 .0 .ready) (c .before .before .before .before .before .before .before .before .before .before .before .before .before .before .before .before .before .pre .1 .1 .0) (checks-ok _ (c .before .before .before .before .before .before .before .v .given .1) (c .before .before .before .before .before .before .before .before .before .before .before .tc-expr .ensures .0)) (c .before .before .before .before .before .before .before .before .before .before .before .before .before .before .before .before .before .pre .1 .0 .kept) refl (agreement-from (c .before .before .before .before .wide .ensures ∙ (c .before .before .before .before .before .before .before .before .before .before .before .tc-expr .ensures .1) .ret) (c .before .before .before .agreed .ensures)) (c .before .before .if1 .left)),
+          (give-wrong (c .before .before .before .before .before .before .before .before .before .before .before .before .before .before .before .before .before .pre .1 .0 .ready) (c .before .before .before .before .before .before .before .before .before .before .before .before .before .before .before .before .before .pre .1 .1 .0) (checks-ok _ (c .before .before .before .before .before .before .before .v .given .1) (c .before .before .before .before .before .before .before .before .before .before .before .tc-expr .ensures .0)) (c .before .before .before .before .before .before .before .before .before .before .before .before .before .before .before .before .before .pre .1 .0 .kept) refl (agreement-from (c .before .before .before .before .wide32 .ensures .0 ∙ (c .before .before .before .before .before .before .before .before .before .before .before .tc-expr .ensures .1) .ret) (c .before .before .before .agreed .ensures)) (c .before .before .if1 .left)),
       tells-refused (λ z. omega arith) (λ z. omega arith) f,
     )
 
@@ -82,8 +82,8 @@ give-spec =
     enum-told
     same-length
     returns
-    element-copy-out-wide
-    wide-requires
+    element-copy-out-wide32
+    wide32-requires
     agreed-requires
     small-requires
     element-write-notes

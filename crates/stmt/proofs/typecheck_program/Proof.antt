@@ -19,7 +19,7 @@ use Rattle.image.proofs.Cursor.next.Reads as next-reads
 use Rattle.image.proofs.Cursor.over.Reads as over-reads
 use Rattle.state.proofs.counts_of.Reads as counts-of-reads
 use Rattle.stmt.proofs.tc_stmt.Reads as tc-stmt-reads
-use Rattle.stmt.proofs.wide.Reads as wide-reads
+use Rattle.words.proofs.wide32.Reads as wide32-reads
 
 abbrev Inv-loop : tie.InvT-loop
 Inv-loop image frames₀ table₀ stack₀ plain notes₀ next₀ left₀ frames table stack notes next left =
@@ -86,30 +86,30 @@ array-read-t30 : tie.Need-array-read-t30 Inv-loop μ-loop
 array-read-t30 c = search needs
 
 -- src/lib.rt:698:29
-array-read-wide : tie.Need-array-read-wide Inv-loop μ-loop
-array-read-wide c = search needs
+array-read-wide32 : tie.Need-array-read-wide32 Inv-loop μ-loop
+array-read-wide32 c = search needs
 
 -- src/lib.rt:698:24
-wide-requires : tie.Need-wide-requires Inv-loop μ-loop
-wide-requires c κs =
+wide32-requires : tie.Need-wide32-requires Inv-loop μ-loop
+wide32-requires c κs =
     search needs
 
 -- src/lib.rt:699:25
-array-read-wide-2 : tie.Need-array-read-wide-2 Inv-loop μ-loop
-array-read-wide-2 c = search needs
+array-read-wide32-2 : tie.Need-array-read-wide32-2 Inv-loop μ-loop
+array-read-wide32-2 c = search needs
 
 -- src/lib.rt:699:20
-wide-requires-2 : tie.Need-wide-requires-2 Inv-loop μ-loop
-wide-requires-2 c κs =
+wide32-requires-2 : tie.Need-wide32-requires-2 Inv-loop μ-loop
+wide32-requires-2 c κs =
     search needs
 
 -- src/lib.rt:700:25
-array-read-wide-3 : tie.Need-array-read-wide-3 Inv-loop μ-loop
-array-read-wide-3 c = search needs
+array-read-wide32-3 : tie.Need-array-read-wide32-3 Inv-loop μ-loop
+array-read-wide32-3 c = search needs
 
 -- src/lib.rt:700:20
-wide-requires-3 : tie.Need-wide-requires-3 Inv-loop μ-loop
-wide-requires-3 c κs =
+wide32-requires-3 : tie.Need-wide32-requires-3 Inv-loop μ-loop
+wide32-requires-3 c κs =
     search needs
 
 -- src/lib.rt:701:25
@@ -118,12 +118,12 @@ counts-of-requires c κs =
     search needs
 
 -- src/lib.rt:702:27
-array-read-wide-4 : tie.Need-array-read-wide-4 Inv-loop μ-loop
-array-read-wide-4 c = search needs
+array-read-wide32-4 : tie.Need-array-read-wide32-4 Inv-loop μ-loop
+array-read-wide32-4 c = search needs
 
 -- src/lib.rt:702:22
-wide-requires-4 : tie.Need-wide-requires-4 Inv-loop μ-loop
-wide-requires-4 c κs =
+wide32-requires-4 : tie.Need-wide32-requires-4 Inv-loop μ-loop
+wide32-requires-4 c κs =
     search needs
 
 -- src/lib.rt:695:13
@@ -133,7 +133,7 @@ same-length c = search needs
 -- src/lib.rt:695:13
 returns : tie.Need-returns Inv-loop μ-loop
 returns c = (
-  ran-as ((c .before .before .before .before .before .before .before .before .before .tc-stmt .ensures .1) .noting) (c .before .counts-of .ensures .0) (c .before .counts-of .ensures .1) (c .wide4 .ensures) (end-handed (c .before .before .before .before .before .before .before .before .before .tc-stmt .ensures .1)) (c .before .before .before .before .before .wide .ensures) (c .before .before .before .before .wide2 .ensures) (c .before .before .before .wide3 .ensures)
+  ran-as ((c .before .before .before .before .before .before .before .before .before .tc-stmt .ensures .1) .noting) (c .before .counts-of .ensures .0) (c .before .counts-of .ensures .1) (c .wide324 .ensures .0) (end-handed (c .before .before .before .before .before .before .before .before .before .tc-stmt .ensures .1)) (c .before .before .before .before .before .wide32 .ensures .0) (c .before .before .before .before .wide322 .ensures .0) (c .before .before .before .wide323 .ensures .0)
       (running-out (c .before .before .before .before .before .before .before .before .before .before .before .before .before .before .before .loop .inv .0) (c .before .before .before .before .before .before .before .before .before .before .before .before .before .before .loop-test .taken) (walked-from _ _ _ _ _ _ (tab-moved ((ret-clear (c .before .before .before .before .before .before .before .before .before .before .before .before .before .before .before .loop .inv .1)) .moved) _) ((ret-clear (c .before .before .before .before .before .before .before .before .before .before .before .before .before .before .before .loop .inv .1)) .top-kept) ((ret-clear (c .before .before .before .before .before .before .before .before .before .before .before .before .before .before .before .loop .inv .1)) .ret-is) (c .before .before .before .before .before .before .before .before .before .tc-stmt .ensures .0)) (end-other _ (c .before .before .before .before .before .before .before .before .before .tc-stmt .ensures .1) (c .before .before .before .before .before .before .match .keys2))),
   tells-refuses (c .before .before .before .before .before .before .before .before .before .tc-stmt .ensures .1),
 )
@@ -162,12 +162,12 @@ counts-of-requires-2 c κs =
     search needs
 
 -- src/lib.rt:716:19
-array-read-wide-5 : tie.Need-array-read-wide-5 Inv-loop μ-loop
-array-read-wide-5 c = search needs
+array-read-wide32-5 : tie.Need-array-read-wide32-5 Inv-loop μ-loop
+array-read-wide32-5 c = search needs
 
 -- src/lib.rt:716:14
-wide-requires-5 : tie.Need-wide-requires-5 Inv-loop μ-loop
-wide-requires-5 c κs =
+wide32-requires-5 : tie.Need-wide32-requires-5 Inv-loop μ-loop
+wide32-requires-5 c κs =
     search needs
 
 -- src/lib.rt:658:1
@@ -177,7 +177,7 @@ same-length-2 c = search needs
 -- src/lib.rt:658:1
 returns-2 : tie.Need-returns-2 Inv-loop μ-loop
 returns-2 c = (
-  ran-as (c .before .before .before .before .loop .inv .1) (c .before .counts-of2 .ensures .0) (c .before .counts-of2 .ensures .1) (c .wide5 .ensures) refl refl refl refl (running-end (c .before .before .before .before .loop .inv .0) (c .before .before .before .loop-test .left)),
+  ran-as (c .before .before .before .before .loop .inv .1) (c .before .counts-of2 .ensures .0) (c .before .counts-of2 .ensures .1) (c .wide325 .ensures .0) refl refl refl refl (running-end (c .before .before .before .before .loop .inv .0) (c .before .before .before .loop-test .left)),
   done-refuses,
 )
 
@@ -198,15 +198,15 @@ typecheck-program-spec =
     tc-stmt-requires
     enum-told
     array-read-t30
-    array-read-wide
-    wide-requires
-    array-read-wide-2
-    wide-requires-2
-    array-read-wide-3
-    wide-requires-3
+    array-read-wide32
+    wide32-requires
+    array-read-wide32-2
+    wide32-requires-2
+    array-read-wide32-3
+    wide32-requires-3
     counts-of-requires
-    array-read-wide-4
-    wide-requires-4
+    array-read-wide32-4
+    wide32-requires-4
     same-length
     returns
     over-requires
@@ -214,7 +214,7 @@ typecheck-program-spec =
     loop-less
     loop-again
     counts-of-requires-2
-    array-read-wide-5
-    wide-requires-5
+    array-read-wide32-5
+    wide32-requires-5
     same-length-2
     returns-2)
