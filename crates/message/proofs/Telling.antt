@@ -66,63 +66,12 @@ chosen {bs} {t} {code} {a} {b} {ps} {xs} f g = record {
   says = f .says ∙ fill-is (bytes (template code)) 0 (f .names) _ (f .many) (rw (f .texts) (g .says));
 }
 
--- for a number that is no code
-pub chosen-none : {bs : List ℕ} {t : Tab} {code a b : ℕ} {ps : Pieces} → template code ≡ "" → Given bs (t .cells) ps [] → Chosen bs t code a b ps
-unfolding put-in message fill filled bytes gaps
-chosen-none e g = record { ready = g .ready; many = rw e (sym (g .many)); says = rw e }
-
--- ---- a number that is no code has no format string
-
--- all rows have keys from n on, or up to n
-unfoldable from : ℕ → List (ℕ × String) → Bool
-from n [] = true
-from n (r ∷ rs) = leb n (r .0) and from n rs
-
-unfoldable upto : ℕ → List (ℕ × String) → Bool
-upto n [] = true
-upto n (r ∷ rs) = leb (r .0) n and upto n rs
-
-choose-low : (k n : ℕ) (rs : List (ℕ × String)) → k < n → from n rs ≡ true → choose k "" rs ≡ ""
-unfolding choose from if_then_else_
-choose-low k n [] h g = refl
-choose-low k n (r ∷ rs) h g =
-    let low = leb-true n (r .0) (and-left _ _ g) in
-    rw (ne-eqb k (r .0) (λ e. absurd (omega arith))) (choose-low k n rs h (and-right _ _ g))
-
-choose-high : (k n : ℕ) (rs : List (ℕ × String)) → n < k → upto n rs ≡ true → choose k "" rs ≡ ""
-unfolding choose upto if_then_else_
-choose-high k n [] h g = refl
-choose-high k n (r ∷ rs) h g =
-    let high = leb-true (r .0) n (and-left _ _ g) in
-    rw (ne-eqb k (r .0) (λ e. absurd (omega arith))) (choose-high k n rs h (and-right _ _ g))
-
-pub template-low : (code : ℕ) → code < 20 → template code ≡ ""
-unfolding template from _and_
-template-low code h = choose-low code 20 _ h refl
-
-pub template-high : (code : ℕ) → 50 < code → template code ≡ ""
-unfolding template upto _and_
-template-high code h = choose-high code 50 _ h refl
-
-pub no-format : (bs cs d : List ℕ) (ps : Pieces) (code : ℕ) → template code ≡ ""
-    → (0 ≡ length (fitting (length d) (put-in bs cs ps (bytes (template code))))) × (d ≡ overlaid (fitting (length d) (put-in bs cs ps (bytes (template code)))) d)
-unfolding bytes put-in filled fitting overlaid if_then_else_
-no-format bs cs d ps code e = rw (e, le-leb 0 (length d) (omega arith)) (refl, refl)
-
 -- what is delivered is what is told
 pub delivered : (bs d e : List ℕ) (t : Tab) (code a b r : ℕ) (ps : Pieces) → Chosen bs t code a b ps
     → (r ≡ length (fitting (length d) (put-in bs (t .cells) ps (bytes (template code))))) × (e ≡ overlaid (fitting (length d) (put-in bs (t .cells) ps (bytes (template code)))) d)
     → (r ≡ length (told bs t code a b (length d))) × (e ≡ overlaid (told bs t code a b (length d)) d)
 unfolding told
 delivered bs d e t code a b r ps c h = rw (c .says) h
-
--- ---- the codes
-
-pub past : {c : ℕ} (n : ℕ) → n ≤ c → (c ≡ n → ⊥) → n + 1 ≤ c
-past n h d = omega arith
-
-pub last : {c n : ℕ} → n ≤ c → c ≤ n → c ≡ n
-last h g = omega arith
 
 -- ---- what is put in
 

@@ -23,37 +23,7 @@ ghost use Rattle.message.specs.Pieces.{oneType, twoTypes, gaps, run, put
 
 mod formats;
 
-use formats::BRANCHES_DIFFER;
-use formats::BUILTIN_ARITY;
-use formats::DICT_KEY;
-use formats::FILTER_FIRST;
-use formats::FILTER_SECOND;
-use formats::FUNCTION_ARITY;
-use formats::LIST_INDEX;
-use formats::MAP_FIRST;
-use formats::MAP_SECOND;
-use formats::NO_CONDITION;
-use formats::NO_EQUALITY;
-use formats::NO_LENGTH;
-use formats::NO_ORDER;
-use formats::NO_PRODUCT;
-use formats::NO_SUBSCRIPT;
-use formats::NO_SUM;
-use formats::NO_TARGET;
-use formats::NOT_BOOL;
-use formats::NOT_ITERABLE;
-use formats::NOT_NUMBER;
-use formats::NOT_NUMBERS;
-use formats::NOT_UNPACKABLE;
-use formats::PROMPT;
-use formats::RANGE_BOUND;
-use formats::RETURNS_DIFFER;
-use formats::STRAY_BREAK;
-use formats::STRAY_CONTINUE;
-use formats::STRING_INDEX;
-use formats::TUPLE_INDEX;
-use formats::WRONG_COUNT;
-use formats::WRONG_VALUE;
+use formats::put_format;
 use image::NameAt;
 use image::areas;
 use image::name_at;
@@ -469,37 +439,33 @@ fn pieces_of(image: &[u8], table: &[u16], counts: Counts, code: u32, a: usize, b
         code a b r ⌝ }
 {
     match code {
-        codes::BREAK => nothing(),
-        codes::CONTINUE => nothing(),
-        codes::INCONSISTENT_RETURN => two_types(a, b),
         codes::INCOMPATIBLE_BRANCHES => named(image, a),
-        codes::NOT_ITERABLE => one_type(a),
-        codes::CANNOT_ASSIGN => two_types(a, b),
         codes::UNPACK_LENGTH => counted(a, b),
-        codes::UNPACK_NON_ITERABLE => one_type(a),
-        codes::INVALID_TARGET => nothing(),
-        operator_codes::PLUS => two_types(a, b),
-        operator_codes::TIMES => two_types(a, b),
-        operator_codes::COMPARE => two_types(a, b),
-        codes::EQUALITY => two_types(a, b),
-        operator_codes::NUMERIC_PAIR => two_types(a, b),
-        operator_codes::INT_OR_FLOAT => one_type(a),
-        operator_codes::EXPECTED_BOOL => one_type(a),
-        codes::CONDITION => nothing(),
         codes::BUILTIN_ARITY => called(image, a, b),
         codes::FUNCTION_ARITY => passed(image, a, b),
-        codes::INPUT => one_type(a),
-        codes::LEN => one_type(a),
-        codes::RANGE => one_type(a),
-        codes::MAP_FIRST => one_type(a),
-        codes::MAP_SECOND => one_type(a),
-        codes::FILTER_FIRST => one_type(a),
-        codes::FILTER_SECOND => one_type(a),
-        codes::LIST_INDEX => one_type(a),
-        codes::DICT_KEY => two_types(a, b),
-        codes::TUPLE_INDEX => one_type(a),
-        codes::STRING_INDEX => one_type(a),
-        codes::NOT_SUBSCRIPTABLE => one_type(a),
+        codes::NOT_ITERABLE
+        | codes::UNPACK_NON_ITERABLE
+        | operator_codes::INT_OR_FLOAT
+        | operator_codes::EXPECTED_BOOL
+        | codes::INPUT
+        | codes::LEN
+        | codes::RANGE
+        | codes::MAP_FIRST
+        | codes::MAP_SECOND
+        | codes::FILTER_FIRST
+        | codes::FILTER_SECOND
+        | codes::LIST_INDEX
+        | codes::TUPLE_INDEX
+        | codes::STRING_INDEX
+        | codes::NOT_SUBSCRIPTABLE => one_type(a),
+        codes::INCONSISTENT_RETURN
+        | codes::CANNOT_ASSIGN
+        | operator_codes::PLUS
+        | operator_codes::TIMES
+        | operator_codes::COMPARE
+        | codes::EQUALITY
+        | operator_codes::NUMERIC_PAIR
+        | codes::DICT_KEY => two_types(a, b),
         _ => nothing(),
     }
 }
@@ -686,93 +652,6 @@ fn deliver(image: &[u8], table: &[u16], format: &[u8], pieces: Pieces, out: &mut
     fill_in(image, table, format, pieces, out)
 }
 
-// 20 to 28: statements.
-fn tell_statement(image: &[u8], table: &[u16], code: u32, pieces: Pieces, out: &mut [u8]) -> usize
-    requires { ⌜ Ready (now image) (now table) pieces ⌝ }
-    requires { ⌜ gaps (formatOf code) ≡ pieces .many ⌝ }
-    requires { ⌜ (20 ≤ code) × (code ≤ 28) ⌝ }
-    ensures { λ r. ⌜ r ≡ length (laidOut (now (image .entry)) (now (table .entry)) pieces
-        (formatOf code) (now (out .entry))) ⌝ }
-    ensures { λ _. ⌜ now (out .exit) ≡ overlaid (laidOut (now (image .entry)) (now (table .entry)) pieces
-        (formatOf code) (now (out .entry))) (now (out .entry)) ⌝ }
-{
-    match code {
-        codes::BREAK => deliver(image, table, &STRAY_BREAK, pieces, out),
-        codes::CONTINUE => deliver(image, table, &STRAY_CONTINUE, pieces, out),
-        codes::INCONSISTENT_RETURN => deliver(image, table, &RETURNS_DIFFER, pieces, out),
-        codes::INCOMPATIBLE_BRANCHES => deliver(image, table, &BRANCHES_DIFFER, pieces, out),
-        codes::NOT_ITERABLE => deliver(image, table, &NOT_ITERABLE, pieces, out),
-        codes::CANNOT_ASSIGN => deliver(image, table, &WRONG_VALUE, pieces, out),
-        codes::UNPACK_LENGTH => deliver(image, table, &WRONG_COUNT, pieces, out),
-        codes::UNPACK_NON_ITERABLE => deliver(image, table, &NOT_UNPACKABLE, pieces, out),
-        _ => deliver(image, table, &NO_TARGET, pieces, out),
-    }
-}
-
-// 29 to 36: operators and conditions.
-fn tell_operator(image: &[u8], table: &[u16], code: u32, pieces: Pieces, out: &mut [u8]) -> usize
-    requires { ⌜ Ready (now image) (now table) pieces ⌝ }
-    requires { ⌜ gaps (formatOf code) ≡ pieces .many ⌝ }
-    requires { ⌜ (29 ≤ code) × (code ≤ 36) ⌝ }
-    ensures { λ r. ⌜ r ≡ length (laidOut (now (image .entry)) (now (table .entry)) pieces
-        (formatOf code) (now (out .entry))) ⌝ }
-    ensures { λ _. ⌜ now (out .exit) ≡ overlaid (laidOut (now (image .entry)) (now (table .entry)) pieces
-        (formatOf code) (now (out .entry))) (now (out .entry)) ⌝ }
-{
-    match code {
-        operator_codes::PLUS => deliver(image, table, &NO_SUM, pieces, out),
-        operator_codes::TIMES => deliver(image, table, &NO_PRODUCT, pieces, out),
-        operator_codes::COMPARE => deliver(image, table, &NO_ORDER, pieces, out),
-        codes::EQUALITY => deliver(image, table, &NO_EQUALITY, pieces, out),
-        operator_codes::NUMERIC_PAIR => deliver(image, table, &NOT_NUMBERS, pieces, out),
-        operator_codes::INT_OR_FLOAT => deliver(image, table, &NOT_NUMBER, pieces, out),
-        operator_codes::EXPECTED_BOOL => deliver(image, table, &NOT_BOOL, pieces, out),
-        _ => deliver(image, table, &NO_CONDITION, pieces, out),
-    }
-}
-
-// 37 to 45: calls.
-fn tell_call(image: &[u8], table: &[u16], code: u32, pieces: Pieces, out: &mut [u8]) -> usize
-    requires { ⌜ Ready (now image) (now table) pieces ⌝ }
-    requires { ⌜ gaps (formatOf code) ≡ pieces .many ⌝ }
-    requires { ⌜ (37 ≤ code) × (code ≤ 45) ⌝ }
-    ensures { λ r. ⌜ r ≡ length (laidOut (now (image .entry)) (now (table .entry)) pieces
-        (formatOf code) (now (out .entry))) ⌝ }
-    ensures { λ _. ⌜ now (out .exit) ≡ overlaid (laidOut (now (image .entry)) (now (table .entry)) pieces
-        (formatOf code) (now (out .entry))) (now (out .entry)) ⌝ }
-{
-    match code {
-        codes::BUILTIN_ARITY => deliver(image, table, &BUILTIN_ARITY, pieces, out),
-        codes::FUNCTION_ARITY => deliver(image, table, &FUNCTION_ARITY, pieces, out),
-        codes::INPUT => deliver(image, table, &PROMPT, pieces, out),
-        codes::LEN => deliver(image, table, &NO_LENGTH, pieces, out),
-        codes::RANGE => deliver(image, table, &RANGE_BOUND, pieces, out),
-        codes::MAP_FIRST => deliver(image, table, &MAP_FIRST, pieces, out),
-        codes::MAP_SECOND => deliver(image, table, &MAP_SECOND, pieces, out),
-        codes::FILTER_FIRST => deliver(image, table, &FILTER_FIRST, pieces, out),
-        _ => deliver(image, table, &FILTER_SECOND, pieces, out),
-    }
-}
-
-// 46 to 50: indexes.
-fn tell_index(image: &[u8], table: &[u16], code: u32, pieces: Pieces, out: &mut [u8]) -> usize
-    requires { ⌜ Ready (now image) (now table) pieces ⌝ }
-    requires { ⌜ gaps (formatOf code) ≡ pieces .many ⌝ }
-    requires { ⌜ (46 ≤ code) × (code ≤ 50) ⌝ }
-    ensures { λ r. ⌜ r ≡ length (laidOut (now (image .entry)) (now (table .entry)) pieces
-        (formatOf code) (now (out .entry))) ⌝ }
-    ensures { λ _. ⌜ now (out .exit) ≡ overlaid (laidOut (now (image .entry)) (now (table .entry)) pieces
-        (formatOf code) (now (out .entry))) (now (out .entry)) ⌝ }
-{
-    match code {
-        codes::LIST_INDEX => deliver(image, table, &LIST_INDEX, pieces, out),
-        codes::DICT_KEY => deliver(image, table, &DICT_KEY, pieces, out),
-        codes::TUPLE_INDEX => deliver(image, table, &TUPLE_INDEX, pieces, out),
-        codes::STRING_INDEX => deliver(image, table, &STRING_INDEX, pieces, out),
-        _ => deliver(image, table, &NO_SUBSCRIPT, pieces, out),
-    }
-}
-
 // By T's format string of the code: nothing for a number that is no code of a message.
 fn tell(image: &[u8], table: &[u16], code: u32, pieces: Pieces, out: &mut [u8]) -> usize
     requires { ⌜ Ready (now image) (now table) pieces ⌝ }
@@ -782,13 +661,9 @@ fn tell(image: &[u8], table: &[u16], code: u32, pieces: Pieces, out: &mut [u8]) 
     ensures { λ _. ⌜ now (out .exit) ≡ overlaid (laidOut (now (image .entry)) (now (table .entry)) pieces
         (formatOf code) (now (out .entry))) (now (out .entry)) ⌝ }
 {
-    match code {
-        codes::BREAK..=codes::INVALID_TARGET => tell_statement(image, table, code, pieces, out),
-        operator_codes::PLUS..=codes::CONDITION => tell_operator(image, table, code, pieces, out),
-        codes::BUILTIN_ARITY..=codes::FILTER_SECOND => tell_call(image, table, code, pieces, out),
-        codes::LIST_INDEX..=codes::NOT_SUBSCRIPTABLE => tell_index(image, table, code, pieces, out),
-        _ => 0,
-    }
+    let mut format = [0u8; formats::LONGEST];
+    let len = put_format(code, &mut format);
+    deliver(image, table, part_of_text(&format, 0, len), pieces, out)
 }
 
 // The message of a refusal, at the front of `out` if it fits: returns its length, or 0 and changes nothing. `a` and
