@@ -5,7 +5,8 @@
 #include <stdio.h>
 #include <stdlib.h>
 
-static uint8_t image[IMAGE_ROOM], sheet[SHEET_ROOM], message[MESSAGE_ROOM];
+/* One byte more than an image may have: a file that is too long is not cut to one that is not. */
+static uint8_t image[CABLEBIRCH_IMAGE_MAX + 1], sheet[CABLEBIRCH_SHEET_MAX], message[CABLEBIRCH_MESSAGE_ROOM];
 
 int main(int argc, char **argv) {
     FILE *file = argc == 3 ? fopen(argv[1], "rb") : NULL;
@@ -18,7 +19,8 @@ int main(int argc, char **argv) {
     long times = strtol(argv[2], NULL, 10);
     cablebirch_answer answer = {0};
     for (long i = 0; i < times; i++) {
-        answer = cablebirch_check(PLAIN, image, length, sheet, sizeof sheet, message, sizeof message);
+        /* T knows no other setting. */
+        answer = cablebirch_check(CABLEBIRCH_PLAIN, image, length, sheet, sizeof sheet, message, sizeof message);
     }
     if (answer.code == 0) {
         printf("accepted\n");

@@ -14,7 +14,7 @@
 
 enum { ROOM = 16 << 20, GUARD = 1 << 16 };
 
-static uint8_t image[IMAGE_ROOM], sheet[SHEET_ROOM + 1], message[MESSAGE_ROOM];
+static uint8_t image[CABLEBIRCH_IMAGE_MAX + 1], sheet[CABLEBIRCH_SHEET_MAX + 1], message[CABLEBIRCH_MESSAGE_ROOM];
 static size_t length;
 static int sheets;
 static cablebirch_answer answer;
@@ -25,10 +25,10 @@ static void call(void) {
     /* Pushing its return address is the first thing that a call writes. */
     __asm__ volatile("mov %%rsp, %0" : "=m"(entered));
     if (!sheets) {
-        answer = cablebirch_check(PLAIN, image, length, sheet, SHEET_ROOM, message, sizeof message);
+        answer = cablebirch_check(CABLEBIRCH_PLAIN, image, length, sheet, CABLEBIRCH_SHEET_MAX, message, sizeof message);
     } else {
 #ifdef SHEETS
-        answer = cablebirch_write_sheet(image, length, sheet, SHEET_ROOM);
+        answer = cablebirch_write_sheet(image, length, sheet, CABLEBIRCH_SHEET_MAX);
 #endif
     }
 }
