@@ -77,7 +77,7 @@ pub frames-put-cell : (t : Tab) (fs : Rows) (top x m : ℕ) → top < length fs 
 frames-put-cell t fs top x zero h z = absurd (z refl)
 frames-put-cell t fs top x (suc m) h z = rw (sub-one (suc m)) (frames-put t fs top x m h)
 
-map-replicate : (t : Tab) (n : ℕ) → map (slot t) (replicate n 0) ≡ replicate n none
+pub map-replicate : (t : Tab) (n : ℕ) → map (slot t) (replicate n 0) ≡ replicate n none
 unfolding slot
 map-replicate t zero = refl
 map-replicate t (suc n) = ap (λ r. none ∷ r) (map-replicate t n)

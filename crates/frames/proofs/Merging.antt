@@ -13,7 +13,7 @@ use lib.Seq.{getD-set-same, getD-set-other}
 use borrow.Author.Tests.{lt-ltb, le-ltb, eq-eqb, ne-eqb, eqb-true, eqb-false}
 use borrow.Author.Count.{below-more}
 use Rattle.meaning.specs.Types.{Ty, unknown, same}
-use Rattle.meaning.proofs.Choices.{same-yes, same-no}
+use Rattle.meaning.proofs.Choices.{same-yes, same-no, and-true, and-false, if-le}
 use Rattle.types.specs.Table.{Tab, denote, Wf, Grown}
 use Rattle.types.proofs.Laws.{unknown-number, same-number}
 use Rattle.meaning.specs.Limits.{mostNames}
@@ -21,7 +21,8 @@ use Rattle.meaning.specs.Base.{_and_, _or_, if_then_else_, ifSome, orElse, all,
 use Rattle.meaning.specs.Image.{Name, nameOf}
 use Rattle.meaning.specs.Message.{aText}
 use Rattle.meaning.specs.Frames.{Frame, Frames, newest, slotIn}
-use Rattle.meaning.specs.Walk.{State, state, bind, End, done, wrong, tooDeep, refuse, _>>=_, sameSlot, tells, assigned, mergeName, mergeNames, merge}
+use Rattle.meaning.specs.Walk.{State, state, bind, done, refuse, _>>=_, sameSlot, tells, assigned, mergeName, mergeNames, merge}
+use Rattle.meaning.proofs.Before.{then-same}
 use Rattle.frames.specs.Env.{Rows, cell, put, pick, look, slot, frameOf, below, framesOf, Fit, mergeEnd, tellsCell, noteCell, clashCell, Noted, settleName, settle, Committed}
 use Rattle.frames.specs.declared.Merge.{Merge}
 use Rattle.frames.specs.declared.Merge.the-variants.{Whole, Clash}
@@ -52,12 +53,6 @@ merge-name ws c x (t ∷ ts) s = by (all (same t) ts)
     by true = refl
     by false = refl
 
-then-cong : (e : End) (k l : State → End) → ((s : State) → k s ≡ l s) → (e >>= k) ≡ (e >>= l)
-unfolding _>>=_
-then-cong (done s) k l h = h s
-then-cong (wrong r s) k l h = refl
-then-cong (tooDeep n) k l h = refl
-
 -- for what the accumulators mean, the definition's merge is the merge by accumulators
 pub merge-settle : (ws : List Name) (c : ℕ) (Γ : Frames) (Δs : List Frames) (f : ℕ → Option Ty) (g : ℕ → Bool) (i n : ℕ) (s : State) → i + n ≤ 128
     → ((x : ℕ) → x < 128 → f x ≡ firstOf (assigned Γ x Δs)) → ((x : ℕ) → x < 128 → g x ≡ differs (assigned Γ x Δs))
@@ -66,7 +61,7 @@ unfolding mergeNames settle count
 merge-settle ws c Γ Δs f g i zero s h p q = refl
 merge-settle ws c Γ Δs f g i (suc n) s h p q =
     let a : mergeName ws c i (assigned Γ i Δs) s ≡ settleName ws c i (f i) (g i) s = rw (p i (omega arith), q i (omega arith)) (merge-name ws c i (assigned Γ i Δs) s) in
-    rw a (then-cong (settleName ws c i (f i) (g i) s) _ _ (λ s′. merge-settle ws c Γ Δs f g (suc i) n s′ (omega arith) p q))
+    rw a (then-same (settleName ws c i (f i) (g i) s) _ _ (λ s′. merge-settle ws c Γ Δs f g (suc i) n s′ (omega arith) p q))
 
 -- ---- one more branch
 snoc-by : (p q : Bool) (a b : Ty) (ts : List Ty)
@@ -131,14 +126,6 @@ module _ (t : Tab) (w : Wf t) where
   unfolding differs if_then_else_ _and_
   note-new j k c ts a b e = rw (all-snoc (same (denote t j)) ts (denote t k)) (by (eqb (suc j) (suc k)) refl)
     where
-      and-true : (q : Bool) → (q and true) ≡ q
-      and-true true = refl
-      and-true false = refl
-
-      and-false : (q : Bool) → (q and false) ≡ false
-      and-false true = refl
-      and-false false = refl
-
       by : (q : Bool) → eqb (suc j) (suc k) ≡ q → (if q then c else true) ≡ not (all (same (denote t j)) ts and same (denote t j) (denote t k))
       by true z =
           let i : suc j ≡ suc k = eqb-true (suc j) (suc k) z in
@@ -174,11 +161,6 @@ module _ (t : Tab) (w : Wf t) where
           × ((if q then (if eqb m 0 then c else if eqb m v then c else true) else c) ≡ differs (if q then ts ++ (orElse (slot t v) unknown ∷ []) else ts))
       by true p = note-told v m c ts (p refl) h l e f
       by false p = (e, f)
-
-if-le : (q : Bool) {a b n : ℕ} → a ≤ n → b ≤ n → (if q then a else b) ≤ n
-unfolding if_then_else_
-if-le true p q = p
-if-le false p q = q
 
 note-le : (b v m n : ℕ) → v ≤ n → m ≤ n → noteCell b v m ≤ n
 unfolding noteCell

@@ -4,16 +4,17 @@ use mathlib.Core.Bool.{true}
 use mathlib.Core.Option.{none}
 use mathlib.Core.List.{List, []}
 use Prim.Native.Nat.{ℕ, zero, suc, _+_, _-_, _*_, _<_, _≤_}
-use native.Mathlib.Nat.{add-zero, add-assoc, mul-zero, mul-suc, not-suc-le-zero, le-of-suc-le-suc}
+use native.Mathlib.Nat.{add-zero, mul-zero, mul-suc, not-suc-le-zero, le-of-suc-le-suc}
 use native.Mathlib.Omega.{arith}
 use lib.ListN.{length, getD, take, drop, List·getD-map, length-map, length-drop}
-use lib.Seq.{drop-drop, getD-drop, take-all}
+use lib.Seq.{drop-drop, take-all}
 use borrow.Author.Tests.{leb-true}
 use Rattle.meaning.specs.Base.{_and_, choose, if_then_else_, word, records}
 use Rattle.meaning.specs.Image.{nameRecord, nameRecords, textsOf, nameFrom, roleOf, namesOf, nameOf, node, nodesOf, nodeOf, nameCount, nodeCount, textCount, namesFrom, nodesFrom, textsFrom, total, headStands, brokenName}
 use Rattle.meaning.specs.Image.{Name}
 use Rattle.meaning.proofs.Choices.{and-left, records-many}
 use Rattle.meaning.proofs.Faults.{Headed, sizes}
+use Rattle.words.proofs.Laws.{word-drop, first-word}
 use Rattle.image.specs.declared.NameAt.{NameAt}
 use Rattle.image.specs.Parts.{recordOf, nameMeans}
 use Rattle.image.proofs.Searches.{names-fit}
@@ -27,13 +28,6 @@ record-at read size (suc n) from bs zero d h = rw (mul-zero, add-zero)
 record-at read size (suc n) from bs (suc i) d h =
     let further : from + size * suc i ≡ from + size + size * i = omega (arith, mul-suc size i) in
     rw (further, drop-drop) (record-at read size n (from + size) bs i d (le-of-suc-le-suc h))
-
--- a word of what is left from a place on
-word-drop : (bs : List ℕ) (at k : ℕ) → word (drop at bs) k ≡ word bs (at + k)
-word-drop bs at k = simp (getD-drop, add-assoc)
-
-first-word : (bs : List ℕ) (at : ℕ) → word (drop at bs) 0 ≡ word bs at
-first-word bs at = simp (getD-drop, add-zero)
 
 -- ---- nodes
 

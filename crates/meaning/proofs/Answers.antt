@@ -8,7 +8,8 @@ use Prim.Native.Nat.{ℕ, _+_, _≤_, _<_}
 use native.Mathlib.Omega.{arith}
 use borrow.Author.Tests.{leb-true, ne-eqb}
 use lib.Dec.{leb}
-use lib.ListN.{length, drop, length-append, length-drop}
+use lib.ListN.{length, take, drop, length-append, length-drop}
+use lib.Seq.{take-append-seam}
 use Rattle.meaning.specs.Base.{if_then_else_, choose, ifSome}
 use Rattle.meaning.specs.Image.{Fault, Name, Node, imageFault, namesOf, nodesOf}
 use Rattle.meaning.specs.Message.{Refusal}
@@ -159,6 +160,10 @@ read-code bs = by (readSheet bs)
 pub overlaid-length : (bs old : List ℕ) → length bs ≤ length old → length (overlaid bs old) ≡ length old
 unfolding overlaid
 overlaid-length bs old h = omega (arith, length-append bs (drop (length bs) old), length-drop (length bs) old)
+
+pub overlaid-front : (bs old : List ℕ) → take (length bs) (overlaid bs old) ≡ bs
+unfolding overlaid
+overlaid-front bs old = take-append-seam bs _
 
 pub overlaid-none : (old : List ℕ) → overlaid [] old ≡ old
 unfolding overlaid

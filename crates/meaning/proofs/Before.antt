@@ -116,7 +116,7 @@ module _ (ws : List Name) where
 
 -- ---- the walks are equal
 
-then-same : (e : End) (k l : State → End) → ((s : State) → k s ≡ l s) → (e >>= k) ≡ (e >>= l)
+pub then-same : (e : End) (k l : State → End) → ((s : State) → k s ≡ l s) → (e >>= k) ≡ (e >>= l)
 unfolding _>>=_
 then-same (done s) k l h = h s
 then-same (wrong r s) k l h = refl

@@ -30,10 +30,25 @@ pub both : (a b : Bool) → a ≡ true → b ≡ true → (a and b) ≡ true
 unfolding _and_
 both a b p q = rw (p, q)
 
+pub and-true : (q : Bool) → (q and true) ≡ q
+unfolding _and_
+and-true true = refl
+and-true false = refl
+
+pub and-false : (q : Bool) → (q and false) ≡ false
+unfolding _and_
+and-false true = refl
+and-false false = refl
+
 pub or-either : (a b : Bool) → (a or b) ≡ true → (a ≡ true) ⊎ (b ≡ true)
 unfolding _or_
 or-either true b e = inl refl
 or-either false b e = inr e
+
+pub if-le : (q : Bool) {a b n : ℕ} → a ≤ n → b ≤ n → (if q then a else b) ≤ n
+unfolding if_then_else_
+if-le true p q = p
+if-le false p q = q
 
 pub not-so : (b : Bool) → (b ≡ true → ⊥) → b ≡ false
 not-so true h = absurd (h refl)

@@ -12,6 +12,7 @@ use lib.Dec.{leb, eqb}
 use lib.ListN.{length, getD, take, drop, length-append, length-map}
 use lib.Seq.{drop-at, drop-drop}
 use Rattle.meaning.specs.Base.{_and_, all, if_then_else_, sameText, word, words, records}
+use Rattle.meaning.specs.Limits.{mostNames, longestName, mostTypes, mostElements}
 use Rattle.meaning.specs.Types.{Ty}
 use Rattle.meaning.specs.Image.{printable, textStands}
 use Rattle.meaning.specs.Sheet.{Entry, Triple, laid, typesOf, number, elementsOf, typeRecords, spellings, nameRecords, sheetOf, textsStand, withinLimits}
@@ -24,25 +25,25 @@ use Rattle.meaning.proofs.SheetRead.{types-read, names-read, numbers-sm
 -- ---- the limits
 
 pub record Limits (es : List Entry) : Type 0 where
-  pub names : length es ≤ 128
-  pub types : length (typesOf es []) ≤ 2048
-  pub elements : length (elementsOf (typesOf es [])) ≤ 2047
-  pub size : length (spellings es) ≤ 64 * length es
+  pub names : length es ≤ mostNames
+  pub types : length (typesOf es []) ≤ mostTypes
+  pub elements : length (elementsOf (typesOf es [])) ≤ mostElements
+  pub size : length (spellings es) ≤ longestName * length es
 
-pub texts-size : (last : List ℕ) (es : List Entry) → textsStand last es ≡ true → length (spellings es) ≤ 64 * length es
+pub texts-size : (last : List ℕ) (es : List Entry) → textsStand last es ≡ true → length (spellings es) ≤ longestName * length es
 unfolding textsStand textStands spellings
 texts-size last [] h = omega arith
 texts-size last (e ∷ es) h =
-    let here = leb-true (length (e .0)) 64 (and-right _ _ (and-left _ _ (and-left _ _ (and-left _ _ h)))) in
+    let here = leb-true (length (e .0)) longestName (and-right _ _ (and-left _ _ (and-left _ _ (and-left _ _ h)))) in
     omega (arith, length-append (e .0) (spellings es), texts-size (e .0) es (and-right _ _ h))
 
 pub limits : (es : List Entry) → withinLimits es ≡ true → Limits es
 unfolding withinLimits
 limits es h =
     record {
-      names = leb-true _ 128 (and-right _ _ (and-left _ _ (and-left _ _ h)));
-      types = leb-true _ 2048 (and-right _ _ (and-left _ _ h));
-      elements = leb-true _ 2047 (and-right _ _ h);
+      names = leb-true _ mostNames (and-right _ _ (and-left _ _ (and-left _ _ h)));
+      types = leb-true _ mostTypes (and-right _ _ (and-left _ _ h));
+      elements = leb-true _ mostElements (and-right _ _ h);
       size = texts-size [] es (and-left _ _ (and-left _ _ (and-left _ _ h)));
     }
 
@@ -152,7 +153,7 @@ is-sheet bs es s =
     let h = limits es (s .limits) in
     let c = counts es (word-long es (s .limits)) in
     rw (s .written, round-trip es (s .limits), c .0, c .1, c .2)
-    (both _ _ (both _ _ (both _ _ (le-leb _ 2048 (h .types)) (le-leb _ 2047 (h .elements))) (le-leb _ 128 (h .names))) (both _ _ (text-same (sheetOf es)) (s .limits)))
+    (both _ _ (both _ _ (both _ _ (le-leb _ mostTypes (h .types)) (le-leb _ mostElements (h .elements))) (le-leb _ mostNames (h .names))) (both _ _ (text-same (sheetOf es)) (s .limits)))
 
 pub sheet-form : (bs : List ℕ) → (isSheet bs ≡ true) ↔ ((es : List Entry) × SheetOf bs es)
 sheet-form bs = (λ h. (entriesIn bs, sheet-is bs h), λ s. is-sheet bs (s .0) (s .1))

@@ -64,6 +64,9 @@ unfolding weight elementsOf
 elements-weight [] = refl
 elements-weight (u ∷ us) = omega (arith, elements-weight us, length-append (elementsIn u) (elementsOf us))
 
+pub no-more : (ps ts vs : List Ty) → Ordered ps ts → ((t : Ty) → List·Memᴰ t ts → List·Memᴰ t vs) → length ts ≤ length vs
+no-more ps ts vs o c = omega (arith, length-weight ts, length-weight vs, lighter (λ t. 1) ps ts vs o c)
+
 module _ (es : List Entry) (vs : List Ty) (names : Known vs (map (λ e. e .1) es)) (closed : (t : Ty) → List·Memᴰ t vs → Known vs (parts t)) where
   reached-held : {t : Ty} → Reached (map (λ e. e .1) es) t → 8 ≤ kind t → List·Memᴰ t vs
   reached-held (given {t = t} m) h = names t m h
@@ -76,6 +79,6 @@ module _ (es : List Entry) (vs : List Ty) (names : Known vs (map (λ e. e .1) es
   sheet-room =
       let us = typesOf es [] in
       let o = types-met es [] tt .ordered in (
-        omega (arith, length-weight us, length-weight vs, lighter (λ t. 1) [] us vs o held),
+        no-more [] us vs o held,
         omega (arith, elements-weight us, elements-weight vs, lighter (λ t. length (elementsIn t)) [] us vs o held),
       )

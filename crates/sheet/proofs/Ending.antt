@@ -14,13 +14,14 @@ use Rattle.meaning.specs.Image.{textStands}
 use Rattle.meaning.specs.Sheet.{Entry, typesOf, elementsOf, sheetOf, textsStand, withinLimits}
 use Rattle.meaning.specs.Read.{entriesIn, isSheet, SheetOf}
 use Rattle.meaning.specs.Answer.{written, overlaid}
-use Rattle.meaning.proofs.Choices.{and-left, and-right, both, not-so, same-text, text-same}
+use Rattle.meaning.proofs.Choices.{and-right, both, not-so, same-text, text-same}
 use Rattle.meaning.proofs.SheetWords.{four-bytes}
 use Rattle.meaning.proofs.SheetForm.{sheet-is, is-sheet, sheet-size, sheet-length}
+use Rattle.meaning.specs.Limits.{mostNames, mostTypes, mostElements}
 use Rattle.types.specs.Table.{Tab, denote, Wf}
 use Rattle.sheet.specs.Listing.{startAt, lengthAt, typeAt, entryAt, listedFrom, listed, Listing, Wrote}
 use Rattle.sheet.specs.Reading.{Bounds, Told, TypesRead, NamesRead, TextsInside, TextsTold, Compared, Reads}
-use Rattle.sheet.proofs.Naming.{entries-are, entries-listing}
+use Rattle.sheet.proofs.Naming.{entries-are, entries-listing, texts-of}
 
 -- ---- the texts
 
@@ -114,13 +115,9 @@ own-counts : (es : List Entry) → length (sheetOf es) ≤ 42532 → (word (shee
 unfolding sheetOf words
 own-counts es h = let s = sheet-size es in (four-bytes _ (omega arith), four-bytes _ (omega arith))
 
-within : (es : List Entry) → textsStand [] es ≡ true → length es ≤ 128 → length (typesOf es []) ≤ 2048 → length (elementsOf (typesOf es [])) ≤ 2047 → withinLimits es ≡ true
+within : (es : List Entry) → textsStand [] es ≡ true → length es ≤ mostNames → length (typesOf es []) ≤ mostTypes → length (elementsOf (typesOf es [])) ≤ mostElements → withinLimits es ≡ true
 unfolding withinLimits
-within es t n u e = both _ _ (both _ _ (both _ _ t (le-leb (length es) 128 n)) (le-leb _ 2048 u)) (le-leb _ 2047 e)
-
-texts-of : (es : List Entry) → withinLimits es ≡ true → textsStand [] es ≡ true
-unfolding withinLimits
-texts-of es w = and-left _ _ (and-left _ _ (and-left _ _ w))
+within es t n u e = both _ _ (both _ _ (both _ _ t (le-leb (length es) mostNames n)) (le-leb _ mostTypes u)) (le-leb _ mostElements e)
 
 names-listed : (source : List ℕ) (t : Tab) (cells : List ℕ) (k n : ℕ) → length (listedFrom source t cells k n) ≡ n
 unfolding listedFrom count
@@ -159,9 +156,9 @@ module _ {bs xs cells : List ℕ} {t : Tab} {n : ℕ} (b : Bounds bs) (ty : Type
           let es = entriesIn bs in
           let y : (bs ≡ sheetOf es) × (length (sheetOf es) ≤ 42532) = subst (λ l. (bs ≡ sheetOf l) × (length (sheetOf l) ≤ 42532)) read-entries (c .yes e) in
           let own = own-counts es (y .1) in
-          let u : length (typesOf es []) ≤ 2048 = omega (arith, own .0, ap (λ (l : List ℕ). word l 4) (y .0), b .types) in
-          let v : length (elementsOf (typesOf es [])) ≤ 2047 = omega (arith, own .1, ap (λ (l : List ℕ). word l 12) (y .0), b .elements) in
-          let m : length es ≤ 128 = omega (arith, ap length read-entries, listed-many bs t cells n, read-listing .few) in
+          let u : length (typesOf es []) ≤ mostTypes = omega (arith, own .0, ap (λ (l : List ℕ). word l 4) (y .0), b .types) in
+          let v : length (elementsOf (typesOf es [])) ≤ mostElements = omega (arith, own .1, ap (λ (l : List ℕ). word l 12) (y .0), b .elements) in
+          let m : length es ≤ mostNames = omega (arith, ap length read-entries, listed-many bs t cells n, read-listing .few) in
           sym (is-sheet bs es record { written = y .0; limits = within es stand m u v })
       by false e =
           sym (not-so (isSheet bs) (λ h.

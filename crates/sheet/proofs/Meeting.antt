@@ -1,17 +1,15 @@
 -- The walk of the sheet, type by type: a plain type and one that was met before change nothing, and any other comes after its parts.
-use mathlib.Core.Path.{_≡_, refl, sym, ap, _∙_}
+use mathlib.Core.Path.{_≡_, refl, ap}
 use mathlib.Core.Logic.{_⊎_, inl, inr, ⊎-elim}
-use mathlib.Core.List.{List, [], _∷_, _++_, map, append-nil, List·Memᴰ, List·Memᴰ·head, List·Memᴰ·tail, List·Memᴰ·not-nil, List·Memᴰ·cases-cons, Memᴰ·append-left, Memᴰ·append-right, Memᴰ·cast}
-use Prim.Native.Nat.{ℕ, zero, suc, _+_, _≤_, _<_}
+use mathlib.Core.List.{List, [], _∷_, _++_, map, append-nil, List·Memᴰ, List·Memᴰ·head, List·Memᴰ·tail, List·Memᴰ·not-nil, List·Memᴰ·cases-cons, Memᴰ·append-left}
+use Prim.Native.Nat.{ℕ, zero, _+_, _≤_, _<_}
 use native.Mathlib.Omega.{arith}
-use lib.ListN.{length}
 use lib.Seq.{append-snoc}
-use Rattle.meaning.specs.Base.{if_then_else_}
-use Rattle.meaning.specs.Types.{Ty, Ty-discrete, unknown, int, bool, string, float, nonetype, range, function, list, dict, tuple, mapIter, filterIter, Tys, no-types, _⊕_, same, kind, parts, elements}
+use Rattle.meaning.specs.Types.{Ty, unknown, int, bool, string, float, nonetype, range, function, list, dict, tuple, mapIter, filterIter, Tys, no-types, _⊕_, kind, parts, elements}
 use Rattle.meaning.specs.Sheet.{Entry, addNew, met, metAll, typesOf}
-use Rattle.meaning.proofs.Choices.{same-yes, same-no}
 use Rattle.meaning.proofs.SheetWalk.{Added, old, fresh, added}
 use Rattle.meaning.proofs.SheetTypes.{Known, Next, Ordered, Met, types-met}
+pub use Rattle.meaning.proofs.SheetRoom.{no-more}
 use Rattle.sheet.specs.Marks.{metEach}
 
 -- ---- a plain type
@@ -142,40 +140,3 @@ module _ (us : List Ty) (closed : (t : Ty) → List·Memᴰ t us → Known us (p
 
 pub met-again : (t : Ty) (us : List Ty) → Ordered [] us → List·Memᴰ t us → met t us ≡ us
 met-again t us o m = met-known us (λ u n. parts-stand [] us o u n) t (λ h. m)
-
--- ---- different types that all stand in vs are no more than vs
-
-without : Ty → List Ty → List Ty
-without t [] = []
-without t (u ∷ us) = if same t u then us else u ∷ without t us
-
-length-without : (t : Ty) (us : List Ty) → List·Memᴰ t us → length us ≡ suc (length (without t us))
-unfolding without if_then_else_
-length-without t [] m = absurd (List·Memᴰ·not-nil m)
-length-without t (u ∷ us) m = elim (Ty-discrete t u) [
-  | yes p ↦ rw (same-yes t u p)
-  | no q ↦ rw (same-no t u q) (ap suc (length-without t us (⊎-elim (λ e. absurd (q e)) (λ r. r) (List·Memᴰ·cases-cons m))))
-]
-
-kept-without : (t u : Ty) (us : List Ty) → (u ≡ t → ⊥) → List·Memᴰ u us → List·Memᴰ u (without t us)
-unfolding without if_then_else_
-kept-without t u [] n m = m
-kept-without t u (x ∷ us) n m = elim (Ty-discrete t x) [
-  | yes p ↦ rw (same-yes t x p) (⊎-elim (λ e. absurd (n (e ∙ sym p))) (λ r. r) (List·Memᴰ·cases-cons m))
-  | no q ↦ rw (same-no t x q) (⊎-elim (λ e. List·Memᴰ·head e) (λ r. List·Memᴰ·tail (kept-without t u us n r)) (List·Memᴰ·cases-cons m))
-]
-
-not-before : (ps ts : List Ty) → Ordered ps ts → (t : Ty) → List·Memᴰ t ts → List·Memᴰ t ps → ⊥
-not-before ps [] o t m n = List·Memᴰ·not-nil m
-not-before ps (u ∷ ts) o t m n =
-    ⊎-elim (λ e. o .0 .new (Memᴰ·cast (sym e) n)) (λ r. not-before (ps ++ (u ∷ [])) ts (o .1) t r (Memᴰ·append-left (u ∷ []) n)) (List·Memᴰ·cases-cons m)
-
-pub no-more : (ps ts vs : List Ty) → Ordered ps ts → ((t : Ty) → List·Memᴰ t ts → List·Memᴰ t vs) → length ts ≤ length vs
-no-more ps [] vs o c = omega arith
-no-more ps (t ∷ ts) vs o c =
-    omega (
-      arith,
-      length-without t vs (c t (List·Memᴰ·head refl)),
-      no-more (ps ++ (t ∷ [])) ts (without t vs) (o .1)
-          (λ u m. kept-without t u vs (λ e. not-before (ps ++ (t ∷ [])) ts (o .1) u m (Memᴰ·append-right ps (List·Memᴰ·head e))) (c u (List·Memᴰ·tail m))),
-    )

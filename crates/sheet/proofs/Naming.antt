@@ -18,6 +18,7 @@ use Rattle.meaning.specs.Read.{triple, numbered, typesFrom, entriesFrom, entrie
 use Rattle.meaning.proofs.Choices.{and-left, and-right}
 use Rattle.meaning.proofs.SheetForm.{sheet-is, sheet-size}
 use Rattle.meaning.proofs.SheetAreas.{Areas}
+use Rattle.meaning.specs.Limits.{longestName}
 use Rattle.types.specs.Table.{Tab, denote, Wf}
 use Rattle.sheet.specs.Listing.{nameCells, PutName, startAt, lengthAt, typeAt, entryAt, listedFrom, listed, Listing}
 use Rattle.sheet.specs.Reading.{namesAt, textsAt, wordsAt, triplesAt, Bounds, Told, numberIn, TypesRead, NameRead, NameStep, NamesRead, Naming}
@@ -42,7 +43,7 @@ name-short us from last [] k s h = absurd (omega arith)
 name-short us from last (e ∷ es) zero s h = leb-true (length (e .0)) longestName (and-right _ _ (and-left _ _ (and-left _ _ (and-left _ _ s))))
 name-short us from last (e ∷ es) (suc k) s h = name-short us (from + length (e .0)) (e .0) es k (and-right _ _ s) (omega arith)
 
-texts-of : (es : List Entry) → withinLimits es ≡ true → textsStand [] es ≡ true
+pub texts-of : (es : List Entry) → withinLimits es ≡ true → textsStand [] es ≡ true
 unfolding withinLimits
 texts-of es w = and-left _ _ (and-left _ _ (and-left _ _ w))
 

@@ -1,22 +1,24 @@
 -- The reader's steps over words and types.
 use mathlib.Core.Path.{_≡_, refl, sym, ap, _∙_, subst}
-use mathlib.Core.Bool.{Bool, true, false, not, false≢true}
+use mathlib.Core.Bool.{Bool, true, false, false≢true}
 use mathlib.Core.List.{List, [], _∷_, _++_, map, map-append}
 use Prim.Native.Nat.{ℕ, zero, suc, _+_, _-_, _*_, _≤_, _<_}
-use native.Mathlib.Nat.{zero-add, mul-zero, add-zero}
+use native.Mathlib.Nat.{zero-add, mul-zero}
 use native.Mathlib.Numerals.{add-one}
 use native.Mathlib.Omega.{arith}
 use native.Mathlib.Decide.{decLt, ℕ-discrete}
 use borrow.Author.Tests.{eq-eqb, ne-eqb, lt-ltb, le-ltb, leb-true, leb-false, le-leb, lt-leb}
+pub use borrow.Author.Tests.{not-true, not-false}
 use lib.Dec.{eqb, leb, ltb}
 use lib.ListN.{length, getD, set, take, drop, replicate, length-set, length-take, length-drop, length-map, length-replicate, List·getD-map, List·getD-eq-default}
-use lib.Seq.{take-suc-set, take-set-le, getD-take, getD-drop, drop-drop}
+use lib.Seq.{take-suc-set, take-set-le, getD-take, drop-drop}
 use Rattle.meaning.specs.Base.{_and_, choose, if_then_else_, word, records}
 use Rattle.meaning.specs.Types.{Ty, Tys, unknown, list, dict, tuple, mapIter, filterIter, tys, no-types, plain}
 use Rattle.meaning.specs.Sheet.{Entry, Triple, typesOf, elementsOf, spellings, sheetOf, withinLimits}
 use Rattle.meaning.specs.Read.{triple, numbered, typeFrom, entriesIn, isSheet, SheetOf}
 use Rattle.meaning.proofs.Choices.{not-so}
 use Rattle.meaning.proofs.SheetForm.{Limits, limits, sheet-is, sheet-size, sheet-length, Header, sheet-header}
+use Rattle.words.proofs.Laws.{first-word}
 use Rattle.types.specs.Table.{Tab, tab, denote, Wf, Grown, Made, built, shaped}
 use Rattle.types.specs.Steps.{Asked, Listed}
 use Rattle.types.proofs.Laws.{plain-number, unknown-number, grown-refl}
@@ -126,9 +128,6 @@ records-snoc read size zero bs = rw (mul-zero size)
 records-snoc read size (suc n) bs =
     let further : size + size * n ≡ size * suc n = omega arith in
     ap (λ rs. read bs ∷ rs) (records-snoc read size n (drop size bs) ∙ ap (λ (d : List ℕ). records read size n (drop size bs) ++ (read d ∷ [])) (drop-drop (size * n) size bs ∙ ap (λ x. drop x bs) further))
-
-pub first-word : (bs : List ℕ) (at : ℕ) → word (drop at bs) 0 ≡ word bs at
-first-word bs at = simp (getD-drop, add-zero)
 
 words-snoc : (bs : List ℕ) (at n : ℕ) → wordsAt bs at (suc n) ≡ wordsAt bs at n ++ (word bs (at + 4 * n) ∷ [])
 unfolding wordsAt
@@ -273,11 +272,3 @@ module _ {xs : List ℕ} {k kind : ℕ} {t : Tab} (f : Forming xs k kind t) (p q
 
 pub told-not : {P Q : Type 0} {bs : List ℕ} {r : Bool} → Told P bs r → r ≡ false → Told Q bs false
 told-not t e = record { yes = λ h. absurd (false≢true h); no = λ h. t .no e }
-
-pub not-true : (b : Bool) → not b ≡ true → b ≡ false
-not-true true e = absurd (false≢true e)
-not-true false e = refl
-
-pub not-false : (b : Bool) → not b ≡ false → b ≡ true
-not-false true e = refl
-not-false false e = absurd (false≢true (sym e))

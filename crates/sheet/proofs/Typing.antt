@@ -3,14 +3,14 @@ use mathlib.Core.Path.{_≡_, refl, sym, ap, _∙_, subst}
 use mathlib.Core.Bool.{Bool, true, false}
 use mathlib.Core.List.{List, [], _∷_, _++_, map, map-append}
 use Prim.Native.Nat.{ℕ, zero, suc, _+_, _-_, _*_, _≤_, _<_}
-use native.Mathlib.Nat.{add-assoc, add-zero, mul-zero}
+use native.Mathlib.Nat.{add-zero, mul-zero}
 use native.Mathlib.Numerals.{add-one}
 use native.Mathlib.Omega.{arith}
 use native.Mathlib.Decide.{decLt, ℕ-discrete}
 use borrow.Author.Tests.{eq-eqb, ne-eqb}
 use lib.Dec.{eqb}
 use lib.ListN.{length, getD, set, take, drop, length-set, length-append, length-take, length-drop, drop-of-length-le, List·getD-append}
-use lib.Seq.{drop-cons, drop-drop, getD-drop, take-suc-set, getD-append-seam}
+use lib.Seq.{drop-cons, drop-drop, take-suc-set, getD-append-seam}
 use Rattle.meaning.specs.Base.{choose, if_then_else_, word, records}
 use Rattle.meaning.specs.Types.{Ty, tuple, tys, kind, parts}
 use Rattle.meaning.specs.Sheet.{Entry, Triple, typesOf, elementsIn, elementsOf, typeRecord, typeRecords, sheetOf}
@@ -18,17 +18,15 @@ use Rattle.meaning.specs.Read.{triple, numbered, typeFrom, typesFrom, entriesIn
 use Rattle.meaning.proofs.Choices.{records-many}
 use Rattle.meaning.proofs.SheetForm.{sheet-is}
 use Rattle.meaning.proofs.SheetAreas.{Areas, sheet-areas}
+use Rattle.words.proofs.Laws.{word-drop, first-word}
 use Rattle.image.proofs.Records.{record-at}
 use Rattle.types.specs.Table.{Tab, tab, capacity, denote, Wf, Grown, Made}
 use Rattle.sheet.specs.Reading.{elementsAt, wordsAt, triplesAt, tupleSum, Bounds, Told, Below, Tupling, tupleAt, Forming, typesLeft, Typing, Typed, TypesRead}
 use Rattle.sheet.specs.Reading.{elementsIn as elementsRead}
 use Rattle.sheet.proofs.Sizes.{elements-tuple, elements-none}
-use Rattle.sheet.proofs.Reading.{sheet-head, first-word, told-no, told-yes}
+use Rattle.sheet.proofs.Reading.{sheet-head, told-no, told-yes}
 
 -- ---- records and words by their place
-
-word-drop : (bs : List ℕ) (at k : ℕ) → word (drop at bs) k ≡ word bs (at + k)
-word-drop bs at k = simp (getD-drop, add-assoc)
 
 pub triple-at : (bs : List ℕ) (at : ℕ) {a b c : ℕ} → a ≡ word bs at → b ≡ word bs (at + 4) → c ≡ word bs (at + 8) → triple (drop at bs) ≡ (a, b, c)
 unfolding triple

@@ -92,6 +92,13 @@ part-at x k n i h = rw (getD-take, getD-drop)
 byte-part : (x : List ℕ) (k : ℕ) → getD x k 0 ≡ getD (take 1 (drop k x)) 0 0
 byte-part x k = rw (part-at x k 1 0 (omega arith), add-zero)
 
+-- a word of what is left from a place on
+pub word-drop : (bs : List ℕ) (at k : ℕ) → word (drop at bs) k ≡ word bs (at + k)
+word-drop bs at k = simp (getD-drop, add-assoc)
+
+pub first-word : (bs : List ℕ) (at : ℕ) → word (drop at bs) 0 ≡ word bs at
+first-word bs at = simp (getD-drop, add-zero)
+
 word-part : (x : List ℕ) (k : ℕ) → word x k ≡ word (take 4 (drop k x)) 0
 word-part x k =
     rw (part-at x k 4 0 (omega arith), part-at x k 4 1 (omega arith), part-at x k 4 2 (omega arith), part-at x k 4 3 (omega arith), add-zero)

@@ -11,6 +11,7 @@ use lib.Seq.{drop-cons, sets-eq}
 use borrow.Author.Tests.{eq-eqb, ne-eqb, le-leb, lt-leb, ltb-true, ltb-false}
 use Rattle.meaning.specs.Base.{_and_, if_then_else_, all, sameText, before, decimal}
 use Rattle.meaning.specs.Image.{printable}
+use Rattle.meaning.proofs.Choices.{and-false}
 use Rattle.meaning.proofs.SheetWords.{Small}
 use Rattle.words.specs.Words.{putAt}
 use Rattle.words.proofs.Laws.{put-byte, put-put-back, decimal-one, decimal-more, decimal-longer}
@@ -23,10 +24,6 @@ same-lengths [] [] n = absurd (n refl)
 same-lengths [] (y ∷ ys) n = refl
 same-lengths (x ∷ xs) [] n = refl
 same-lengths (x ∷ xs) (y ∷ ys) n = rw (same-lengths xs ys (λ e. n (ap suc e))) (and-false (eqb x y))
-  where
-    and-false : (t : Bool) → (t and false) ≡ false
-    and-false true = refl
-    and-false false = refl
 
 module _ (a b : List ℕ) (i : ℕ) where
   pub same-end : length a ≤ i → length b ≤ i → sameText (drop i a) (drop i b) ≡ true
