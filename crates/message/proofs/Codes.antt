@@ -13,11 +13,11 @@ use types.Run.{OneOf}
 use lib.Dec.{eqb, leb}
 use lib.ListN.{length, take, drop}
 use Rattle.meaning.specs.Base.{_and_, _or_, if_then_else_, all, isIn, choose, bytes, decimal}
-use Rattle.meaning.proofs.Choices.{and-left, and-right}
 use Rattle.meaning.specs.Image.{namesOf, nameOf}
 use Rattle.meaning.specs.Message.{aType, aText, aNumber, fill, template, said, message}
 use Rattle.meaning.specs.Rules.{described}
 use Rattle.meaning.specs.Types.{text}
+use Rattle.meaning.proofs.Choices.{and-left, and-right}
 use Rattle.words.specs.Words.{putAt}
 use Rattle.words.proofs.Laws.{put-nil, put-part}
 use Rattle.types.specs.Table.{Tab, denote}

@@ -10,10 +10,11 @@ use borrow.Author.Tests.{eq-eqb, ne-eqb, le-leb, lt-leb}
 use lib.ListN.{length, getD, take, drop, set, length-append, length-drop, drop-of-length-le}
 use lib.Seq.{drop-cons, drop-drop, length-take-le}
 use Rattle.meaning.specs.Base.{if_then_else_, bytes, decimal}
-use Rattle.meaning.specs.Answer.{fitting, overlaid}
+use Rattle.meaning.specs.Answer.{fitting}
 use Rattle.words.specs.Words.{putAt}
 use Rattle.words.proofs.Laws.{put-byte, put-overlaid}
-use Rattle.message.specs.Texts.{Known, AllKnown, clipped, sizeAt, Sized}
+use Rattle.types.specs.Reading.{Known}
+use Rattle.message.specs.Texts.{AllKnown, clipped, sizeAt, Sized}
 use Rattle.message.specs.Pieces.{one, meant, Stands, Small, CountsAs, CountsPiece, Shown, nth, Ready, after, filled, gaps, run, put-in}
 use Rattle.message.specs.declared.Piece.{Piece}
 use Rattle.message.specs.declared.Piece.the-variants.{Nothing, OfType, OfText, OfNumber, OfRange, OfAny}
@@ -291,10 +292,6 @@ module _ {room size : ℕ} (s : List ℕ) (e : size ≡ clipped (room + 1) (leng
 pub fitting-all : {room : ℕ} (s : List ℕ) → length s ≤ room → s ≡ fitting room s
 unfolding fitting if_then_else_
 fitting-all {room} s h = rw (le-leb (length s) room h)
-
-pub overlaid-none : (d : List ℕ) → d ≡ overlaid [] d
-unfolding overlaid
-overlaid-none d = refl
 
 -- ---- two numbers with a dash
 

@@ -1,29 +1,28 @@
 -- What is delivered is the message: a format string and what is put in are what the code says.
 use mathlib.Core.Path.{_≡_, refl, sym, ap, _∙_}
 use mathlib.Core.List.{List, [], _∷_, _++_, map}
-use Prim.Native.Nat.{ℕ, zero, suc, _+_, _<_, _≤_, max}
+use Prim.Native.Nat.{ℕ, zero, suc, _+_, _<_, max}
 use native.Mathlib.Omega.{arith}
 use native.Mathlib.Decide.{ℕ-discrete}
-use borrow.Author.Tests.{eq-eqb, ne-eqb, le-leb, leb-true}
-use mathlib.Core.Bool.{Bool, true, false}
-use Prim.Native.String.{String}
-use lib.Dec.{eqb, leb}
+use borrow.Author.Tests.{eq-eqb, ne-eqb}
+use mathlib.Core.Bool.{false}
+use lib.Dec.{eqb}
 use lib.ListN.{length, length-map}
-use Rattle.meaning.specs.Base.{_and_, if_then_else_, bytes, choose, decimal}
-use Rattle.meaning.proofs.Choices.{and-left, and-right}
+use Rattle.meaning.specs.Base.{if_then_else_, bytes, decimal}
 use Rattle.meaning.specs.Answer.{fitting, overlaid}
 use Rattle.meaning.specs.Image.{namesOf}
 use Rattle.meaning.specs.Message.{Piece as Named, refusal, said, fill, template, message}
 use Rattle.meaning.specs.Types.{text}
-use Rattle.types.specs.Table.{Tab, denote, Wf}
+use Rattle.types.specs.Table.{Tab, mostNumbers, denote, Wf}
 use Rattle.rules.specs.Outcome.{typesNamed, pieces}
-use Rattle.message.specs.Texts.{typeAt, Known, AllKnown}
+use Rattle.types.proofs.Parts.{type-is}
+use Rattle.types.proofs.Readers.{known}
+use Rattle.message.specs.Texts.{AllKnown}
 use Rattle.message.specs.Pieces.{one, meant, Stands, Says, nth, Ready, noTypes, oneType, twoTypes, after, filled, gaps, put-in, Spoken, Given, GivenAll}
 use Rattle.message.specs.Told.{told, Tells, Chosen}
 use Rattle.message.specs.declared.Piece.{Piece}
 use Rattle.message.specs.declared.Piece.the-variants.{Nothing, OfType, OfNumber}
 use Rattle.message.specs.declared.Pieces.{Pieces}
-use Rattle.message.proofs.Types.{type-is}
 
 -- a message does not look at the refusal's node
 pub any-node : (code n m : ℕ) (ps : List Named) → message (refusal code n ps) ≡ message (refusal code m ps)
@@ -82,14 +81,14 @@ none-known cs = record { most = omega arith; each = λ i h. absurd (omega arith)
 all-known : {t : Tab} (w : Wf t) (i : ℕ) → i < t.n → AllKnown (t .cells) (i + 1)
 all-known {t} w i h = record {
   most = omega (arith, w .room, w .most);
-  each = λ j l. record { table = t; cells-are = refl; wf = w; below = omega arith };
+  each = λ j l. known w j (omega arith);
 }
 
 module _ {t : Tab} {code a b : ℕ} (k : Tells t code a b) where
-  pub first-below : typesNamed code ≡ 1 → a < 2056
+  pub first-below : typesNamed code ≡ 1 → a < mostNumbers
   first-below h = omega (arith, k .first (omega arith), k .wf .room, k .wf .most)
 
-  pub both-below : typesNamed code ≡ 2 → (a < 2056) × (b < 2056)
+  pub both-below : typesNamed code ≡ 2 → (a < mostNumbers) × (b < mostNumbers)
   both-below e = (omega (arith, k .first (omega arith), k .wf .room, k .wf .most), omega (arith, k .second (omega arith), k .wf .room, k .wf .most))
 
   stands-one : (bs : List ℕ) (j : ℕ) → Stands bs (a + 1) (nth (oneType a) j)

@@ -8,7 +8,7 @@ use lib.ListN.{length, getD, drop, length-append, drop-of-length-le}
 use lib.Seq.{drop-cons}
 use Rattle.meaning.specs.Base.{bytes, choose, if_then_else_}
 use Rattle.meaning.specs.Types.{Ty, Tys, unknown, int, bool, string, float, nonetype, range, function, list, dict, tuple, mapIter, filterIter, no-types, _⊕_, elements, kind, parts, part, text, texts, others}
-use Rattle.message.specs.Texts.{typeAt, Known, PartAt, opening, closing, comma, listed, clipped, sizeAt, Sized}
+use Rattle.message.specs.Texts.{opening, closing, comma, listed, clipped, sizeAt, Sized}
 
 -- ---- the text
 

@@ -11,7 +11,9 @@ use lib.Seq.{drop-cons, getD-set-same, getD-set-other}
 use Rattle.meaning.specs.Types.{Ty, unknown, kind, parts, part, text}
 use Rattle.words.specs.Words.{putAt}
 use Rattle.words.proofs.Laws.{put-put, put-nil, put-length}
-use Rattle.message.specs.Texts.{typeAt, PartAt, opening, closing, comma, listed, clipped, sizeAt, Sized}
+use Rattle.types.specs.Reading.{typeAt}
+use Rattle.message.specs.Texts.{opening, closing, comma, listed, clipped, sizeAt, Sized}
+use Rattle.message.proofs.Types.{PartIs}
 use Rattle.message.proofs.Texts.{text-is}
 
 -- ---- writing
@@ -118,11 +120,11 @@ module _ (cs : List ℕ) (i : ℕ) where
     pub comma-fits : j < length (parts (typeAt cs i)) → at + length (comma j) ≤ length d
     comma-fits h = left-front (comma j) (text (part j (typeAt cs i)) ++ rest cs i (j + 1)) (left-as (rest-next cs i j h) l)
 
-    pub comma-put : {e : List ℕ} {end r : ℕ} → j < length (parts (typeAt cs i)) → e ≡ putAt d at (comma j) → end ≡ at + length (comma j) → PartAt cs i j r
+    pub comma-put : {e : List ℕ} {end r : ℕ} → j < length (parts (typeAt cs i)) → e ≡ putAt d at (comma j) → end ≡ at + length (comma j) → PartIs cs i j r
         → Left e end (text (typeAt cs r) ++ rest cs i (j + 1)) d₀ at₀ s₀
     comma-put h w p q = left-as (ap (λ (ty : Ty). text ty ++ rest cs i (j + 1)) (sym (q .means))) (left-step _ _ (left-as (rest-next cs i j h) l) w p)
 
-    pub part-fits : {e : List ℕ} {end r : ℕ} → j < length (parts (typeAt cs i)) → e ≡ putAt d at (comma j) → end ≡ at + length (comma j) → PartAt cs i j r
+    pub part-fits : {e : List ℕ} {end r : ℕ} → j < length (parts (typeAt cs i)) → e ≡ putAt d at (comma j) → end ≡ at + length (comma j) → PartIs cs i j r
         → end + length (text (typeAt cs r)) ≤ length e
     part-fits {e} {end} {r} h w p q = left-front (text (typeAt cs r)) (rest cs i (j + 1)) (comma-put h w p q)
 
@@ -140,7 +142,7 @@ module _ (cs : List ℕ) (i : ℕ) where
   whole-size cap e = rw zero-add at e
 
   module _ {cap x x₀ : ℕ} {s₀ : List ℕ} (j : ℕ) (l : Due cap x (rest cs i j) x₀ s₀) where
-    pub comma-due : {y r : ℕ} → j < length (parts (typeAt cs i)) → y ≡ clipped cap (x + length (comma j)) → PartAt cs i j r
+    pub comma-due : {y r : ℕ} → j < length (parts (typeAt cs i)) → y ≡ clipped cap (x + length (comma j)) → PartIs cs i j r
         → Due cap y (text (typeAt cs r) ++ rest cs i (j + 1)) x₀ s₀
     comma-due h e q = due-as (ap (λ (ty : Ty). text ty ++ rest cs i (j + 1)) (sym (q .means))) (due-step (comma j) (text (part j (typeAt cs i)) ++ rest cs i (j + 1)) (due-as (rest-next cs i j h) l) e)
 
@@ -148,7 +150,7 @@ module _ (cs : List ℕ) (i : ℕ) where
     closing-due h e p = due-last _ (due-as (rest-last cs i j h ∙ ap closing (sym e)) l) p
 
 -- a part's length, as it was worked out before
-pub part-due : {cs lens : List ℕ} {cap x x₀ y i j r : ℕ} {s₀ t : List ℕ} → Sized cs cap lens i → PartAt cs i j r → Due cap x (text (typeAt cs r) ++ t) x₀ s₀
+pub part-due : {cs lens : List ℕ} {cap x x₀ y i j r : ℕ} {s₀ t : List ℕ} → Sized cs cap lens i → PartIs cs i j r → Due cap x (text (typeAt cs r) ++ t) x₀ s₀
     → y ≡ clipped cap (x + getD lens r 0) → Due cap y t x₀ s₀
 unfolding sizeAt
 part-due {cs} {lens} {cap} {x} {x₀} {y} {i} {j} {r} {s₀} {t} s p l e = due-clipped (text (typeAt cs r)) t l (s .each r (p .lower)) e

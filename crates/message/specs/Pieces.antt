@@ -6,7 +6,8 @@ use lib.Dec.{eqb}
 use lib.ListN.{length, take, drop}
 use Rattle.meaning.specs.Base.{if_then_else_, bytes, decimal}
 use Rattle.meaning.specs.Types.{text}
-use Rattle.message.specs.Texts.{typeAt, AllKnown, clipped, Sized}
+use Rattle.types.specs.Reading.{typeAt}
+use Rattle.message.specs.Texts.{AllKnown, clipped, Sized}
 use Rattle.message.specs.declared.Piece.{Piece}
 use Rattle.message.specs.declared.Piece.the-variants.{Nothing, OfType, OfText, OfNumber, OfRange, OfAny}
 use Rattle.message.specs.declared.Pieces.{Pieces}

@@ -5,27 +5,9 @@ use Prim.Native.Nat.{ℕ, zero, suc, _<_, _≤_, min}
 use lib.Dec.{eqb, ltb}
 use lib.ListN.{length, getD}
 use Rattle.meaning.specs.Base.{bytes, choose, if_then_else_}
-use Rattle.meaning.specs.Types.{Ty, text, part}
-use Rattle.types.specs.Table.{Tab, tab, denote, Wf}
-
--- ---- types by number, where only the cells of the table are at hand
-
--- what number i means: the counts tell nothing of it
-unfoldable pub typeAt : List ℕ → ℕ → Ty
-typeAt cs i = denote (tab cs (suc i) 0) i
-
--- the cells are those of a sound table that has number i
-pub record Known (cs : List ℕ) (i : ℕ) : Type 0 where
-  pub table : Tab
-  pub cells-are : table .cells ≡ cs
-  pub wf : Wf table
-  pub below : i < table .n
-
--- r is part j of number i: a lower number
-pub record PartAt (cs : List ℕ) (i j r : ℕ) : Type 0 where
-  pub lower : r < i
-  pub known : Known cs r
-  pub means : typeAt cs r ≡ part j (typeAt cs i)
+use Rattle.meaning.specs.Types.{Ty, text}
+use Rattle.types.specs.Table.{mostNumbers}
+use Rattle.types.specs.Reading.{Known, typeAt}
 
 -- ---- a text: what opens it, the parts with commas between them, what closes it
 
@@ -77,5 +59,5 @@ pub record Sized (cs : List ℕ) (cap : ℕ) (lens : List ℕ) (n : ℕ) : Type 
 
 -- all numbers below n are known
 pub record AllKnown (cs : List ℕ) (n : ℕ) : Type 0 where
-  pub most : n ≤ 2056
+  pub most : n ≤ mostNumbers
   pub each : (i : ℕ) → i < n → Known cs i

@@ -8,16 +8,16 @@ ghost use Rattle.meaning.specs.Answer.{overlaid};
 ghost use Rattle.meaning.specs.Base.{decimal, bytes};
 ghost use Rattle.meaning.specs.Image.{brokenName, nameRecords, namesOf, nameOf, roleOf, textCount, textsFrom};
 ghost use Rattle.meaning.specs.Rules.{described};
-ghost use Rattle.meaning.specs.Types.{text, parts};
+ghost use Rattle.meaning.specs.Types.{text};
 ghost use Rattle.meaning.proofs.Faults.{Headed};
 ghost use Rattle.image.specs.Parts.{nameMeans, recordOf};
 ghost use Rattle.rules.specs.Outcome.{taken};
 ghost use Rattle.types.specs.Table.{mostNumbers, tab};
+ghost use Rattle.types.specs.Reading.{Known, typeAt};
 ghost use Rattle.message.specs.Told.{told, Tells, Chosen, laidOut, formatOf};
 ghost use Rattle.words.specs.Words.{putAt};
 ghost use Rattle.message.specs.declared.Piece.the-variants.{Nothing, OfNumber};
-ghost use Rattle.message.specs.Texts.{typeAt, Known, PartAt, opening, closing, comma, clipped, sizeAt, Sized};
-ghost use Rattle.message.specs.Texts.{AllKnown};
+ghost use Rattle.message.specs.Texts.{opening, closing, comma, clipped, sizeAt, Sized, AllKnown};
 ghost use Rattle.message.specs.Pieces.{meant, Small, CountsPiece, Shown, Says, GivenAll, nth, Ready, noTypes};
 ghost use Rattle.message.specs.Pieces.{oneType, twoTypes, gaps, run, put-in};
 
@@ -33,11 +33,9 @@ use operators::codes as operator_codes;
 use rules::codes;
 use types;
 use types::Counts;
-use types::count_of;
-use types::element_at;
 use types::kind_of;
-use types::part_of;
-use types::second_of;
+use types::part_at;
+use types::parts_of;
 use words::decimal_length;
 use words::put;
 use words::put_decimal;
@@ -61,39 +59,6 @@ struct Pieces {
     third: Piece,
     many: usize,
     types: usize,
-}
-
-// ---- the parts of a type, by number
-
-// How many parts type i has: a plain type has none.
-fn parts_of(table: &[u16], i: usize) -> usize
-    requires { ⌜ Known (now table) i ⌝ }
-    ensures { λ r. ⌜ r ≡ length (parts (typeAt (now (table .entry)) i)) ⌝ }
-{
-    let kind = kind_of(table, i);
-    if kind < types::STRUCTURED {
-        return 0;
-    }
-    match kind {
-        types::DICT => 2,
-        types::TUPLE => count_of(table, i),
-        _ => 1,
-    }
-}
-
-// Part j of type i. Its number is lower than i: this is what all recursion over types rests on.
-fn part_at(table: &[u16], i: usize, j: usize) -> usize
-    requires { ⌜ Known (now table) i ⌝ }
-    requires { ⌜ j < length (parts (typeAt (now table) i)) ⌝ }
-    ensures { λ r. ⌜ PartAt (now (table .entry)) i j r ⌝ }
-{
-    if kind_of(table, i) == types::TUPLE {
-        return element_at(table, i, j);
-    }
-    if j == 0 {
-        return part_of(table, i);
-    }
-    second_of(table, i)
 }
 
 // ---- what stands around the parts of a type, and between them

@@ -1,7 +1,8 @@
--- `message::put_type` meets its contract: what is written and what is left make the whole; the measure is the type's number.
+-- The answers stand by name in answers/+put_type.txt: what is written and what is left make the whole; the measure is
+-- the type's number.
 use mathlib.Core.Path.{_∙_}
 use Prim.Native.Nat.{_≤_, _-_}
-use Rattle.message.proofs.Types.{known-room, known-kind}
+use Rattle.message.proofs.Types.{known-kind, known-parts, known-part, part-is}
 use Rattle.message.proofs.Writing.{Left, rest, left-all, left-step, left-long, opening-fits, opened, comma-fits, comma-put, part-fits, closing-left, written}
 use borrow.Author.Needs.{needs}
 use native.Mathlib.Omega.{arith}
@@ -12,12 +13,13 @@ use borrow.Fn.PlainCycle.{Measures, is, falls, and}
 use Rattle.message.proofs.put_type.Reads as put-type
 use Rattle.message.proofs.put_type.Kinds as put-type-kinds
 use Rattle.message.proofs.+put_type.Lts-put_type as put-type-lts
-use Rattle.message.proofs.part_at.Reads as part-at-reads
-use Rattle.message.proofs.parts_of.Reads as parts-of-reads
+use Rattle.types.proofs.part_at.Reads as part-at-reads
+use Rattle.types.proofs.parts_of.Reads as parts-of-reads
 use Rattle.message.proofs.put_closing.Reads as put-closing-reads
 use Rattle.message.proofs.put_comma.Reads as put-comma-reads
 use Rattle.message.proofs.put_opening.Reads as put-opening-reads
 use Rattle.types.proofs.kind_of.Reads as kind-of-reads
+use Rattle.types.proofs.Readers.{known-room}
 use Rattle.message.proofs.+put_type.{statement}
 use Rattle.message.proofs.+put_type.Tie.{close}
 
@@ -47,7 +49,7 @@ put-type-put-opening-requires t c κs =
 
 put-type-parts-of-requires : (t : ℕ) → put-type-lts.Need-parts-of-requires (kind-of-reads.Asked, kind-of-reads.Learnt, put-opening-reads.Asked, put-opening-reads.Learnt, parts-of-reads.Asked, parts-of-reads.Learnt, put-comma-reads.Asked, put-comma-reads.Learnt, part-at-reads.Asked, part-at-reads.Learnt, put-type-below t, put-type.Post, put-closing-reads.Asked, put-closing-reads.Learnt) (put-type-at t) put-type.Post put-type-Inv-loop put-type-μ-loop
 put-type-parts-of-requires t c κs =
-    c .before .before .before .before .before .before .before .pre .1 .0
+    known-room (c .before .before .before .before .before .before .before .pre .1 .0)
 
 put-type-loop-holds : (t : ℕ) → put-type-lts.Need-loop-holds (kind-of-reads.Asked, kind-of-reads.Learnt, put-opening-reads.Asked, put-opening-reads.Learnt, parts-of-reads.Asked, parts-of-reads.Learnt, put-comma-reads.Asked, put-comma-reads.Learnt, part-at-reads.Asked, part-at-reads.Learnt, put-type-below t, put-type.Post, put-closing-reads.Asked, put-closing-reads.Learnt) (put-type-at t) put-type.Post put-type-Inv-loop put-type-μ-loop
 put-type-loop-holds t c =
@@ -55,15 +57,15 @@ put-type-loop-holds t c =
 
 put-type-put-comma-requires : (t : ℕ) → put-type-lts.Need-put-comma-requires (kind-of-reads.Asked, kind-of-reads.Learnt, put-opening-reads.Asked, put-opening-reads.Learnt, parts-of-reads.Asked, parts-of-reads.Learnt, put-comma-reads.Asked, put-comma-reads.Learnt, part-at-reads.Asked, part-at-reads.Learnt, put-type-below t, put-type.Post, put-closing-reads.Asked, put-closing-reads.Learnt) (put-type-at t) put-type.Post put-type-Inv-loop put-type-μ-loop
 put-type-put-comma-requires t c κs =
-    comma-fits _ _ _ (c .before .before .loop .inv .1) (omega (arith, c .before .before .before .parts-of .ensures, c .before .loop-test .taken))
+    comma-fits _ _ _ (c .before .before .loop .inv .1) (omega (arith, known-parts (c .before .before .before .before .before .before .before .before .before .before .before .pre .1 .0) (c .before .before .before .parts-of .ensures), c .before .loop-test .taken))
 
 put-type-part-at-requires : (t : ℕ) → put-type-lts.Need-part-at-requires (kind-of-reads.Asked, kind-of-reads.Learnt, put-opening-reads.Asked, put-opening-reads.Learnt, parts-of-reads.Asked, parts-of-reads.Learnt, put-comma-reads.Asked, put-comma-reads.Learnt, part-at-reads.Asked, part-at-reads.Learnt, put-type-below t, put-type.Post, put-closing-reads.Asked, put-closing-reads.Learnt) (put-type-at t) put-type.Post put-type-Inv-loop put-type-μ-loop
 put-type-part-at-requires t c κs =
-    (c .before .before .before .before .before .before .before .before .before .before .before .before .before .before .pre .1 .0, omega (arith, c .before .before .before .before .before .before .parts-of .ensures, c .before .before .before .before .loop-test .taken))
+    known-part (c .before .before .before .before .before .before .before .before .before .before .before .before .before .before .pre .1 .0) (omega (arith, known-parts (c .before .before .before .before .before .before .before .before .before .before .before .before .before .before .pre .1 .0) (c .before .before .before .before .before .before .parts-of .ensures), c .before .before .before .before .loop-test .taken))
 
 put-type-put-type-requires : (t : ℕ) → put-type-lts.Need-put-type-requires (kind-of-reads.Asked, kind-of-reads.Learnt, put-opening-reads.Asked, put-opening-reads.Learnt, parts-of-reads.Asked, parts-of-reads.Learnt, put-comma-reads.Asked, put-comma-reads.Learnt, part-at-reads.Asked, part-at-reads.Learnt, put-type-below t, put-type.Post, put-closing-reads.Asked, put-closing-reads.Learnt) (put-type-at t) put-type.Post put-type-Inv-loop put-type-μ-loop
 put-type-put-type-requires t c κs =
-    (omega (arith, c .before .before .before .before .before .before .before .before .before .before .before .before .before .before .before .before .pre .0, c .before .part-at .ensures .lower), (c .before .part-at .ensures .known, part-fits _ _ _ (c .before .before .before .before .before .before .before .loop .inv .1) (omega (arith, c .before .before .before .before .before .before .before .before .parts-of .ensures, c .before .before .before .before .before .before .loop-test .taken)) (c .before .before .before .before .put-comma .ensures .0) (c .before .before .before .before .put-comma .ensures .1) (c .before .part-at .ensures)))
+    (omega (arith, c .before .before .before .before .before .before .before .before .before .before .before .before .before .before .before .before .pre .0, (part-is (c .before .before .before .before .before .before .before .before .before .before .before .before .before .before .before .before .pre .1 .0) (c .before .part-at .ensures) (omega (arith, known-parts (c .before .before .before .before .before .before .before .before .before .before .before .before .before .before .before .before .pre .1 .0) (c .before .before .before .before .before .before .before .before .parts-of .ensures), c .before .before .before .before .before .before .loop-test .taken))) .lower), ((part-is (c .before .before .before .before .before .before .before .before .before .before .before .before .before .before .before .before .pre .1 .0) (c .before .part-at .ensures) (omega (arith, known-parts (c .before .before .before .before .before .before .before .before .before .before .before .before .before .before .before .before .pre .1 .0) (c .before .before .before .before .before .before .before .before .parts-of .ensures), c .before .before .before .before .before .before .loop-test .taken))) .known, part-fits _ _ _ (c .before .before .before .before .before .before .before .loop .inv .1) (omega (arith, known-parts (c .before .before .before .before .before .before .before .before .before .before .before .before .before .before .before .before .pre .1 .0) (c .before .before .before .before .before .before .before .before .parts-of .ensures), c .before .before .before .before .before .before .loop-test .taken)) (c .before .before .before .before .put-comma .ensures .0) (c .before .before .before .before .put-comma .ensures .1) (part-is (c .before .before .before .before .before .before .before .before .before .before .before .before .before .before .before .before .pre .1 .0) (c .before .part-at .ensures) (omega (arith, known-parts (c .before .before .before .before .before .before .before .before .before .before .before .before .before .before .before .before .pre .1 .0) (c .before .before .before .before .before .before .before .before .parts-of .ensures), c .before .before .before .before .before .before .loop-test .taken)))))
 
 put-type-add-j : (t : ℕ) → put-type-lts.Need-add-j (kind-of-reads.Asked, kind-of-reads.Learnt, put-opening-reads.Asked, put-opening-reads.Learnt, parts-of-reads.Asked, parts-of-reads.Learnt, put-comma-reads.Asked, put-comma-reads.Learnt, part-at-reads.Asked, part-at-reads.Learnt, put-type-below t, put-type.Post, put-closing-reads.Asked, put-closing-reads.Learnt) (put-type-at t) put-type.Post put-type-Inv-loop put-type-μ-loop
 put-type-add-j t c =
@@ -75,7 +77,7 @@ put-type-loop-less t c =
 
 put-type-loop-again : (t : ℕ) → put-type-lts.Need-loop-again (kind-of-reads.Asked, kind-of-reads.Learnt, put-opening-reads.Asked, put-opening-reads.Learnt, parts-of-reads.Asked, parts-of-reads.Learnt, put-comma-reads.Asked, put-comma-reads.Learnt, part-at-reads.Asked, part-at-reads.Learnt, put-type-below t, put-type.Post, put-closing-reads.Asked, put-closing-reads.Learnt) (put-type-at t) put-type.Post put-type-Inv-loop put-type-μ-loop
 put-type-loop-again t c =
-    (omega (arith, c .before .before .before .before .before .before .before .before .before .loop-test .taken), left-step _ _ (comma-put _ _ _ (c .before .before .before .before .before .before .before .before .before .before .loop .inv .1) (omega (arith, c .before .before .before .before .before .before .before .before .before .before .before .parts-of .ensures, c .before .before .before .before .before .before .before .before .before .loop-test .taken)) (c .before .before .before .before .before .before .before .put-comma .ensures .0) (c .before .before .before .before .before .before .before .put-comma .ensures .1) (c .before .before .before .before .part-at .ensures)) (c .before .before .put-type .ensures .0) (c .before .before .put-type .ensures .1))
+    (omega (arith, c .before .before .before .before .before .before .before .before .before .loop-test .taken), left-step _ _ (comma-put _ _ _ (c .before .before .before .before .before .before .before .before .before .before .loop .inv .1) (omega (arith, known-parts (c .before .before .before .before .before .before .before .before .before .before .before .before .before .before .before .before .before .before .before .pre .1 .0) (c .before .before .before .before .before .before .before .before .before .before .before .parts-of .ensures), c .before .before .before .before .before .before .before .before .before .loop-test .taken)) (c .before .before .before .before .before .before .before .put-comma .ensures .0) (c .before .before .before .before .before .before .before .put-comma .ensures .1) (part-is (c .before .before .before .before .before .before .before .before .before .before .before .before .before .before .before .before .before .before .before .pre .1 .0) (c .before .before .before .before .part-at .ensures) (omega (arith, known-parts (c .before .before .before .before .before .before .before .before .before .before .before .before .before .before .before .before .before .before .before .pre .1 .0) (c .before .before .before .before .before .before .before .before .before .before .before .parts-of .ensures), c .before .before .before .before .before .before .before .before .before .loop-test .taken)))) (c .before .before .put-type .ensures .0) (c .before .before .put-type .ensures .1))
 
 put-type-kind-of-requires-2 : (t : ℕ) → put-type-lts.Need-kind-of-requires-2 (kind-of-reads.Asked, kind-of-reads.Learnt, put-opening-reads.Asked, put-opening-reads.Learnt, parts-of-reads.Asked, parts-of-reads.Learnt, put-comma-reads.Asked, put-comma-reads.Learnt, part-at-reads.Asked, part-at-reads.Learnt, put-type-below t, put-type.Post, put-closing-reads.Asked, put-closing-reads.Learnt) (put-type-at t) put-type.Post put-type-Inv-loop put-type-μ-loop
 put-type-kind-of-requires-2 t c κs =
@@ -83,17 +85,17 @@ put-type-kind-of-requires-2 t c κs =
 
 put-type-put-closing-requires : (t : ℕ) → put-type-lts.Need-put-closing-requires (kind-of-reads.Asked, kind-of-reads.Learnt, put-opening-reads.Asked, put-opening-reads.Learnt, parts-of-reads.Asked, parts-of-reads.Learnt, put-comma-reads.Asked, put-comma-reads.Learnt, part-at-reads.Asked, part-at-reads.Learnt, put-type-below t, put-type.Post, put-closing-reads.Asked, put-closing-reads.Learnt) (put-type-at t) put-type.Post put-type-Inv-loop put-type-μ-loop
 put-type-put-closing-requires t c κs =
-    closing-left _ _ _ (c .before .before .before .loop .inv .1) (omega (arith, c .before .before .before .before .parts-of .ensures, c .before .before .loop-test .left)) (known-kind (c .before .before .before .before .before .before .before .before .before .before .before .before .pre .1 .0) (c .before .kind-of2 .ensures)) .fits
+    closing-left _ _ _ (c .before .before .before .loop .inv .1) (omega (arith, known-parts (c .before .before .before .before .before .before .before .before .before .before .before .before .pre .1 .0) (c .before .before .before .before .parts-of .ensures), c .before .before .loop-test .left)) (known-kind (c .before .before .before .before .before .before .before .before .before .before .before .before .pre .1 .0) (c .before .kind-of2 .ensures)) .fits
 
 put-type-same-length : (t : ℕ) → put-type-lts.Need-same-length (kind-of-reads.Asked, kind-of-reads.Learnt, put-opening-reads.Asked, put-opening-reads.Learnt, parts-of-reads.Asked, parts-of-reads.Learnt, put-comma-reads.Asked, put-comma-reads.Learnt, part-at-reads.Asked, part-at-reads.Learnt, put-type-below t, put-type.Post, put-closing-reads.Asked, put-closing-reads.Learnt) (put-type-at t) put-type.Post put-type-Inv-loop put-type-μ-loop
 put-type-same-length t c =
-    left-long _ (closing-left _ _ _ (c .before .before .before .before .before .before .loop .inv .1) (omega (arith, c .before .before .before .before .before .before .before .parts-of .ensures, c .before .before .before .before .before .loop-test .left)) (known-kind (c .before .before .before .before .before .before .before .before .before .before .before .before .before .before .before .pre .1 .0) (c .before .before .before .before .kind-of2 .ensures))) (c .before .before .put-closing .ensures .0)
+    left-long _ (closing-left _ _ _ (c .before .before .before .before .before .before .loop .inv .1) (omega (arith, known-parts (c .before .before .before .before .before .before .before .before .before .before .before .before .before .before .before .pre .1 .0) (c .before .before .before .before .before .before .before .parts-of .ensures), c .before .before .before .before .before .loop-test .left)) (known-kind (c .before .before .before .before .before .before .before .before .before .before .before .before .before .before .before .pre .1 .0) (c .before .before .before .before .kind-of2 .ensures))) (c .before .before .put-closing .ensures .0)
     ∙ opened _ _ (known-kind (c .before .before .before .before .before .before .before .before .before .before .before .before .before .before .before .pre .1 .0) (c .before .before .before .before .before .before .before .before .before .before .before .before .kind-of .ensures)) (c .before .before .before .before .before .before .before .before .before .before .before .before .before .before .before .pre .1 .1) (c .before .before .before .before .before .before .before .before .before .before .put-opening .ensures .0) (c .before .before .before .before .before .before .before .before .before .before .put-opening .ensures .1) .long
 
 put-type-returns : (t : ℕ) → put-type-lts.Need-returns (kind-of-reads.Asked, kind-of-reads.Learnt, put-opening-reads.Asked, put-opening-reads.Learnt, parts-of-reads.Asked, parts-of-reads.Learnt, put-comma-reads.Asked, put-comma-reads.Learnt, part-at-reads.Asked, part-at-reads.Learnt, put-type-below t, put-type.Post, put-closing-reads.Asked, put-closing-reads.Learnt) (put-type-at t) put-type.Post put-type-Inv-loop put-type-μ-loop
 put-type-returns t c =
     written (opened _ _ (known-kind (c .before .before .before .before .before .before .before .before .before .before .before .before .before .before .before .pre .1 .0) (c .before .before .before .before .before .before .before .before .before .before .before .before .kind-of .ensures)) (c .before .before .before .before .before .before .before .before .before .before .before .before .before .before .before .pre .1 .1) (c .before .before .before .before .before .before .before .before .before .before .put-opening .ensures .0) (c .before .before .before .before .before .before .before .before .before .before .put-opening .ensures .1))
-    (closing-left _ _ _ (c .before .before .before .before .before .before .loop .inv .1) (omega (arith, c .before .before .before .before .before .before .before .parts-of .ensures, c .before .before .before .before .before .loop-test .left)) (known-kind (c .before .before .before .before .before .before .before .before .before .before .before .before .before .before .before .pre .1 .0) (c .before .before .before .before .kind-of2 .ensures)))
+    (closing-left _ _ _ (c .before .before .before .before .before .before .loop .inv .1) (omega (arith, known-parts (c .before .before .before .before .before .before .before .before .before .before .before .before .before .before .before .pre .1 .0) (c .before .before .before .before .before .before .before .parts-of .ensures), c .before .before .before .before .before .loop-test .left)) (known-kind (c .before .before .before .before .before .before .before .before .before .before .before .before .before .before .before .pre .1 .0) (c .before .before .before .before .kind-of2 .ensures)))
     (c .before .before .put-closing .ensures .0) (c .before .before .put-closing .ensures .1)
 
 pub +put-type-spec : {M : Type 1} → statement M

@@ -1,14 +1,15 @@
--- `message::deliver` meets its contract: a length of one more than the room does not fit.
-use mathlib.Core.Path.{refl, _∙_}
+-- The answers stand by name in answers/deliver.txt: a length of one more than the room does not fit.
+use mathlib.Core.Path.{refl, sym, _∙_}
 use native.Mathlib.Nat.{zero-add}
 use Prim.Native.Nat.{_+_, _≤_}
 use lib.ListN.{length}
 use Rattle.message.specs.Pieces.{put-in}
 use Rattle.words.proofs.Laws.{put-length, put-overlaid}
-use Rattle.message.proofs.Filling.{too-long, fits-in, fitting-all, overlaid-none}
+use Rattle.message.proofs.Filling.{too-long, fits-in, fitting-all}
 use native.Mathlib.Omega.{arith}
 use Rattle.message.proofs.deliver.Statement.{statement}
 use Rattle.message.proofs.deliver.Tie as tie
+use Rattle.meaning.proofs.Answers.{overlaid-none}
 
 add-measured : tie.Need-add-measured
 add-measured c =
@@ -21,7 +22,7 @@ measured-requires c κs =
 returns : tie.Need-returns
 returns c =
     let s = put-in (c .before .before .before .before .before .before .args .image .now) (c .before .before .before .before .before .before .args .table .now) (c .before .before .before .before .before .before .args .pieces) (c .before .before .before .before .before .before .args .format .now) in
-    rw (too-long s (c .before .measured .ensures) (c .if1 .taken)) (refl, overlaid-none (c .before .before .before .before .before .before .args .out .now))
+    rw (too-long s (c .before .measured .ensures) (c .if1 .taken)) (refl, sym (overlaid-none (c .before .before .before .before .before .before .args .out .now)))
 
 fill-in-requires : tie.Need-fill-in-requires
 fill-in-requires c κs =

@@ -1,6 +1,7 @@
--- `message::size_of` meets its contract: what is counted and what is left make the whole; the measure is the parts left.
+-- The answers stand by name in answers/size_of.txt: what is counted and what is left make the whole; the measure is the
+-- parts left.
 use Prim.Native.Nat.{_≤_, _-_}
-use Rattle.message.proofs.Types.{known-number, known-room, known-kind}
+use Rattle.message.proofs.Types.{known-number, known-kind, known-parts, known-part, part-is}
 use Rattle.message.proofs.Writing.{Due, rest, due-all, due-last, opened-due, comma-due, part-due, closing-due, whole-size}
 use borrow.Author.Needs.{needs}
 use native.Mathlib.Omega.{arith}
@@ -12,9 +13,10 @@ use Rattle.message.proofs.clip.Reads as clip-reads
 use Rattle.message.proofs.closing_size.Reads as closing-size-reads
 use Rattle.message.proofs.comma_size.Reads as comma-size-reads
 use Rattle.message.proofs.opening_size.Reads as opening-size-reads
-use Rattle.message.proofs.part_at.Reads as part-at-reads
-use Rattle.message.proofs.parts_of.Reads as parts-of-reads
+use Rattle.types.proofs.part_at.Reads as part-at-reads
+use Rattle.types.proofs.parts_of.Reads as parts-of-reads
 use Rattle.types.proofs.kind_of.Reads as kind-of-reads
+use Rattle.types.proofs.Readers.{known-room}
 
 abbrev Inv-loop : tie.InvT-loop
 Inv-loop table i lens cap kind many size₀ j₀ size j = (j ≤ many) × Due cap size (rest table i j) size₀ (rest table i 0)
@@ -28,7 +30,7 @@ kind-of-requires c κs =
 
 parts-of-requires : tie.Need-parts-of-requires Inv-loop μ-loop
 parts-of-requires c κs =
-    c .before .before .before .pre .0
+    known-room (c .before .before .before .pre .0)
 
 opening-size-requires : tie.Need-opening-size-requires Inv-loop μ-loop
 opening-size-requires c κs =
@@ -52,20 +54,20 @@ clip-requires-2 c κs =
 
 part-at-requires : tie.Need-part-at-requires Inv-loop μ-loop
 part-at-requires c κs =
-    (c .before .before .before .before .before .before .before .before .before .before .pre .0, omega (arith, c .before .before .before .before .before .before .parts-of .ensures, c .before .before .loop-test .taken))
+    known-part (c .before .before .before .before .before .before .before .before .before .before .pre .0) (omega (arith, known-parts (c .before .before .before .before .before .before .before .before .before .before .pre .0) (c .before .before .before .before .before .before .parts-of .ensures), c .before .before .loop-test .taken))
 
 mul-clip : tie.Need-mul-clip Inv-loop μ-loop
 mul-clip c =
-    omega (arith, known-number (c .before .before .before .before .before .before .before .before .before .before .before .pre .0), c .part-at .ensures .lower)
+    omega (arith, known-number (c .before .before .before .before .before .before .before .before .before .before .before .pre .0), (part-is (c .before .before .before .before .before .before .before .before .before .before .before .pre .0) (c .part-at .ensures) (omega (arith, known-parts (c .before .before .before .before .before .before .before .before .before .before .before .pre .0) (c .before .before .before .before .before .before .before .parts-of .ensures), c .before .before .before .loop-test .taken))) .lower)
 
 -- src/lib.rt:240:27
 shared-slice-read-clip : tie.Need-shared-slice-read-clip Inv-loop μ-loop
 shared-slice-read-clip c =
-    omega (arith, c .before .before .before .before .before .before .before .before .before .before .before .before .pre .1 .long, c .before .part-at .ensures .lower)
+    omega (arith, c .before .before .before .before .before .before .before .before .before .before .before .before .pre .1 .long, (part-is (c .before .before .before .before .before .before .before .before .before .before .before .before .pre .0) (c .before .part-at .ensures) (omega (arith, known-parts (c .before .before .before .before .before .before .before .before .before .before .before .before .pre .0) (c .before .before .before .before .before .before .before .before .parts-of .ensures), c .before .before .before .before .loop-test .taken))) .lower)
 
 clip-requires-3 : tie.Need-clip-requires-3 Inv-loop μ-loop
 clip-requires-3 c κs =
-    comma-due _ _ _ (c .before .before .before .before .before .loop .inv .1) (omega (arith, c .before .before .before .before .before .before .before .before .parts-of .ensures, c .before .before .before .before .loop-test .taken)) (rw (c .before .before .before .comma-size .ensures) at (c .before .before .clip2 .ensures)) (c .before .part-at .ensures) .low
+    comma-due _ _ _ (c .before .before .before .before .before .loop .inv .1) (omega (arith, known-parts (c .before .before .before .before .before .before .before .before .before .before .before .before .pre .0) (c .before .before .before .before .before .before .before .before .parts-of .ensures), c .before .before .before .before .loop-test .taken)) (rw (c .before .before .before .comma-size .ensures) at (c .before .before .clip2 .ensures)) (part-is (c .before .before .before .before .before .before .before .before .before .before .before .before .pre .0) (c .before .part-at .ensures) (omega (arith, known-parts (c .before .before .before .before .before .before .before .before .before .before .before .before .pre .0) (c .before .before .before .before .before .before .before .before .parts-of .ensures), c .before .before .before .before .loop-test .taken))) .low
 
 add-j : tie.Need-add-j Inv-loop μ-loop
 add-j c = search needs
@@ -75,7 +77,7 @@ loop-less c = search needs
 
 loop-again : tie.Need-loop-again Inv-loop μ-loop
 loop-again c =
-    (search needs, part-due (c .before .before .before .before .before .before .before .before .before .before .before .before .before .pre .1) (c .before .before .part-at .ensures) (comma-due _ _ _ (c .before .before .before .before .before .before .loop .inv .1) (omega (arith, c .before .before .before .before .before .before .before .before .before .parts-of .ensures, c .before .before .before .before .before .loop-test .taken)) (rw (c .before .before .before .before .comma-size .ensures) at (c .before .before .before .clip2 .ensures)) (c .before .before .part-at .ensures)) (c .clip3 .ensures))
+    (search needs, part-due (c .before .before .before .before .before .before .before .before .before .before .before .before .before .pre .1) (part-is (c .before .before .before .before .before .before .before .before .before .before .before .before .before .pre .0) (c .before .before .part-at .ensures) (omega (arith, known-parts (c .before .before .before .before .before .before .before .before .before .before .before .before .before .pre .0) (c .before .before .before .before .before .before .before .before .before .parts-of .ensures), c .before .before .before .before .before .loop-test .taken))) (comma-due _ _ _ (c .before .before .before .before .before .before .loop .inv .1) (omega (arith, known-parts (c .before .before .before .before .before .before .before .before .before .before .before .before .before .pre .0) (c .before .before .before .before .before .before .before .before .before .parts-of .ensures), c .before .before .before .before .before .loop-test .taken)) (rw (c .before .before .before .before .comma-size .ensures) at (c .before .before .before .clip2 .ensures)) (part-is (c .before .before .before .before .before .before .before .before .before .before .before .before .before .pre .0) (c .before .before .part-at .ensures) (omega (arith, known-parts (c .before .before .before .before .before .before .before .before .before .before .before .before .before .pre .0) (c .before .before .before .before .before .before .before .before .before .parts-of .ensures), c .before .before .before .before .before .loop-test .taken)))) (c .clip3 .ensures))
 
 closing-size-requires : tie.Need-closing-size-requires Inv-loop μ-loop
 closing-size-requires c κs =
@@ -88,7 +90,7 @@ clip-requires-4 c κs =
 returns : tie.Need-returns Inv-loop μ-loop
 returns c =
     whole-size _ _ _ (due-last _ (opened-due _ _ (known-kind (c .before .before .before .before .before .before .before .before .before .before .pre .0) (c .before .before .before .before .before .before .before .kind-of .ensures)) (rw (c .before .before .before .before .before .opening-size .ensures) at (c .before .before .before .before .clip .ensures)))
-    (closing-due _ _ _ (c .before .before .before .loop .inv .1) (omega (arith, c .before .before .before .before .before .before .parts-of .ensures, c .before .before .loop-test .left)) (known-kind (c .before .before .before .before .before .before .before .before .before .before .pre .0) (c .before .before .before .before .before .before .before .kind-of .ensures)) (rw (c .before .closing-size .ensures) at (c .clip4 .ensures))))
+    (closing-due _ _ _ (c .before .before .before .loop .inv .1) (omega (arith, known-parts (c .before .before .before .before .before .before .before .before .before .before .pre .0) (c .before .before .before .before .before .before .parts-of .ensures), c .before .before .loop-test .left)) (known-kind (c .before .before .before .before .before .before .before .before .before .before .pre .0) (c .before .before .before .before .before .before .before .kind-of .ensures)) (rw (c .before .closing-size .ensures) at (c .clip4 .ensures))))
 
 pub size-of-spec : {M : Type 1} → statement M
 size-of-spec =
