@@ -1,4 +1,4 @@
--- `message::arity` meets its contract: each role is one law of Naming.
+-- The answers stand by name in answers/arity.txt: each role is one law of Naming.
 use Rattle.message.proofs.Naming.{arity-number, arity-equal, arity-range, arity-any, arity-function, arity-none}
 use mathlib.Core.Logic.{⊎-elim, inl, inr}
 use borrow.Author.Needs.{needs}

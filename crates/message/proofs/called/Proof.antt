@@ -1,4 +1,4 @@
--- `message::called` meets its contract.
+-- The answers stand by name in answers/called.txt.
 use mathlib.Core.Path.{refl}
 use Rattle.message.proofs.Telling.{given-three, says-number}
 use borrow.Author.Needs.{needs}

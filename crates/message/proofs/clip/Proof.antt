@@ -1,4 +1,4 @@
--- `message::clip` meets its contract.
+-- The answers stand by name in answers/clip.txt.
 use Rattle.message.specs.Texts.{clipped}
 use borrow.Author.Needs.{needs}
 use native.Mathlib.Omega.{arith}

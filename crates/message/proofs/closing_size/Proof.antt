@@ -1,4 +1,4 @@
--- `message::closing_size` meets its contract: each test of the code is one of the definition.
+-- The answers stand by name in answers/closing_size.txt: each test of the code is one of the definition.
 use borrow.Author.Tests.{lt-ltb, le-ltb, eq-eqb, ne-eqb}
 use Rattle.meaning.specs.Base.{bytes, if_then_else_}
 use Rattle.message.specs.Texts.{closing}

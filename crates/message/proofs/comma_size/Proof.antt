@@ -1,4 +1,4 @@
--- `message::comma_size` meets its contract.
+-- The answers stand by name in answers/comma_size.txt.
 use Rattle.meaning.specs.Base.{bytes}
 use Rattle.message.proofs.Texts.{no-comma, a-comma}
 use Rattle.message.proofs.comma_size.Statement.{statement}

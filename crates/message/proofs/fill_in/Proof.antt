@@ -1,4 +1,4 @@
--- `message::fill_in` meets its contract: run after run, and a piece after each but the last.
+-- The answers stand by name in answers/fill_in.txt: run after run, and a piece after each but the last.
 use Prim.Native.Nat.{_≤_, _-_}
 use Rattle.message.proofs.Filling.{Coming, coming-first, run-fits, ready-shown, piece-fits, gap-inside, coming-next, coming-end, end-long}
 use native.Mathlib.Omega.{arith}

@@ -1,4 +1,4 @@
--- `message::measure` meets its contract: one length after the other.
+-- The answers stand by name in answers/measure.txt: one length after the other.
 use Prim.Native.Nat.{_≤_, _-_}
 use mathlib.Core.Path.{_≡_, refl}
 use lib.ListN.{length, length-set}

@@ -1,4 +1,4 @@
--- `message::measured_many` meets its contract: there is room for the lengths of all types that are named.
+-- The answers stand by name in answers/measured_many.txt: there is room for the lengths of all types that are named.
 use mathlib.Core.Path.{_∙_}
 use Prim.Native.Nat.{ℕ}
 use lib.ListN.{length-replicate}

@@ -1,4 +1,4 @@
--- `message::named` meets its contract.
+-- The answers stand by name in answers/named.txt.
 use mathlib.Core.Path.{refl}
 use Rattle.message.proofs.Telling.{given-one, says-nothing}
 use borrow.Author.Needs.{needs}

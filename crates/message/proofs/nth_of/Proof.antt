@@ -1,4 +1,4 @@
--- `message::nth_of` meets its contract.
+-- The answers stand by name in answers/nth_of.txt.
 use Rattle.message.proofs.Naming.{nth-first, nth-second, nth-third}
 use Rattle.message.proofs.nth_of.Statement.{statement}
 use Rattle.message.proofs.nth_of.Tie as tie

@@ -1,4 +1,4 @@
--- `message::opening_size` meets its contract: each kind's opening is computed.
+-- The answers stand by name in answers/opening_size.txt: each kind's opening is computed.
 use borrow.Author.Tests.{ne-eqb}
 use Rattle.meaning.specs.Base.{bytes, choose, if_then_else_}
 use Rattle.message.specs.Texts.{opening}

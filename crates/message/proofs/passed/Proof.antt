@@ -1,4 +1,4 @@
--- `message::passed` meets its contract.
+-- The answers stand by name in answers/passed.txt.
 use mathlib.Core.Path.{refl}
 use Rattle.message.proofs.Telling.{given-three, says-number}
 use borrow.Author.Needs.{needs}

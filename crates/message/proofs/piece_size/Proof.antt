@@ -1,4 +1,4 @@
--- `message::piece_size` meets its contract: each piece is one law of Filling.
+-- The answers stand by name in answers/piece_size.txt: each piece is one law of Filling.
 use Rattle.message.proofs.Filling.{small-type, counts-none, counts-type, counts-text, counts-number, counts-range, counts-any}
 use borrow.Author.Needs.{needs}
 use native.Mathlib.Omega.{arith}

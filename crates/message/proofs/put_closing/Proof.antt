@@ -1,4 +1,4 @@
--- `message::put_closing` meets its contract: each test of the code is one of the definition.
+-- The answers stand by name in answers/put_closing.txt: each test of the code is one of the definition.
 use borrow.Author.Tests.{lt-ltb, le-ltb, eq-eqb, ne-eqb}
 use Rattle.meaning.specs.Base.{bytes, if_then_else_}
 use Rattle.words.proofs.Laws.{put-nil}

@@ -1,4 +1,4 @@
--- `message::put_comma` meets its contract.
+-- The answers stand by name in answers/put_comma.txt.
 use Rattle.meaning.specs.Base.{bytes}
 use Rattle.words.proofs.Laws.{put-nil}
 use Rattle.message.proofs.Texts.{no-comma, a-comma}

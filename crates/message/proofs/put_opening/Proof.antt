@@ -1,4 +1,4 @@
--- `message::put_opening` meets its contract: each kind's opening is computed.
+-- The answers stand by name in answers/put_opening.txt: each kind's opening is computed.
 use mathlib.Core.List.{[]}
 use borrow.Author.Tests.{ne-eqb}
 use native.Mathlib.Nat.{add-zero}

@@ -1,4 +1,4 @@
--- `message::put_piece` meets its contract: what each piece means is what its writer wrote.
+-- The answers stand by name in answers/put_piece.txt: what each piece means is what its writer wrote.
 use Rattle.meaning.specs.Base.{bytes}
 use Rattle.words.proofs.Laws.{put-nil, put-length}
 use Rattle.message.specs.Pieces.{meant}

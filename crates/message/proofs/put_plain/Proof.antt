@@ -1,4 +1,4 @@
--- `message::put_plain` meets its contract: what is copied is the run.
+-- The answers stand by name in answers/put_plain.txt: what is copied is the run.
 use mathlib.Core.Path.{refl}
 use Prim.Native.Nat.{_+_, _-_, _≤_}
 use lib.ListN.{length, drop}

@@ -1,4 +1,4 @@
--- `message::put_range` meets its contract: what is written and what is left make the whole.
+-- The answers stand by name in answers/put_range.txt: what is written and what is left make the whole.
 use mathlib.Core.List.{_++_}
 use Rattle.meaning.specs.Base.{bytes, decimal}
 use Rattle.message.proofs.Writing.{left-front, left-long, left-last}

@@ -1,4 +1,4 @@
--- `message::record_of` meets its contract: a number that is no name's has the record of zeros.
+-- The answers stand by name in answers/record_of.txt: a number that is no name's has the record of zeros.
 use Rattle.image.proofs.Records.{head-long}
 use Rattle.message.proofs.Naming.{record-none}
 use borrow.Author.Needs.{needs}

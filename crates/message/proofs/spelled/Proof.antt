@@ -1,4 +1,4 @@
--- `message::spelled` meets its contract.
+-- The answers stand by name in answers/spelled.txt.
 use Rattle.meaning.proofs.Faults.{image-length}
 use Rattle.image.proofs.Records.{head-long}
 use Rattle.message.proofs.Naming.{spelled-fits, spelled-says}

@@ -1,4 +1,4 @@
--- `message::taken_by` meets its contract.
+-- The answers stand by name in answers/taken_by.txt.
 use Rattle.message.proofs.Naming.{taken-function, taken-none}
 use borrow.Author.Needs.{needs}
 use Rattle.message.proofs.taken_by.Statement.{statement}

@@ -1,4 +1,4 @@
--- `message::total` meets its contract: the plain bytes, and piece after piece.
+-- The answers stand by name in answers/total.txt: the plain bytes, and piece after piece.
 use Prim.Native.Nat.{_-_, _≤_}
 use mathlib.Core.Path.{refl}
 use Rattle.message.specs.Pieces.{meant, nth, put-in}

@@ -1,4 +1,4 @@
--- `message::two_types` meets its contract.
+-- The answers stand by name in answers/two_types.txt.
 use borrow.Author.Needs.{needs}
 use Rattle.message.proofs.two_types.Statement.{statement}
 use Rattle.message.proofs.two_types.Tie as tie

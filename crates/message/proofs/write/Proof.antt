@@ -1,4 +1,4 @@
--- `message::write` meets its contract: the pieces put into the format string are the message.
+-- The answers stand by name in answers/write.txt: the pieces put into the format string are the message.
 use Rattle.message.proofs.Telling.{delivered}
 use borrow.Author.Needs.{needs}
 use Rattle.message.proofs.write.Statement.{statement}
