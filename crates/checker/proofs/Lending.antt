@@ -4,6 +4,7 @@ use mathlib.Core.List.{List}
 use Prim.Native.Nat.{ℕ, _+_}
 use native.Mathlib.Omega.{arith}
 use lib.ListN.{length, replicate, length-replicate}
+use Rattle.meaning.specs.Limits.{mostFrames, mostNodes, mostNames}
 use Rattle.types.specs.Table.{tab, capacity, Fresh, Wf}
 use Rattle.types.proofs.Room.{capacity-as}
 use Rattle.stmt.specs.Contract.{Started}
@@ -12,7 +13,7 @@ use Rattle.checker.specs.Steps.{Sized, Lent}
 
 module _ {bs cs : List ℕ} {nodes : ℕ} (l : Lent bs nodes cs) where
   pub lent-started : {ds : List ℕ} → length ds ≡ length cs → Wf (tab ds 8 0)
-      → Started bs (replicate 8 (replicate 128 0)) (tab ds 8 0) (replicate 2048 1)
+      → Started bs (replicate mostFrames (replicate mostNames 0)) (tab ds 8 0) (replicate mostNodes 1)
   lent-started {ds} e w = record {
     sound = l .sound;
     wf = w;
@@ -20,7 +21,7 @@ module _ {bs cs : List ℕ} {nodes : ℕ} (l : Lent bs nodes cs) where
     elements = refl;
     fit = fresh-fit _;
     module-frame = fresh-frames _;
-    stack = length-replicate {A = ℕ} 2048 1;
+    stack = length-replicate {A = ℕ} mostNodes 1;
     room = rw (capacity-as cs ds e) (l .room);
   }
 

@@ -12,7 +12,7 @@ use borrow.Author.Tests.{eq-eqb, ne-eqb}
 use lib.Dec.{leb, eqb}
 use lib.ListN.{length, getD, length-append, length-map}
 use Rattle.meaning.specs.Base.{count, if_then_else_, ifSome}
-use Rattle.meaning.specs.Types.{Ty, unknown, int, bool, string, float, nonetype, range, function, list, dict, tuple, mapIter, filterIter, kind, parts, part}
+use Rattle.meaning.specs.Types.{Ty, unknown, kind, parts, part}
 use Rattle.meaning.specs.Image.{Name, namesOf}
 use Rattle.meaning.specs.Sheet.{Entry, typesOf, elementsIn, elementsOf, spellings, sheetOf, entries}
 use Rattle.meaning.specs.Answer.{Answer, bare, written}
@@ -21,8 +21,8 @@ use Rattle.meaning.proofs.SheetTypes.{Known}
 use Rattle.meaning.proofs.SheetRoom.{sheet-room}
 use Rattle.meaning.proofs.SheetForm.{sheet-size, texts-size}
 use Rattle.meaning.proofs.SheetNames.{names-many, texts-stand}
-use Rattle.types.specs.Table.{Tab, kindAt, secondAt, denote, Means, Wf}
-use Rattle.types.proofs.Laws.{kind-of, parts-many, first-part, second-part, element-part}
+use Rattle.types.specs.Table.{Tab, mostNumbers, denote, Means, Wf}
+use Rattle.types.proofs.Parts.{part-number, parts-few}
 use Rattle.frames.specs.Env.{Rows, slot, frameOf, Fit}
 
 -- ---- lists
@@ -50,22 +50,6 @@ place-of [] x m = absurd (List·Memᴰ·not-nil m)
 place-of (y ∷ xs) x m =
     ⊎-elim (λ e. (0, (omega arith, sym e))) (λ r. let p = place-of xs x r in (suc (p .0), (omega (arith, p .1 .0), p .1 .1))) (List·Memᴰ·cases-cons m)
 
-few-parts : (ty : Ty) → (kind ty ≡ 10 → ⊥) → length (parts ty) ≤ 2
-unfolding kind parts
-few-parts unknown n = omega arith
-few-parts int n = omega arith
-few-parts bool n = omega arith
-few-parts string n = omega arith
-few-parts float n = omega arith
-few-parts nonetype n = omega arith
-few-parts range n = omega arith
-few-parts function n = omega arith
-few-parts (list t) n = omega arith
-few-parts (dict k v) n = omega arith
-few-parts (tuple ts) n = absurd (n refl)
-few-parts (mapIter t) n = omega arith
-few-parts (filterIter t) n = omega arith
-
 -- ---- the types of a table
 
 module _ {t : Tab} (w : Wf t) where
@@ -76,15 +60,7 @@ module _ {t : Tab} (w : Wf t) where
   means-held {r} m = Memᴰ·cast (sym (m .means)) (Memᴰ·map (denote t) (in-count 0 t.n r (omega arith) (omega (arith, m .below))))
 
   part-held : (i j : ℕ) → i < t.n → j < length (parts (denote t i)) → List·Memᴰ (part j (denote t i)) held
-  part-held i j h l = elim (ℕ-discrete (kindAt t i) 10) [
-    | yes e ↦ means-held (element-part w i h j e (omega (arith, parts-many w i h e)))
-    | no n ↦ other j n l
-  ]
-    where
-      other : (j : ℕ) → (kindAt t i ≡ 10 → ⊥) → j < length (parts (denote t i)) → List·Memᴰ (part j (denote t i)) held
-      other zero n l = means-held (first-part w i h n)
-      other (suc zero) n l = means-held (second-part w i h n)
-      other (suc (suc j)) n l = absurd (omega (arith, few-parts (denote t i) (λ e. n (sym (kind-of w i h) ∙ e))))
+  part-held i j h l = means-held (part-number w i h j l .means)
 
   closed : (ty : Ty) → List·Memᴰ ty held → Known held (parts ty)
   unfolding part
@@ -95,14 +71,14 @@ module _ {t : Tab} (w : Wf t) where
       let b : f .0 < t.n = omega (arith, of-count 0 t.n (f .0) (f .1)) in
       Memᴰ·cast (sym (a .1 .1)) (part-held (f .0) (a .0) b (a .1 .0))
 
-  few-elements : (i : ℕ) → i < t.n → length (elementsIn (denote t i)) ≤ 2056
+  few-elements : (i : ℕ) → i < t.n → length (elementsIn (denote t i)) ≤ mostNumbers
   unfolding elementsIn if_then_else_
-  few-elements i h = elim (ℕ-discrete (kindAt t i) 10) [
-    | yes e ↦ rw (eq-eqb _ _ (kind-of w i h ∙ e)) (omega (arith, parts-many w i h e, w .low i h .inside e, w .space, w .most))
-    | no n ↦ rw (ne-eqb _ _ (λ e. n (sym (kind-of w i h) ∙ e))) (omega arith)
+  few-elements i h = elim (ℕ-discrete (kind (denote t i)) 10) [
+    | yes e ↦ rw (eq-eqb _ _ e) (parts-few w i h)
+    | no n ↦ rw (ne-eqb _ _ n) (omega arith)
   ]
 
-  all-elements : (a n : ℕ) → a + n ≤ t.n → length (elementsOf (map (denote t) (count a n))) ≤ 2056 * n
+  all-elements : (a n : ℕ) → a + n ≤ t.n → length (elementsOf (map (denote t) (count a n))) ≤ mostNumbers * n
   unfolding count elementsOf
   all-elements a zero h = omega arith
   all-elements a (suc n) h =

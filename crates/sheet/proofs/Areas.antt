@@ -21,7 +21,7 @@ use Rattle.types.specs.Reading.{KindOf, PartOf, PartsOf, HasPart, PartAt}
 use Rattle.types.proofs.Parts.{structured, kind-most, parts-few}
 use Rattle.types.proofs.Readers.{in-room, has-part}
 use Rattle.sheet.specs.Listing.{startAt, lengthAt, typeAt}
-use Rattle.sheet.specs.Marks.{orderFrom, countIn, tabOf, typesIn, Marked}
+use Rattle.sheet.specs.Marks.{mostWritten, orderFrom, countIn, tabOf, typesIn, Marked}
 use Rattle.sheet.specs.Writing.{listedSize, listedRecords, listedTexts, ElementsIn, Short, NumberOf, Put, Met, recordBytes, elementBytes, typesBytes, elementsBytes, namesBytes, Named, NamesFit, NamesPut, TextsFit}
 use Rattle.sheet.proofs.Meeting.{parts-stand}
 use Rattle.sheet.proofs.Marking.{types-length, type-at}
@@ -173,7 +173,7 @@ module _ {cs ms old : List ℕ} {n k from : ℕ} {out : List ℕ} (l : TypesLoop
   pub types-met : {i : ℕ} → k < n → i ≡ getD ms (orderFrom + k) 0 → Met cs ms i
   types-met h e = met-at (l .marked) (omega (arith, l .many)) e
 
-  pub types-room : k < n → (from ≤ 4210688) × (40 + 12 * k + 12 ≤ length out)
+  pub types-room : k < n → (from ≤ mostWritten) × (40 + 12 * k + 12 ≤ length out)
   types-room h = (omega (arith, l .small, l .many, l .marked .few), omega (arith, l .room, l .long))
 
   pub types-next : {i r : ℕ} {new : List ℕ} → k < n → i ≡ getD ms (orderFrom + k) 0 → Put out new (40 + 12 * k) (recordBytes (tabOf cs ms) ms from i) → ElementsIn cs i r

@@ -17,7 +17,7 @@ use Rattle.meaning.specs.Answer.{written, overlaid}
 use Rattle.meaning.proofs.Choices.{and-right, both, not-so, same-text, text-same}
 use Rattle.meaning.proofs.SheetWords.{four-bytes}
 use Rattle.meaning.proofs.SheetForm.{sheet-is, is-sheet, sheet-size, sheet-length}
-use Rattle.meaning.specs.Limits.{mostNames, mostTypes, mostElements}
+use Rattle.meaning.specs.Limits.{largestSheet, mostNames, mostTypes, mostElements}
 use Rattle.types.specs.Table.{Tab, denote, Wf}
 use Rattle.sheet.specs.Listing.{startAt, lengthAt, typeAt, entryAt, listedFrom, listed, Listing, Wrote}
 use Rattle.sheet.specs.Reading.{Bounds, Told, TypesRead, NamesRead, TextsInside, TextsTold, Compared, Reads}
@@ -78,7 +78,7 @@ module _ {source cells : List ℕ} {n k last size : ℕ} (l : StandLoop source c
 -- ---- the comparison
 
 module _ {es : List Entry} {fits : Bool} {long : ℕ} {old new : List ℕ} (w : Wrote es fits long old new) where
-  pub wrote-short : length old ≡ 42532 → {bs : List ℕ} → fits ≡ false → Compared bs es false
+  pub wrote-short : length old ≡ largestSheet → {bs : List ℕ} → fits ≡ false → Compared bs es false
   wrote-short e f = record {
     yes = λ z. absurd (false≢true z);
     no = λ z l s. absurd (omega (arith, leb-false (length (sheetOf es)) (length old) (sym (w .fits-is) ∙ f)));
@@ -102,7 +102,7 @@ module _ {es : List Entry} {fits : Bool} {long : ℕ} {old new : List ℕ} (w : 
     wrote-text : take long (drop 0 new) ≡ sheetOf es
     wrote-text = ap (λ n. take n new) wrote-length ∙ ap (take (length (sheetOf es))) wrote-out ∙ take-append-seam (sheetOf es) _
 
-    pub wrote-compared : length old ≡ 42532 → {bs s : List ℕ} {r : Bool} → s ≡ take long (drop 0 new) → r ≡ sameText bs s → Compared bs es r
+    pub wrote-compared : length old ≡ largestSheet → {bs s : List ℕ} {r : Bool} → s ≡ take long (drop 0 new) → r ≡ sameText bs s → Compared bs es r
     wrote-compared e {bs} {s} {r} es₁ er = record {
       yes = λ z. (same-text bs (sheetOf es) (sym (er ∙ ap (sameText bs) (es₁ ∙ wrote-text)) ∙ z), omega (arith, leb-true (length (sheetOf es)) (length old) fit));
       no = λ z l q. false≢true (sym z ∙ er ∙ ap (sameText bs) (es₁ ∙ wrote-text ∙ sym q) ∙ text-same bs);
@@ -111,7 +111,7 @@ module _ {es : List Entry} {fits : Bool} {long : ℕ} {old new : List ℕ} (w : 
 -- ---- the answer
 
 -- a short sheet says its own counts
-own-counts : (es : List Entry) → length (sheetOf es) ≤ 42532 → (word (sheetOf es) 4 ≡ length (typesOf es [])) × (word (sheetOf es) 12 ≡ length (elementsOf (typesOf es [])))
+own-counts : (es : List Entry) → length (sheetOf es) ≤ largestSheet → (word (sheetOf es) 4 ≡ length (typesOf es [])) × (word (sheetOf es) 12 ≡ length (elementsOf (typesOf es [])))
 unfolding sheetOf words
 own-counts es h = let s = sheet-size es in (four-bytes _ (omega arith), four-bytes _ (omega arith))
 
@@ -154,7 +154,7 @@ module _ {bs xs cells : List ℕ} {t : Tab} {n : ℕ} (b : Bounds bs) (ty : Type
       by : (p : Bool) → r ≡ p → p ≡ isSheet bs
       by true e =
           let es = entriesIn bs in
-          let y : (bs ≡ sheetOf es) × (length (sheetOf es) ≤ 42532) = subst (λ l. (bs ≡ sheetOf l) × (length (sheetOf l) ≤ 42532)) read-entries (c .yes e) in
+          let y : (bs ≡ sheetOf es) × (length (sheetOf es) ≤ largestSheet) = subst (λ l. (bs ≡ sheetOf l) × (length (sheetOf l) ≤ largestSheet)) read-entries (c .yes e) in
           let own = own-counts es (y .1) in
           let u : length (typesOf es []) ≤ mostTypes = omega (arith, own .0, ap (λ (l : List ℕ). word l 4) (y .0), b .types) in
           let v : length (elementsOf (typesOf es [])) ≤ mostElements = omega (arith, own .1, ap (λ (l : List ℕ). word l 12) (y .0), b .elements) in

@@ -46,7 +46,7 @@ length-count a (suc n) = ap suc (length-count (suc a) n)
 
 module _ {t : Tab} {ms : List ℕ} (m : Marked t ms) where
   order-length : length (orderIn ms) ≡ countIn ms
-  order-length = let l : length (drop orderFrom ms) ≡ 2056 = simp length-drop (omega (arith, m .long)) in length-take-le (countIn ms) (drop orderFrom ms) (omega (arith, m .few))
+  order-length = let l : length (drop orderFrom ms) ≡ mostTypes + 8 = simp length-drop (omega (arith, m .long)) in length-take-le (countIn ms) (drop orderFrom ms) (omega (arith, m .few))
 
   pub types-length : length (typesIn t ms) ≡ countIn ms
   unfolding typesIn
@@ -114,7 +114,7 @@ module _ (ms : List ℕ) (i : ℕ) (long : length ms ≡ markCells) (small : i <
   added-order : orderIn (added ms i) ≡ orderIn ms ++ (i ∷ [])
   added-order =
       let k = countIn ms in
-      let l : length (drop orderFrom (one ms i)) ≡ 2056 = simp (length-drop, length-set) (omega arith) in
+      let l : length (drop orderFrom (one ms i)) ≡ mostTypes + 8 = simp (length-drop, length-set) (omega arith) in
       ap (λ n. take n (drop orderFrom (added ms i))) (added-count ∙ add-one k)
       ∙ ap (take (suc k)) (drop-set-add orderFrom (two ms i) mostTypes (k + 1))
       ∙ take-set-le (suc k) (drop orderFrom (two ms i)) mostTypes (k + 1) (omega arith)

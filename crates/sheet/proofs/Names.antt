@@ -5,13 +5,13 @@ use Prim.Native.Nat.{ℕ, zero, suc, _+_, _-_, _*_, _≤_, _<_}
 use native.Mathlib.Numerals.{add-one}
 use native.Mathlib.Omega.{arith}
 use lib.ListN.{length, getD, take, drop}
-use Rattle.meaning.specs.Limits.{mostNames, longestName, mostText}
+use Rattle.meaning.specs.Limits.{mostTypes, mostNames, longestName, mostText}
 use Rattle.meaning.specs.Types.{Ty}
 use Rattle.meaning.specs.Sheet.{Triple, number, met}
 use Rattle.types.specs.Table.{Tab, tab, denote, Wf}
 use Rattle.sheet.specs.Listing.{startAt, lengthAt, typeAt}
 use Rattle.sheet.specs.Marks.{typeCount, tabOf, typesIn, Marked, metEach}
-use Rattle.sheet.specs.Opening.{OpenRoom, Visiting, Visited}
+use Rattle.sheet.specs.Opening.{openCells, fewTypes, OpenRoom, Visiting, Visited}
 use Rattle.sheet.specs.Writing.{listedTypes, listedSize, listedRecords, listedTexts, Meeting, MetAll, Short}
 use Rattle.sheet.proofs.Marking.{own-tab}
 
@@ -112,8 +112,8 @@ module _ {cells : List ℕ} {n k sum : ℕ} (l : SizeLoop cells n k sum) where
 
 -- ---- the cells of open types: few will do for few types
 
-pub few-room : {ms ops : List ℕ} → typeCount ms ≤ 64 → length ops ≡ 128 → OpenRoom ms ops
+pub few-room : {ms ops : List ℕ} → typeCount ms ≤ fewTypes → length ops ≡ openCells fewTypes → OpenRoom ms ops
 few-room h e = record { room = omega arith }
 
-pub many-room : {cs ms ops : List ℕ} → Marked (tabOf cs ms) ms → length ops ≡ 4096 → OpenRoom ms ops
+pub many-room : {cs ms ops : List ℕ} → Marked (tabOf cs ms) ms → length ops ≡ openCells mostTypes → OpenRoom ms ops
 many-room m e = record { room = omega (arith, m .wf .room, m .wf .most) }

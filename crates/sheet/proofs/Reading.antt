@@ -12,6 +12,7 @@ pub use borrow.Author.Tests.{not-true, not-false}
 use lib.Dec.{eqb, leb, ltb}
 use lib.ListN.{length, getD, set, take, drop, replicate, length-set, length-take, length-drop, length-map, length-replicate, List·getD-map, List·getD-eq-default}
 use lib.Seq.{take-suc-set, take-set-le, getD-take, drop-drop}
+use Rattle.meaning.specs.Limits.{largestSheet, mostTypes, mostElements, mostNames}
 use Rattle.meaning.specs.Base.{_and_, choose, if_then_else_, word, records}
 use Rattle.meaning.specs.Types.{Ty, Tys, unknown, list, dict, tuple, mapIter, filterIter, tys, no-types, plain}
 use Rattle.meaning.specs.Sheet.{Entry, Triple, typesOf, elementsOf, spellings, sheetOf, withinLimits}
@@ -62,7 +63,7 @@ told-by {P} {bs} x y e f g = rw e (by (leb x y) refl)
     by true h = told-yes (f (leb-true x y h))
     by false h = told-no (g (λ l. absurd (omega (arith, leb-false x y h))))
 
-pub bounded-all : (bs : List ℕ) {T E N : ℕ} {r : Bool} → length bs ≤ 42532 → T ≡ word bs 4 → T ≤ 2048 → E ≡ word bs 12 → E ≤ 2047 → N ≡ word bs 20 → N ≤ 128
+pub bounded-all : (bs : List ℕ) {T E N : ℕ} {r : Bool} → length bs ≤ largestSheet → T ≡ word bs 4 → T ≤ mostTypes → E ≡ word bs 12 → E ≤ mostElements → N ≡ word bs 20 → N ≤ mostNames
     → r ≡ leb (40 + 12 * T + 4 * E + 12 * N) (length bs) → Told (Bounds bs) bs r
 bounded-all bs {T} {E} {N} s eT lT eE lE eN lN er =
     told-by (40 + 12 * T + 4 * E + 12 * N) (length bs) er
@@ -136,12 +137,12 @@ words-snoc bs at n =
     ∙ ap (λ x. records (λ r. word r 0) 4 n (drop at bs) ++ (x ∷ [])) (ap (λ (d : List ℕ). word d 0) (drop-drop (4 * n) at bs) ∙ first-word bs (at + 4 * n))
 
 pub record GatherLoop (bs : List ℕ) (at : ℕ) (xs : List ℕ) (k q j : ℕ) (st : List ℕ) : Type 0 where
-  pub few : k ≤ 2048
-  pub many : q ≤ 2048
+  pub few : k ≤ mostTypes
+  pub many : q ≤ mostTypes
   pub long : at + 4 * q ≤ length bs
-  pub short : length bs ≤ 42532
+  pub short : length bs ≤ largestSheet
   pub passed : j ≤ q
-  pub size : length st ≡ 2048
+  pub size : length st ≡ mostTypes
   pub are : take j st ≡ map (numberIn xs) (wordsAt bs at j)
 
 pub gather-first : {bs : List ℕ} {at : ℕ} {xs : List ℕ} {k q : ℕ} {st : List ℕ} → Gathering bs at k q st → GatherLoop bs at xs k q 0 st
@@ -171,7 +172,7 @@ module _ {bs : List ℕ} {at : ℕ} {xs : List ℕ} {k q j : ℕ} {st : List ℕ
       record { are = subst (λ x. take x st ≡ map (numberIn xs) (wordsAt bs at x)) e (l .are); size = l .size }
 
 module _ {bs : List ℕ} {at : ℕ} {xs : List ℕ} {k q : ℕ} {t : Tab} (p : Tupling bs at xs k q t) where
-  pub tuple-gather : {st : List ℕ} → length st ≡ 2048 → Gathering bs at k q st
+  pub tuple-gather : {st : List ℕ} → length st ≡ mostTypes → Gathering bs at k q st
   tuple-gather e = record { few = p .few; many = p .many; long = p .long; short = p .short; size = e }
 
   pub tuple-listed : {st : List ℕ} → Gathered bs at (take k xs) q st → Listed t st 0 q

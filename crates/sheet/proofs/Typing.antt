@@ -11,6 +11,7 @@ use borrow.Author.Tests.{eq-eqb, ne-eqb}
 use lib.Dec.{eqb}
 use lib.ListN.{length, getD, set, take, drop, length-set, length-append, length-take, length-drop, drop-of-length-le, List·getD-append}
 use lib.Seq.{drop-cons, drop-drop, take-suc-set, getD-append-seam}
+use Rattle.meaning.specs.Limits.{mostTypes}
 use Rattle.meaning.specs.Base.{choose, if_then_else_, word, records}
 use Rattle.meaning.specs.Types.{Ty, tuple, tys, kind, parts}
 use Rattle.meaning.specs.Sheet.{Entry, Triple, typesOf, elementsIn, elementsOf, typeRecord, typeRecords, sheetOf}
@@ -20,7 +21,7 @@ use Rattle.meaning.proofs.SheetForm.{sheet-is}
 use Rattle.meaning.proofs.SheetAreas.{Areas, sheet-areas}
 use Rattle.words.proofs.Laws.{word-drop, first-word}
 use Rattle.image.proofs.Records.{record-at}
-use Rattle.types.specs.Table.{Tab, tab, capacity, denote, Wf, Grown, Made}
+use Rattle.types.specs.Table.{mostNumbers, Tab, tab, capacity, denote, Wf, Grown, Made}
 use Rattle.sheet.specs.Reading.{elementsAt, wordsAt, triplesAt, tupleSum, Bounds, Told, Below, Tupling, tupleAt, Forming, typesLeft, Typing, Typed, TypesRead}
 use Rattle.sheet.specs.Reading.{elementsIn as elementsRead}
 use Rattle.sheet.proofs.Sizes.{elements-tuple, elements-none}
@@ -142,7 +143,7 @@ module _ {bs xs : List ℕ} {k used : ℕ} {t : Tab} (y : Typing bs xs k used t)
   pub typing-place : 40 + 12 * k + 12 ≤ length bs
   typing-place = omega (arith, y .here, y .bounds .long)
 
-  pub typing-few : k ≤ 2048
+  pub typing-few : k ≤ mostTypes
   typing-few = omega (arith, y .here, y .bounds .types)
 
   module _ {a b c : ℕ} (ea : a ≡ word bs (40 + 12 * k)) (eb : b ≡ word bs (44 + 12 * k)) (ec : c ≡ word bs (48 + 12 * k)) where
@@ -230,16 +231,16 @@ pub record TypesLoop (bs xs : List ℕ) (n k used : ℕ) (t : Tab) : Type 0 wher
   pub bounds : Bounds bs
   pub many : n ≡ word bs 4
   pub passed : k ≤ n
-  pub size : length xs ≡ 2048
+  pub size : length xs ≡ mostTypes
   pub below : Below t (take k xs)
-  pub wide : 2056 ≤ capacity t.cells
+  pub wide : mostNumbers ≤ capacity t.cells
   pub room : t.n ≤ 8 + k
   pub space : t.m ≤ used
   pub within : used ≤ word bs 12
   pub sum : used + tupleSum (typesLeft bs k) ≡ tupleSum (typesLeft bs 0)
   pub left : typesFrom (elementsRead bs) (map (denote t) (take k xs)) (typesLeft bs k) ≡ typesFrom (elementsRead bs) [] (triplesAt bs 40 (word bs 4))
 
-pub loop-first : {bs xs cs : List ℕ} {n : ℕ} → Bounds bs → Wf (tab cs 8 0) → 2056 ≤ capacity cs → length xs ≡ 2048 → n ≡ word bs 4 → TypesLoop bs xs n 0 0 (tab cs 8 0)
+pub loop-first : {bs xs cs : List ℕ} {n : ℕ} → Bounds bs → Wf (tab cs 8 0) → mostNumbers ≤ capacity cs → length xs ≡ mostTypes → n ≡ word bs 4 → TypesLoop bs xs n 0 0 (tab cs 8 0)
 loop-first b w v s e = record {
   bounds = b;
   many = e;

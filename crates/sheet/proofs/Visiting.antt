@@ -9,6 +9,7 @@ use borrow.Author.Tests.{eqb-true, eqb-false}
 use lib.Dec.{eqb}
 use lib.ListN.{length, getD, set, take, length-set}
 use lib.Seq.{getD-set-same, getD-set-other}
+use Rattle.meaning.specs.Limits.{mostTypes}
 use Rattle.meaning.specs.Types.{Ty, kind, parts}
 use Rattle.meaning.specs.Sheet.{met}
 use Rattle.meaning.proofs.SheetTypes.{Known}
@@ -45,7 +46,7 @@ module _ {cs ms ops : List ℕ} {d k : ℕ} (s : Stepping cs ms ops d) (ek : k �
   inner : Opened t ms ops (suc k)
   inner = subst (Opened t ms ops) one-more (s .opened)
 
-  pub step-depth : d ≤ 2048
+  pub step-depth : d ≤ mostTypes
   step-depth = omega (arith, depth-small inner, one-more)
 
   pub step-cells : nextCell k < length ops

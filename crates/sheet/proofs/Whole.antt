@@ -11,6 +11,7 @@ use borrow.Author.Tests.{le-leb, lt-leb}
 use lib.Dec.{leb}
 use lib.ListN.{length, getD, set, take, drop, replicate, length-set, length-append, length-drop, length-map, length-replicate, getD-replicate, List·getD-eq-default}
 use lib.Seq.{length-take-le, getD-set-same, getD-set-other}
+use Rattle.meaning.specs.Limits.{mostTypes, mostText}
 use Rattle.meaning.specs.Base.{if_then_else_, words, count}
 use Rattle.meaning.specs.Types.{Ty, kind}
 use Rattle.meaning.specs.Sheet.{Entry, laid, typesOf, number, elementsOf, typeRecords, spellings, nameRecords, sheetOf}
@@ -24,7 +25,7 @@ use Rattle.words.specs.Words.{putAt}
 use Rattle.words.proofs.Laws.{put-overlaid}
 use Rattle.types.specs.Table.{Tab, tab, denote, Wf}
 use Rattle.sheet.specs.Listing.{startAt, lengthAt, typeAt, entryAt, listedFrom, listed, Listing, Wrote}
-use Rattle.sheet.specs.Marks.{countIn, orderIn, tabOf, typesIn, Marked, metEach}
+use Rattle.sheet.specs.Marks.{markCells, metCell, typeCountCell, elementCountCell, orderFrom, mostWritten, countIn, orderIn, tabOf, typesIn, Marked, metEach}
 use Rattle.sheet.specs.Writing.{listedTypes, listedSize, listedRecords, listedTexts, Meeting, MetAll, Short, Put, typesBytes, elementsBytes, namesBytes, Named, NamesFit, NamesPut, TextsFit, Blank, headerBytes, Filling}
 use Rattle.sheet.proofs.Marking.{own-tab, types-length}
 use Rattle.sheet.proofs.Areas.{put-then, put-as}
@@ -75,39 +76,39 @@ module _ (source : List ℕ) (t : Tab) (cells : List ℕ) where
 
 -- ---- before the walk
 
-pub blank : Blank (replicate 4112 1)
-blank = record { long = length-replicate {A = ℕ} 4112 1; one-at = λ x l. getD-replicate 4112 x 1 0 l }
+pub blank : Blank (replicate markCells 1)
+blank = record { long = length-replicate {A = ℕ} markCells 1; one-at = λ x l. getD-replicate markCells x 1 0 l }
 
 module _ (t : Tab) (w : Wf t) (bs : List ℕ) (b : Blank bs) where
   abbrev ms₀ : List ℕ
-  ms₀ = set (set (set bs 4104 0) 4105 (t .n)) 4106 (t .m)
+  ms₀ = set (set (set bs metCell 0) typeCountCell (t .n)) elementCountCell (t .m)
 
-  begun-above : (x : ℕ) → (x ≡ 4105 → ⊥) → (x ≡ 4106 → ⊥) → getD ms₀ x 0 ≡ getD (set bs 4104 0) x 0
-  begun-above x p q = getD-set-other (set (set bs 4104 0) 4105 (t .n)) 4106 x (t .m) 0 q ∙ getD-set-other (set bs 4104 0) 4105 x (t .n) 0 p
+  begun-above : (x : ℕ) → (x ≡ typeCountCell → ⊥) → (x ≡ elementCountCell → ⊥) → getD ms₀ x 0 ≡ getD (set bs metCell 0) x 0
+  begun-above x p q = getD-set-other (set (set bs metCell 0) typeCountCell (t .n)) elementCountCell x (t .m) 0 q ∙ getD-set-other (set bs metCell 0) typeCountCell x (t .n) 0 p
 
-  begun-long : length ms₀ ≡ 4112
+  begun-long : length ms₀ ≡ markCells
   begun-long = simp length-set (b .long)
 
   begun-count : countIn ms₀ ≡ 0
-  begun-count = begun-above 4104 (λ e. absurd (omega arith)) (λ e. absurd (omega arith)) ∙ getD-set-same bs 4104 0 0 (omega (arith, b .long))
+  begun-count = begun-above metCell (λ e. absurd (omega arith)) (λ e. absurd (omega arith)) ∙ getD-set-same bs metCell 0 0 (omega (arith, b .long))
 
   begun-types : typesIn t ms₀ ≡ []
   unfolding typesIn
-  begun-types = ap (λ n. map (denote t) (take n (drop 2056 ms₀))) begun-count
+  begun-types = ap (λ n. map (denote t) (take n (drop orderFrom ms₀))) begun-count
 
   pub begun : Marked t ms₀
   begun =
       let low : (i : ℕ) → i < t.n → getD ms₀ i 0 ≡ 1 = λ i h.
       begun-above i (λ e. absurd (omega (arith, w .room, w .most))) (λ e. absurd (omega (arith, w .room, w .most)))
-      ∙ getD-set-other bs 4104 i 0 0 (λ e. absurd (omega (arith, w .room, w .most)))
+      ∙ getD-set-other bs metCell i 0 0 (λ e. absurd (omega (arith, w .room, w .most)))
       ∙ b .one-at i (omega (arith, w .room, w .most)) in
       record {
         wf = w;
         long = begun-long;
         types =
-            getD-set-other (set (set bs 4104 0) 4105 (t .n)) 4106 4105 (t .m) 0 (λ e. absurd (omega arith))
-            ∙ getD-set-same (set bs 4104 0) 4105 (t .n) 0 (omega (arith, length-set bs 4104 0, b .long));
-        elements = getD-set-same (set (set bs 4104 0) 4105 (t .n)) 4106 (t .m) 0 (omega (arith, length-set (set bs 4104 0) 4105 (t .n), length-set bs 4104 0, b .long));
+            getD-set-other (set (set bs metCell 0) typeCountCell (t .n)) elementCountCell typeCountCell (t .m) 0 (λ e. absurd (omega arith))
+            ∙ getD-set-same (set bs metCell 0) typeCountCell (t .n) 0 (omega (arith, length-set bs metCell 0, b .long));
+        elements = getD-set-same (set (set bs metCell 0) typeCountCell (t .n)) elementCountCell (t .m) 0 (omega (arith, length-set (set bs metCell 0) typeCountCell (t .n), length-set bs metCell 0, b .long));
         few = omega (arith, begun-count);
         within = λ k h. absurd (omega (arith, begun-count));
         ordered = rw begun-types tt;
@@ -229,7 +230,7 @@ pub record Walked (source : List ℕ) (t : Tab) (cells : List ℕ) (n : ℕ) (ms
   pub marked : Marked t ms
   pub types-are : typesIn t ms ≡ typesOf (listed source t cells n) []
 
-module _ {source cs cells bs ms : List ℕ} {N M n : ℕ} (l : Listing source (tab cs N M) cells n) (b : Blank bs) (e : ms ≡ set (set (set bs 4104 0) 4105 N) 4106 M) where
+module _ {source cs cells bs ms : List ℕ} {N M n : ℕ} (l : Listing source (tab cs N M) cells n) (b : Blank bs) (e : ms ≡ set (set (set bs metCell 0) typeCountCell N) elementCountCell M) where
   first-marked : Marked (tab cs N M) ms
   first-marked = subst (Marked (tab cs N M)) (sym e) (begun (tab cs N M) (l .wf) bs b)
 
@@ -262,10 +263,10 @@ module _ {source cs cells ms : List ℕ} {N M n : ℕ} (w : Walked source (tab c
   pub walked-short : Short cells n
   walked-short = record { few = w .listing .few; short = w .listing .short }
 
-  pub few-types : countIn ms ≤ 2048
+  pub few-types : countIn ms ≤ mostTypes
   few-types = w .marked .few
 
-  module _ {T E S : ℕ} (eT : T ≡ countIn ms) (eE : (E ≡ length (elementsOf (typesIn (tabOf cs ms) ms))) × (E ≤ 4210688)) (eS : (S ≡ listedSize cells 0 n) × (S ≤ 8192)) where
+  module _ {T E S : ℕ} (eT : T ≡ countIn ms) (eE : (E ≡ length (elementsOf (typesIn (tabOf cs ms) ms))) × (E ≤ mostWritten)) (eS : (S ≡ listedSize cells 0 n) × (S ≤ mostText)) where
     pub filling : {out : List ℕ} → 40 + 12 * T + 4 * E + 12 * n + S ≤ length out → Filling source cs ms cells n E S out
     filling h =
         let own = sym (own-tab (w .marked)) in

@@ -28,6 +28,14 @@ nextPart ops k = getD ops (nextCell k) 0
 abbrev pub partsOpen : Tab → List ℕ → ℕ → List Ty
 partsOpen t ops k = parts (denote t (openType ops k))
 
+-- the cells of n open types
+abbrev pub openCells : ℕ → ℕ
+openCells n = 2 * n
+
+-- most tables have no more
+abbrev pub fewTypes : ℕ
+fewTypes = 64
+
 -- type i is open type k, before its first part
 abbrev pub begunAt : List ℕ → ℕ → ℕ → List ℕ
 begunAt ops k i = set (set ops (typeCell k) i) (nextCell k) 0
@@ -42,7 +50,7 @@ pub record New (ms : List ℕ) (i : ℕ) (r : Bool) : Type 0 where
 -- each lies within the one before, has no number yet, and its parts before the next one have theirs
 pub record Opened (t : Tab) (ms ops : List ℕ) (d : ℕ) : Type 0 where
   pub marked : Marked t ms
-  pub room : typeCell t.n ≤ length ops + typeCell 8
+  pub room : openCells t.n ≤ length ops + openCells 8
   pub high : (k : ℕ) → k < d → 8 ≤ openType ops k
   pub within : (k : ℕ) → k < d → openType ops k + k < t.n
   pub falls : (k l : ℕ) → k < l → l < d → openType ops l < openType ops k
@@ -68,7 +76,7 @@ work t ms ops d = suc mostNumbers * (2 * (mostTypes - countIn ms) + (mostTypes -
 
 -- the cells of open types have room for all structured types of the table
 pub record OpenRoom (ms ops : List ℕ) : Type 0 where
-  pub room : typeCell (typeCount ms) ≤ length ops + typeCell 8
+  pub room : openCells (typeCount ms) ≤ length ops + openCells 8
 
 pub record Visiting (cs ms ops : List ℕ) (i : ℕ) : Type 0 where
   pub marked : Marked (tabOf cs ms) ms

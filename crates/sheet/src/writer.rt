@@ -10,7 +10,7 @@ ghost use Rattle.types.specs.Table.{mostNumbers, capacity, tab, denote};
 ghost use Rattle.sheet.specs.Listing.{Listing, listed, Wrote};
 ghost use Rattle.sheet.specs.Marks.{markCells, mostWritten, countIn, typeCount, begun};
 ghost use Rattle.sheet.specs.Marks.{Completing, completed, Marked, tabOf};
-ghost use Rattle.sheet.specs.Opening.{nextCell, begunAt, New, OpenRoom, Visiting, Visited, Stepping, Stepped};
+ghost use Rattle.sheet.specs.Opening.{fewTypes, nextCell, begunAt, New, OpenRoom, Visiting, Visited, Stepping, Stepped};
 ghost use Rattle.sheet.specs.Writing.{elementsMet, Meeting, MetAll, ElementsIn, Short, listedSize, NumberOf};
 ghost use Rattle.sheet.specs.Writing.{Put, Met, recordBytes, elementBytes, typesBytes, elementsBytes, NamesFit};
 ghost use Rattle.sheet.specs.Writing.{NamesPut, TextsFit, listedTexts, headerBytes, Filling};
@@ -184,7 +184,7 @@ fn meet_each(table: &[u16], names: &NameList, count: usize, marks: &mut Marks, p
 // A function of its own for each size of the array: a small one is soon filled.
 fn meet_few(table: &[u16], names: &NameList, count: usize, marks: &mut Marks)
     requires { ⌜ Meeting (now table) (now marks) (now names) count ⌝ }
-    requires { ⌜ typeCount (now marks) ≤ 64 ⌝ }
+    requires { ⌜ typeCount (now marks) ≤ fewTypes ⌝ }
     ensures { λ _. ⌜ MetAll (now (table .entry)) (now (marks .entry)) (now (marks .exit))
         (now (names .entry)) count ⌝ }
 {

@@ -1,11 +1,11 @@
 -- How many records, elements and slots the cells have room for, and which cells a table may be started in.
 use mathlib.Core.Path.{_≡_}
 use mathlib.Core.List.{List}
-use Prim.Native.Nat.{ℕ, _+_, _*_, _≤_, _<_}
+use Prim.Native.Nat.{ℕ, suc, _+_, _*_, _≤_, _<_}
 use native.Mathlib.Omega.{arith}
 use lib.ListN.{length, getD, replicate, length-replicate, getD-replicate}
 use Rattle.types.specs.Layout.{linkCell, slotsFrom, slotsEnd}
-use Rattle.types.specs.Table.{capacity, Fresh}
+use Rattle.types.specs.Table.{mostNumbers, capacity, Fresh}
 
 -- five cells for a record and an element
 pub capacity-within : (cs : List ℕ) → slotsFrom cs ≤ length cs
@@ -26,7 +26,7 @@ pub record-within : (cs : List ℕ) {i : ℕ} → i < capacity cs → linkCell i
 record-within cs h = omega (arith, capacity-within cs)
 
 -- cells filled with one number below 8, as 1
-pub fresh-filled : (k v : ℕ) → 48 ≤ k → k ≤ 12341 → v < 8 → Fresh (replicate k v)
+pub fresh-filled : (k v : ℕ) → 6 * 8 ≤ k → k < 6 * suc mostNumbers → v < 8 → Fresh (replicate k v)
 unfolding capacity
 fresh-filled k v l m h =
     let long : length (replicate k v) ≡ k = length-replicate k v in

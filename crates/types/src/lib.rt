@@ -55,11 +55,11 @@ pub const FILTER_ITER: usize = 12;
 const TUPLE_CELL: u16 = TUPLE as u16;
 
 // The cells of a record: kind, p, q and its link. The kind is the first.
-pub const RECORD: usize = 4;
+const RECORD: usize = 4;
 
-pub const P: usize = 1;
+const P: usize = 1;
 
-pub const Q: usize = 2;
+const Q: usize = 2;
 
 const LINK: usize = 3;
 
@@ -369,7 +369,7 @@ pub fn second_of(table: &[u16], i: usize) -> usize
 }
 
 // How many elements the Tuple i has.
-pub fn count_of(table: &[u16], i: usize) -> usize
+fn count_of(table: &[u16], i: usize) -> usize
     requires { ⌜ i < capacity (now table) ⌝ }
     ensures { λ r. ⌜ CountOf (now (table .entry)) i r ⌝ }
 {
@@ -377,7 +377,7 @@ pub fn count_of(table: &[u16], i: usize) -> usize
 }
 
 // The element j of the Tuple i.
-pub fn element_at(table: &[u16], i: usize, j: usize) -> usize
+fn element_at(table: &[u16], i: usize, j: usize) -> usize
     requires { ⌜ IsElement (now table) i j ⌝ }
     ensures { λ r. ⌜ ElementAt (now (table .entry)) i j r ⌝ }
 {
