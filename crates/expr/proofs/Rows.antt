@@ -14,7 +14,7 @@ use Rattle.expr.specs.Contract.{At, Inner, Row}
 module _ {bs : List ℕ} (s : Sound bs) where
   -- ---- one node
 
-  many : {i : ℕ} → i < nodeCount bs → i < length (nodesOf bs)
+  pub many : {i : ℕ} → i < nodeCount bs → i < length (nodesOf bs)
   many h = rw (nodes-many bs) h
 
   pub ends-after : {i : ℕ} → i < nodeCount bs → i < stopOf (nodesOf bs) i

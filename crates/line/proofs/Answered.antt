@@ -7,7 +7,7 @@ use Prim.Native.Nat.{ℕ, _+_, _≤_, _<_}
 use native.Mathlib.Omega.{arith}
 use lib.Dec.{leb}
 use lib.ListN.{length, take, drop, length-append}
-use lib.Seq.{take-append-seam, length-take-le}
+use lib.Seq.{length-take-le}
 use Rattle.meaning.specs.Base.{if_then_else_, ifSome}
 use Rattle.meaning.specs.Image.{Fault, Name, Node, imageFault, namesOf, nodesOf}
 use Rattle.meaning.specs.Sheet.{entries, sheetOf}
@@ -18,7 +18,7 @@ use Rattle.meaning.specs.Answer.{Answer, bare, written, ended, walked, answerUn
 use Rattle.meaning.specs.Line.{lineOf}
 use Rattle.meaning.proofs.Faults.{fault-told}
 use Rattle.meaning.proofs.Kept.{refused-typing}
-use Rattle.meaning.proofs.Answers.{overlaid-length}
+use Rattle.meaning.proofs.Answers.{overlaid-length, overlaid-front}
 use Rattle.meaning.proofs.Answers.{answered as bounds}
 use Rattle.meaning.proofs.SheetForm.{sheet-size}
 use Rattle.line.specs.Printing.{Printable, answered, Lined}
@@ -96,15 +96,11 @@ module _ (setting : ℕ) (bs : List ℕ) {n : Numbers} (s s₁ m m₁ : List ℕ
   pub message-in : n .message ≤ length m₁
   message-in = omega (arith, message-is, long-m, bounds (length s) (length m) setting bs .message-fits)
 
-  front : (w old : List ℕ) → take (length w) (overlaid w old) ≡ w
-  unfolding overlaid
-  front w old = take-append-seam w _
-
   sheet-part : take (n .sheet) s₁ ≡ answer setting bs (length s) (length m) .sheet
-  sheet-part = rw (size-is, r .sheet) (front _ s)
+  sheet-part = rw (size-is, r .sheet) (overlaid-front _ s)
 
   message-part : take (n .message) m₁ ≡ answer setting bs (length s) (length m) .message
-  message-part = rw (message-is, r .message) (front _ m)
+  message-part = rw (message-is, r .message) (overlaid-front _ m)
 
   has-header : n .code ≡ 0 → 40 ≤ length (answer setting bs (length s) (length m) .sheet)
   has-header z = answer-header setting bs (length s) (length m) .forty (sym code-is ∙ z)

@@ -9,7 +9,7 @@ use native.Mathlib.Decide.{decLt}
 use native.Mathlib.Omega.{arith}
 use lib.Dec.{leb}
 use lib.ListN.{length, take, drop, replicate, length-append, length-replicate}
-use lib.Seq.{take-append-le, take-append-seam, drop-append-add, drop-drop, length-take-le}
+use lib.Seq.{take-append-le, drop-append-add, drop-drop, length-take-le}
 use borrow.Author.Tests.{eq-eqb, ne-eqb}
 use Rattle.io.specs.Digits.{digits, Fewest}
 use Rattle.meaning.specs.Base.{if_then_else_, ifSome, bytes, decimal, word}
@@ -17,7 +17,7 @@ use Rattle.meaning.specs.Sheet.{Entry, sheetOf}
 use Rattle.meaning.specs.Read.{readSheet}
 use Rattle.meaning.specs.Answer.{Answer, answer, bare, written, writeAnswer, overlaid}
 use Rattle.meaning.specs.Line.{spaced, acceptedLine, lineOf}
-use Rattle.meaning.proofs.Answers.{overlaid-length, written-answered}
+use Rattle.meaning.proofs.Answers.{overlaid-length, written-answered, overlaid-front}
 use Rattle.meaning.proofs.SheetForm.{sheet-size}
 use Rattle.words.specs.Words.{putAt}
 use Rattle.words.proofs.Laws.{decimal-length, put-overlaid}
@@ -219,12 +219,8 @@ module _ (bs : List ℕ) {n : Numbers} (s s₁ : List ℕ) (r : Relaid (rewritte
   pub again-in : n .sheet ≤ length s₁
   again-in = omega (arith, size-is, long, fits)
 
-  front : (w old : List ℕ) → take (length w) (overlaid w old) ≡ w
-  unfolding overlaid
-  front w old = take-append-seam w _
-
   again-is : take (n .sheet) s₁ ≡ rewritten bs (length s) .sheet
-  again-is = rw (size-is, r .sheet) (front _ s)
+  again-is = rw (size-is, r .sheet) (overlaid-front _ s)
 
   header : n .code ≡ 0 → 40 ≤ length (rewritten bs (length s) .sheet)
   unfolding rewritten

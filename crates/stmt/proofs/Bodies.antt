@@ -18,8 +18,9 @@ use Rattle.image.specs.declared.Cursor.{Cursor}
 use Rattle.image.specs.declared.Read.{Read}
 use Rattle.image.proofs.Moving.{parent-of}
 use Rattle.expr.specs.Contract.{At}
+use Rattle.expr.proofs.Rows.{shallow}
 use Rattle.stmt.specs.Contract.{stateOf, acted, walkedAt, bodyAt, Standing, Stmt, Bodiless, Within, Fine, Done}
-use Rattle.stmt.proofs.Laws.{ended-done, ended-wrong, was-deep, was-wrong, goes-on, too-deep, named-well, left-refl, fine-trans, fine-wider, done-as, ready-within, ready-next, wide-at, some-depth, within-all, within-le, within-child, within-at}
+use Rattle.stmt.proofs.Laws.{ended-done, ended-wrong, was-deep, was-wrong, goes-on, too-deep, named-well, left-refl, fine-trans, fine-wider, done-as, ready-within, ready-next, wide-at, within-all, within-le, within-child, within-at}
 
 less-one : (n : ℕ) → suc n - 1 ≡ n
 less-one n = sub-one (suc n)
@@ -34,12 +35,12 @@ walked-acted bs setting loop (suc d) i s h = rw (less-one d)
 module _ {bs : List ℕ} {i d : ℕ} (s : Sound bs) (h : At bs i d) where
   -- node i, and what was read of it
   pub stmt-here : {k : ℕ} → k ≡ nodeOf (nodesOf bs) i .kind → Stmt bs i (d - 1) k
-  stmt-here e = record { there = h .there; deep = omega (arith, h .deep, some-depth s h); kind = sym e }
+  stmt-here e = record { there = h .there; deep = omega (arith, h .deep, shallow s h); kind = sym e }
 
   pub stmt-done : (setting : Setting) (loop : Bool) (q : State) {t u : Tab} {gs : Rows} {top high got : ℕ} {su : List ℕ} {e M code place a b : ℕ}
       → Done (namesOf bs) (acted bs setting loop (d - 1) i q) t u gs top high got su i e M code place a b
       → Done (namesOf bs) (walkedAt bs setting loop d i q) t u gs top high got su i e M code place a b
-  stmt-done setting loop q a = done-as (walked-acted bs setting loop d i q (some-depth s h)) a
+  stmt-done setting loop q a = done-as (walked-acted bs setting loop d i q (shallow s h)) a
 
 pub bodiless : {k : ℕ} → (k ≡ 8 → ⊥) → (k ≡ 9 → ⊥) → (k ≡ 10 → ⊥) → (k ≡ 11 → ⊥) → Bodiless k
 bodiless a b c d = record { no-if = a; no-while = b; no-for = c; no-def = d }
@@ -67,7 +68,7 @@ unfolding bodyAt
 loop-first {bs} {setting} {nodes} {t} {fs} {top} {ret} {i} {d} {n} loop drops r h e =
     let s = r .ready .sound in
     let w = wide-at s i (h .there) in
-    let o = some-depth s h in
+    let o = shallow s h in
     record {
       standing = record { ready = ready-within (r .ready) (omega arith) (omega arith); kept = r .kept };
       within = rw e (within-all s i (h .there));

@@ -33,8 +33,9 @@ use Rattle.image.specs.declared.Read.{Read}
 use Rattle.image.proofs.Moving.{parent-of}
 use Rattle.expr.specs.Contract.{Ready, At}
 use Rattle.targets.specs.Ending.{ended, Named, Left, Assigned}
+use Rattle.targets.proofs.Endings.{left-then, left-wider}
 use Rattle.stmt.specs.Contract.{stateOf, acted, bodyAt, conditionAt, armBlock, armedAt, Standing, Stmt, Branch, Within, Done}
-use Rattle.stmt.proofs.Laws.{ended-done, ended-wrong, was-done, was-deep, was-wrong, too-deep, named-well, left-refl, left-trans, left-wider, left-rows, done-as, ready-within, ready-next, place-at, wide-at, within-all, within-le, within-child, within-at, count-if}
+use Rattle.stmt.proofs.Laws.{ended-done, ended-wrong, was-done, was-deep, was-wrong, too-deep, named-well, left-refl, left-rows, done-as, ready-within, ready-next, place-at, wide-at, within-all, within-le, within-child, within-at, count-if}
 
 -- ---- one branch
 
@@ -154,7 +155,7 @@ module _ {bs : List ℕ} {nodes : ℕ} {t : Tab} {fs : Rows} {top : ℕ} {st : L
                   ∙ rw (y, c .says (denote t ret), ended-done (namesOf bs) u fs top (denote t ret) code place′ a b z, ← o, ← (c .left .grown .same ret (r .kept))) (e .says);
               fine = λ x.
                   let f = e .fine x in
-                  rw m (record { left = left-trans l (f .left); kept = f .kept; raised = f .raised });
+                  rw m (record { left = left-then l (f .left); kept = f .kept; raised = f .raised });
               named = e .named;
               placed = e .placed;
             }
@@ -238,7 +239,7 @@ module _ {bs : List ℕ} {setting : Setting} {nodes : ℕ} {t : Tab} {fs : Rows}
       (c : Done (namesOf bs) (armedAt bs setting loop d left j (stateOf u fs top got)) u v hs top peak had sv j (stopOf (nodesOf bs) (armBlock bs left j)) (nodeCount bs) code place′ a b) where
     -- the base frames over the table that the branch left
     choosing-left : (code ≡ 9 → ⊥) → Left t v fs top sv i (stopOf (nodesOf bs) (armBlock bs left j))
-    choosing-left y = left-trans (l .spent) (left-rows (l .spent .fit) (c .fine y .left))
+    choosing-left y = left-then (l .spent) (left-rows (l .spent .fit) (c .fine y .left))
 
     choosing-same : (code ≡ 9 → ⊥) → framesOf v fs top ≡ framesOf t fs top
     choosing-same y = frames-grown (c .fine y .left .grown) (l .spent .fit) ∙ l .same

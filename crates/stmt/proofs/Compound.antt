@@ -27,8 +27,9 @@ use Rattle.rules.specs.Outcome.{typesNamed, pieces}
 use Rattle.expr.specs.Contract.{Ready, At}
 use Rattle.expr.specs.Contract.{Done as Typed}
 use Rattle.targets.specs.Ending.{ended, Named, Left, Assigned}
+use Rattle.targets.proofs.Endings.{left-then, left-wider}
 use Rattle.stmt.specs.Contract.{stateOf, acted, bodyAt, conditionAt, Standing, Stmt, Pair, Within, Params, Done, Entered, Iterated}
-use Rattle.stmt.proofs.Laws.{ended-done, ended-wrong, was-done, was-deep, was-wrong, too-deep, named-well, left-trans, left-wider, left-rows, ready-within, ready-next, typing, check-left, check-named, check-well, check-ill, place-at, wide-at, within-all, within-end, within-child, within-at, pair-while, pair-for, count-def, arg-small}
+use Rattle.stmt.proofs.Laws.{ended-done, ended-wrong, was-done, was-deep, was-wrong, too-deep, named-well, left-rows, ready-within, ready-next, typing, check-left, check-named, check-well, check-ill, place-at, within-all, within-end, within-child, within-at, pair-while, pair-for, count-def, arg-small, pair-wide}
 
 -- ---- what a For walks over
 
@@ -98,7 +99,7 @@ copied {ws} {whole} {inner} {t} {u} {v} {fs} {gs} {top} {high} {got} {su} {sv} {
           | yes j ↦ here ∙ rw (was-done c j, ← same) (sym (ended-done ws v fs top (denote v got) code place a b j))
           | no j ↦ here ∙ rw (was-wrong c j z, ← same) (sym (ended-wrong ws v fs top (denote v got) code place a b j z))
         ];
-        fine = λ _. record { left = left-wider (left-trans l (left-rows (l .fit) (g .left))) (omega arith) o; kept = g .kept; raised = omega arith };
+        fine = λ _. record { left = left-wider (left-then l (left-rows (l .fit) (g .left))) (omega arith) o; kept = g .kept; raised = omega arith };
         named = c .named;
         placed = c .placed;
       }
@@ -107,14 +108,8 @@ copied {ws} {whole} {inner} {t} {u} {v} {fs} {gs} {top} {high} {got} {su} {sv} {
 -- ---- While and For: node i has a value and a Block
 
 module _ {bs : List ℕ} {nodes : ℕ} {t : Tab} {fs : Rows} {top : ℕ} {st : List ℕ} {ret i d : ℕ} (r : Standing bs nodes fs top t st ret i (stopOf (nodesOf bs) i)) (p : Pair bs i d) where
-  child-wide : (i + 1 < stopOf (nodesOf bs) (i + 1)) × (stopOf (nodesOf bs) (i + 1) < stopOf (nodesOf bs) i)
-  child-wide =
-      let a = wide-at (r .ready .sound) (i + 1) (p .first .there) in
-      let b = wide-at (r .ready .sound) (stopOf (nodesOf bs) (i + 1)) (p .second .there) in
-      (a .0, omega (arith, b .0, p .last))
-
   pub first-ready : Ready bs nodes fs top t st 0 (i + 1) (stopOf (nodesOf bs) (i + 1))
-  first-ready = ready-within (r .ready) (omega arith) (omega (arith, child-wide .1))
+  first-ready = ready-within (r .ready) (omega arith) (omega (arith, (pair-wide (r .ready .sound) p) .1))
 
   pub second-at : {k : ℕ} → k ≡ stopOf (nodesOf bs) (i + 1) → At bs k d
   second-at o = rw o (p .second)
@@ -124,7 +119,7 @@ module _ {bs : List ℕ} {nodes : ℕ} {t : Tab} {fs : Rows} {top : ℕ} {st : L
       → Standing bs nodes es top u su ret k (stopOf (nodesOf bs) k)
   second-standing o l f =
       let o′ : Ready bs nodes fs top t _ 0 (i + 1) (stopOf (nodesOf bs) i) = ready-within (r .ready) (omega arith) (omega arith) in
-      let n : Ready bs nodes fs top _ _ 0 (stopOf (nodesOf bs) (i + 1)) (stopOf (nodesOf bs) i) = ready-next o′ l (omega (arith, child-wide .0)) in
+      let n : Ready bs nodes fs top _ _ 0 (stopOf (nodesOf bs) (i + 1)) (stopOf (nodesOf bs) i) = ready-next o′ l (omega (arith, pair-wide (r .ready .sound) p .0)) in
       rw o (record {
         ready = record {
           sound = n .sound;
@@ -141,7 +136,7 @@ module _ {bs : List ℕ} {nodes : ℕ} {t : Tab} {fs : Rows} {top : ℕ} {st : L
 
   module _ {u : Tab} {su : List ℕ} (l : Left t u fs top su (i + 1) (stopOf (nodesOf bs) (i + 1))) where
     wider : Left t u fs top su i (stopOf (nodesOf bs) i)
-    wider = left-wider l (omega arith) (omega (arith, child-wide .1))
+    wider = left-wider l (omega arith) (omega (arith, (pair-wide (r .ready .sound) p) .1))
 
     before-body : {k : ℕ} → k ≡ stopOf (nodesOf bs) (i + 1) → Left t u fs top su i k
     before-body o = rw o (left-wider l (omega arith) (omega arith))

@@ -9,7 +9,6 @@ use native.Mathlib.Decide.{ℕ-discrete}
 use native.Mathlib.Numerals.{add-one}
 use borrow.Author.Tests.{eq-eqb, ne-eqb, eqb-true, leb-true}
 use lib.Dec.{eqb}
-use lib.ListN.{length}
 use Rattle.meaning.specs.Base.{_or_, if_then_else_, choose, isIn}
 use Rattle.meaning.specs.Types.{Ty}
 use Rattle.meaning.specs.Tree.{Expr, place}
@@ -21,8 +20,9 @@ use Rattle.meaning.specs.Walk.{dropping, State, state, End, done, wrong, tooDee
 use Rattle.meaning.proofs.Codes.{fair-typing, check-fair}
 use Rattle.meaning.proofs.Faults.{Sound, sizes}
 use Rattle.meaning.proofs.Nesting.{Nested, sound-nested, nodes-many, node-stands, child, children, children-le, children-end, deeper}
+use Rattle.meaning.proofs.Choices.{if-le}
 use Rattle.types.specs.Table.{Tab, denote}
-use Rattle.types.proofs.Laws.{grown-refl, grown-trans}
+use Rattle.types.proofs.Laws.{grown-refl}
 use Rattle.frames.specs.Env.{Rows, framesOf, Fit}
 use Rattle.frames.proofs.Laws.{frames-grown, fit-grown}
 use Rattle.rules.specs.Outcome.{typesNamed, pieces}
@@ -32,7 +32,9 @@ use Rattle.image.specs.declared.Read.{Read}
 use Rattle.image.proofs.Moving.{stops}
 use Rattle.expr.specs.Contract.{Ready, At}
 use Rattle.expr.specs.Contract.{Done as Typed}
-use Rattle.targets.specs.Ending.{ended, Named, Left, Assigned}
+use Rattle.expr.proofs.Rows.{many}
+use Rattle.targets.specs.Ending.{ended, Named, Left}
+use Rattle.targets.proofs.Endings.{left-then, left-wider}
 use Rattle.stmt.specs.Contract.{stateOf, settingIf, Stmt, Pair, Within, Fine, Done}
 
 -- ---- the setting: code that is told whether it is plain drops exactly if it is
@@ -114,31 +116,13 @@ named-well =
 pub left-refl : {bs : List ℕ} {nodes : ℕ} {fs : Rows} {top : ℕ} {t : Tab} {st : List ℕ} {i e j : ℕ} → Ready bs nodes fs top t st 0 i e → i ≤ j → Left t t fs top st i j
 left-refl r h = record { grown = grown-refl (r .wf); fit = r .fit; stack = r .stack; types-spent = omega arith; elements-spent = omega arith }
 
-pub left-trans : {t u v : Tab} {gs hs : Rows} {high peak : ℕ} {su sv : List ℕ} {i j e : ℕ} → Left t u gs high su i j → Left u v hs peak sv j e → Left t v hs peak sv i e
-left-trans a b = record {
-  grown = grown-trans (a .grown) (b .grown);
-  fit = b .fit;
-  stack = b .stack;
-  types-spent = omega (arith, a .types-spent, b .types-spent);
-  elements-spent = omega (arith, a .elements-spent, b .elements-spent);
-}
-
-pub left-wider : {t u : Tab} {gs : Rows} {high : ℕ} {su : List ℕ} {i e k f : ℕ} → Left t u gs high su i e → k ≤ i → e ≤ f → Left t u gs high su k f
-left-wider a p q = record {
-  grown = a .grown;
-  fit = a .fit;
-  stack = a .stack;
-  types-spent = omega (arith, a .types-spent);
-  elements-spent = omega (arith, a .elements-spent);
-}
-
 -- other rows over the same table
 pub left-rows : {t u : Tab} {fs gs : Rows} {top high : ℕ} {su : List ℕ} {i e : ℕ} → Fit t fs top → Left t u gs high su i e → Left t u fs top su i e
 left-rows f a = record { grown = a .grown; fit = fit-grown (a .grown .more) f; stack = a .stack; types-spent = a .types-spent; elements-spent = a .elements-spent }
 
 pub fine-trans : {t u v : Tab} {gs hs : Rows} {top high peak ret got : ℕ} {su sv : List ℕ} {i j e : ℕ}
     → Fine t u gs top high ret su i j → Fine u v hs high peak got sv j e → Fine t v hs top peak got sv i e
-fine-trans a b = record { left = left-trans (a .left) (b .left); kept = b .kept; raised = omega (arith, a .raised, b .raised) }
+fine-trans a b = record { left = left-then (a .left) (b .left); kept = b .kept; raised = omega (arith, a .raised, b .raised) }
 
 pub fine-wider : {t u : Tab} {gs : Rows} {top high ret : ℕ} {su : List ℕ} {i e k f : ℕ} → Fine t u gs top high ret su i e → k ≤ i → e ≤ f → Fine t u gs top high ret su k f
 fine-wider a p q = record { left = left-wider (a .left) p q; kept = a .kept; raised = a .raised }
@@ -159,15 +143,6 @@ done-any {ws} {r} {t} {u} {gs} {top} {high} {ret} {code′ = code′} {place′}
   fine = λ _. d .fine (λ x. omega arith);
   named = λ _. rw o named-well;
   placed = λ x. absurd (omega arith);
-}
-
-pub assigned-any : {ws : List Name} {r : Ty → End} {t u : Tab} {gs : Rows} {top : ℕ} {su : List ℕ} {i e M code place a b code′ place′ a′ b′ : ℕ}
-    → code ≡ 0 → code′ ≡ 0 → Assigned ws r t u gs top su i e M code place a b → Assigned ws r t u gs top su i e M code′ place′ a′ b′
-assigned-any {ws} {r} {t} {u} {gs} {top} {code = code} {place} {a} {b} {code′} {place′} {a′} {b′} z o d = record {
-  says = λ y. d .says y ∙ ended-done ws u gs top y code place a b z ∙ sym (ended-done ws u gs top y code′ place′ a′ b′ o);
-  named = rw o named-well;
-  left = d .left;
-  typing = λ x. absurd (omega arith);
 }
 
 pub ready-within : {bs : List ℕ} {nodes : ℕ} {fs : Rows} {top : ℕ} {t : Tab} {st : List ℕ} {i e j f : ℕ}
@@ -258,15 +233,10 @@ abbrev Rows-below : ℕ → List (ℕ × ℕ) → Type 0
 Rows-below m [] = Unit {0}
 Rows-below m (r ∷ rs) = (r .1 ≤ m) × Rows-below m rs
 
-if-le : (q : Bool) (a b m : ℕ) → a ≤ m → b ≤ m → (if q then a else b) ≤ m
-unfolding if_then_else_
-if-le true a b m p q = p
-if-le false a b m p q = q
-
 choose-le : (k d m : ℕ) (rs : List (ℕ × ℕ)) → d ≤ m → Rows-below m rs → choose k d rs ≤ m
 unfolding choose
 choose-le k d m [] p q = p
-choose-le k d m (r ∷ rs) p q = if-le (eqb k (r .0)) (r .1) (choose k d rs) m (q .0) (choose-le k d m rs p (q .1))
+choose-le k d m (r ∷ rs) p q = if-le (eqb k (r .0)) (q .0) (choose-le k d m rs p (q .1))
 
 arg-below : {N : ℕ} (k : ℕ) → N ≤ 128 → argBelow N k ≤ 128
 unfolding argBelow
@@ -278,26 +248,27 @@ module _ {bs : List ℕ} (s : Sound bs) where
   nested : Nested (nameCount bs) (nodesOf bs)
   nested = sound-nested s
 
-  inside : {i : ℕ} → i < nodeCount bs → i < length (nodesOf bs)
-  inside h = rw (nodes-many bs) h
-
   pub few-nodes : nodeCount bs ≤ 2048
   few-nodes = sizes (s .headed) .nodes
 
   pub wide-at : (i : ℕ) → i < nodeCount bs → (i < stopOf (nodesOf bs) i) × (stopOf (nodesOf bs) i ≤ nodeCount bs)
   unfolding stopOf
   wide-at i h =
-      let k = node-stands nested i (inside h) in
+      let k = node-stands nested i (many s h) in
       (k .above, rw (nodes-many bs) at (k .within))
 
-  pub some-depth : {i d : ℕ} → At bs i d → 0 < d
-  some-depth {i} a = omega (arith, a .deep, nested .shallow i (inside (a .there)))
+  -- the first of a pair has a node at least, and ends before the pair does
+  pub pair-wide : {i d : ℕ} → Pair bs i d → (i + 1 < stopOf (nodesOf bs) (i + 1)) × (stopOf (nodesOf bs) (i + 1) < stopOf (nodesOf bs) i)
+  pair-wide {i} p =
+      let a = wide-at (i + 1) (p .first .there) in
+      let b = wide-at (stopOf (nodesOf bs) (i + 1)) (p .second .there) in
+      (a .0, omega (arith, b .0, p .last))
 
   -- a node inside node i, one level less
   pub at-inside : {i d c : ℕ} → i < nodeCount bs → 64 ≤ depth i 0 (nodesOf bs) + d → i < c → c < stopOf (nodesOf bs) i → At bs c d
   at-inside {i} {d} {c} h l p q = record {
     there = omega (arith, wide-at i h .1);
-    deep = omega (arith, l, deeper nested i c p (inside h) q);
+    deep = omega (arith, l, deeper nested i c p (many s h) q);
   }
 
   -- ---- children
@@ -306,7 +277,7 @@ module _ {bs : List ℕ} (s : Sound bs) where
   stop-is i = refl
 
   pub within-all : (i : ℕ) → i < nodeCount bs → Within bs i (i + 1) (nodeOf (nodesOf bs) i .children)
-  within-all i h = record { there = h; behind = omega arith; children = rw (add-one i) (children nested i (inside h)) }
+  within-all i h = record { there = h; behind = omega arith; children = rw (add-one i) (children nested i (many s h)) }
 
   module _ {i j n : ℕ} (w : Within bs i j n) where
     pub within-le : j ≤ stopOf (nodesOf bs) i
@@ -333,7 +304,7 @@ module _ {bs : List ℕ} (s : Sound bs) where
 
   -- ---- how many children
   counted : (i k : ℕ) → i < nodeCount bs → nodeOf (nodesOf bs) i .kind ≡ k → countStands k (nodeOf (nodesOf bs) i .children) ≡ true
-  counted i k h e = rw e at (node-stands nested i (inside h) .count)
+  counted i k h e = rw e at (node-stands nested i (many s h) .count)
 
   only-child : {i d k : ℕ} → Stmt bs i d k → nodeOf (nodesOf bs) i .children ≡ 1 → (At bs (i + 1) d) × (stopOf (nodesOf bs) (i + 1) ≡ stopOf (nodesOf bs) i)
   only-child {i} q e =
@@ -378,4 +349,4 @@ module _ {bs : List ℕ} (s : Sound bs) where
 
   -- ---- a node's arg: a name or less
   pub arg-small : (i : ℕ) → i < nodeCount bs → nodeOf (nodesOf bs) i .arg < 128
-  arg-small i h = omega (arith, node-stands nested i (inside h) .arg, arg-below (nodeOf (nodesOf bs) i .kind) (sizes (s .headed) .names))
+  arg-small i h = omega (arith, node-stands nested i (many s h) .arg, arg-below (nodeOf (nodesOf bs) i .kind) (sizes (s .headed) .names))

@@ -31,8 +31,9 @@ use Rattle.rules.specs.Outcome.{typesNamed, pieces}
 use Rattle.expr.specs.Contract.{Ready, At}
 use Rattle.expr.specs.Contract.{Done as Typed}
 use Rattle.targets.specs.Ending.{ended, Left, Assigned}
+use Rattle.targets.proofs.Endings.{left-wider}
 use Rattle.stmt.specs.Contract.{stateOf, acted, conditionAt, evaluatedAt, assignedAt, returnedAt, Standing, Stmt, Bodiless, Pair, Params, Fine, Done, Entered}
-use Rattle.stmt.proofs.Laws.{ended-done, ended-wrong, named-none, named-well, left-refl, left-wider, done-wider, done-as, ready-within, typing, check-left, check-named, check-well, check-ill, place-at, wide-at, within-child, one-child, arg-small}
+use Rattle.stmt.proofs.Laws.{ended-done, ended-wrong, named-none, named-well, left-refl, done-wider, done-as, ready-within, typing, check-left, check-named, check-well, check-ill, place-at, wide-at, within-child, one-child, arg-small, pair-wide}
 
 -- the number of Bool
 bool-number : {t : Tab} → Wf t → denote t 2 ≡ bool
@@ -167,15 +168,9 @@ module _ {bs : List ℕ} {nodes : ℕ} {t u : Tab} {fs : Rows} {top : ℕ} {st s
 -- ---- Assign: the value at node k, and then the target
 
 module _ {bs : List ℕ} {nodes : ℕ} {t : Tab} {fs : Rows} {top : ℕ} {st : List ℕ} {i d : ℕ} (r : Ready bs nodes fs top t st 0 i (stopOf (nodesOf bs) i)) (p : Pair bs i d) where
-  first-wide : (i + 1 < stopOf (nodesOf bs) (i + 1)) × (stopOf (nodesOf bs) (i + 1) < stopOf (nodesOf bs) i)
-  first-wide =
-      let a = wide-at (r .sound) (i + 1) (p .first .there) in
-      let b = wide-at (r .sound) (stopOf (nodesOf bs) (i + 1)) (p .second .there) in
-      (a .0, omega (arith, b .0, p .last))
-
   module _ {k : ℕ} (o : k ≡ stopOf (nodesOf bs) (i + 1)) where
     pub value-ready : Ready bs nodes fs top t st 0 k (stopOf (nodesOf bs) k)
-    value-ready = rw (o) (ready-within r (omega (arith, first-wide)) (omega (arith, p .last)))
+    value-ready = rw (o) (ready-within r (omega (arith, pair-wide (r .sound) p)) (omega (arith, p .last)))
 
     pub value-at : At bs k d
     value-at = rw o (p .second)
@@ -191,7 +186,7 @@ module _ {bs : List ℕ} {nodes : ℕ} {t : Tab} {fs : Rows} {top : ℕ} {st : L
       assignment-bad z = record {
         says = λ y. rw (← o) (check-ill _ (r .fit) q z y _);
         named = check-named _ (r .fit) q;
-        left = left-wider value-spent (omega (arith, first-wide)) (omega arith);
+        left = left-wider value-spent (omega (arith, pair-wide (r .sound) p)) (omega arith);
         typing = typing _ (r .fit) q;
       }
 
@@ -206,7 +201,7 @@ module _ {bs : List ℕ} {nodes : ℕ} {t : Tab} {fs : Rows} {top : ℕ} {st : L
             stack = l .stack;
             types-room = omega (arith, r .types-room, l .types-spent, l .grown .as-wide);
             elements-room = omega (arith, r .elements-room, l .elements-spent, l .grown .as-wide);
-            stack-room = omega (arith, r .stack-room, first-wide);
+            stack-room = omega (arith, r .stack-room, pair-wide (r .sound) p);
           }
 
       pub assignment-done : {v : Tab} {gs : Rows} {sv : List ℕ} {code′ place″ a′ b′ : ℕ} → code ≡ 0

@@ -1,9 +1,8 @@
 -- The module's statements.
 use mathlib.Core.Path.{_≡_, refl, sym, ap, _∙_}
 use mathlib.Core.Bool.{false}
-use mathlib.Core.List.{List, [], _∷_, map}
-use mathlib.Core.Option.{none}
-use Prim.Native.Nat.{ℕ, zero, suc, _+_, _-_, _≤_, _<_}
+use mathlib.Core.List.{List, [], _∷_}
+use Prim.Native.Nat.{ℕ, _+_, _-_, _≤_, _<_}
 use native.Mathlib.Omega.{arith}
 use native.Mathlib.Decide.{ℕ-discrete}
 use borrow.Author.Tests.{lt-ltb}
@@ -19,13 +18,14 @@ use Rattle.meaning.proofs.Faults.{Sound, sizes}
 use Rattle.meaning.proofs.Nesting.{sound-nested, nodes-many, root}
 use Rattle.types.specs.Table.{Tab, denote}
 use Rattle.types.proofs.Laws.{unknown-number}
-use Rattle.frames.specs.Env.{Rows, slot, frameOf, below, framesOf, Fit}
-use Rattle.frames.proofs.Laws.{zeros}
+use Rattle.frames.specs.Env.{Rows, frameOf, below, framesOf, Fit}
+use Rattle.frames.proofs.Laws.{zeros, map-replicate}
 use Rattle.meaning.specs.Frames.{empty}
 use Rattle.expr.specs.Contract.{Ready, At}
 use Rattle.targets.specs.Ending.{Left}
+use Rattle.targets.proofs.Endings.{left-then, left-wider}
 use Rattle.stmt.specs.Contract.{stateOf, walkedAt, Standing, Within, Done, Started, Ran}
-use Rattle.stmt.proofs.Laws.{ended-done, ended-deep, ended-wrong, was-done, was-deep, was-wrong, named-well, left-refl, left-trans, left-wider, ready-within, ready-next, few-nodes, wide-at, within-all, within-le, within-child, within-at, stop-is}
+use Rattle.stmt.proofs.Laws.{ended-done, ended-deep, ended-wrong, was-done, was-deep, was-wrong, named-well, left-refl, ready-within, ready-next, few-nodes, wide-at, within-all, within-le, within-child, within-at, stop-is}
 use Rattle.stmt.proofs.Bodies.{block-down}
 
 root-depth : (ds : List Node) → 0 < length ds → 0 < nodeOf ds 0 .stop → 1 ≤ depth 0 0 ds
@@ -103,7 +103,7 @@ module _ {bs : List ℕ} {setting : Setting} {nodes : ℕ} {t u : Tab} {gs : Row
         | no y ↦ running-answer ∙ rw (was-wrong c z y) (sym (ended-wrong (namesOf bs) v hs peak (denote v had) code place a b z y))
       ];
       named = c .named;
-      left = λ n. left-wider (left-trans (l .spent) (c .fine n .left)) (omega arith) (omega (arith, running-child .1, root-stop (l .standing .ready .sound)));
+      left = λ n. left-wider (left-then (l .spent) (c .fine n .left)) (omega arith) (omega (arith, running-child .1, root-stop (l .standing .ready .sound)));
       placed = c .placed;
     }
 
@@ -115,7 +115,7 @@ module _ {bs : List ℕ} {setting : Setting} {nodes : ℕ} {t u : Tab} {gs : Row
         rw z (record {
           standing = record { ready = ready-next (l .standing .ready) (f .left) (omega arith); kept = omega (arith, f .left .grown .wf .base) };
           within = k .3;
-          spent = left-trans (l .spent) (f .left);
+          spent = left-then (l .spent) (f .left);
           returns = denote v had;
           answer = running-answer ∙ rw (was-done c o);
         })
@@ -136,11 +136,6 @@ running-end {bs} {setting} {nodes} {t} {u} {gs} {high} {su} {j} {left} l z =
 
 -- ---- eight rows of absent names: the module's frame is empty
 
-absent : (t : Tab) (n : ℕ) → map (slot t) (replicate n 0) ≡ replicate n none
-unfolding slot
-absent t zero = refl
-absent t (suc n) = ap (λ r. none ∷ r) (absent t n)
-
 pub fresh-fit : (t : Tab) → Fit t (replicate 8 (replicate 128 0)) 0
 fresh-fit t = record {
   long = length-replicate 8 (replicate {A = ℕ} 128 0);
@@ -151,4 +146,4 @@ fresh-fit t = record {
 
 pub fresh-frames : (t : Tab) → framesOf t (replicate 8 (replicate 128 0)) 0 ≡ empty ∷ []
 unfolding framesOf below frameOf empty
-fresh-frames t = ap (λ f. f ∷ []) (absent t 128)
+fresh-frames t = ap (λ f. f ∷ []) (map-replicate t 128)

@@ -2,7 +2,7 @@
 -- the branches so far are told of; the measure of both loops is what is left.
 use Prim.Native.Nat.{_+_, _-_, _*_, _<_, ℕ}
 use Rattle.state.proofs.Noting.{kept-as, kept-noting}
-use Rattle.stmt.proofs.Laws.{done-any, drops-if, few-nodes, pair-for, pair-while, ready-nodes, second-of, some-depth}
+use Rattle.stmt.proofs.Laws.{done-any, drops-if, few-nodes, pair-for, pair-while, ready-nodes, second-of}
 use Rattle.stmt.proofs.Cells.{acted-from, armed-from, assigned-err, assigned-ok, body-from, deep-apart, done-apart, done-end, done-ends, done-moved, done-noted, done-refused, end-deep, end-ill, end-other, end-shallow, end-typing, end-well, iterated-err, iterated-ok, moved-noting, moved-trans, refused-at, ret-back, ret-clear, small-node, standing-as, standing-nodes, stmt-at, tab-moved, tells-end, tells-kept, tells-moved, tells-ok, tells-refused, top-down, top-set}
 use Rattle.stmt.proofs.Bodies.{Loop, bodiless, loop-at, loop-begin, loop-deep, loop-end, loop-next, loop-standing, loop-wrong, stmt-done, stmt-here}
 use Rattle.stmt.proofs.Branching.{Choosing, arm-bad, arm-done, arm-last, choosing-as, choosing-begin, choosing-branch, choosing-end, choosing-next, choosing-out, choosing-standing, clash-small, first-place, last-standing, when-at, when-ready, when-standing}
@@ -48,6 +48,7 @@ use Rattle.image.proofs.Cursor.next.Reads as next-reads
 use Rattle.image.proofs.Cursor.over.Reads as over-reads
 use Rattle.state.proofs.refuse.Reads as refuse-reads
 use Rattle.state.proofs.small.Reads as small-reads
+use Rattle.expr.proofs.Rows.{shallow}
 use Rattle.stmt.proofs.after_arm.Reads as after-arm-reads
 use Rattle.stmt.proofs.elements.Reads as elements-reads
 use Rattle.stmt.proofs.end_of.Reads as end-of-reads
@@ -136,7 +137,7 @@ block-next-requires t c κs =
 
 block-sub-d : (t : ℕ) → block-lts.Need-sub-d (next-reads.Asked, next-reads.Learnt, tc-stmt-below t, tc-stmt.Post, over-reads.Asked, over-reads.Learnt) (block-at t) block.Post block-Inv-loop block-μ-loop
 block-sub-d t c =
-    let h = (some-depth ((c .before .before .before .before .pre .1 .1 .0) .ready .sound) (c .before .before .before .before .pre .1 .1 .1)) in
+    let h = (shallow ((c .before .before .before .before .pre .1 .1 .0) .ready .sound) (c .before .before .before .before .pre .1 .1 .1)) in
     omega arith
 
 block-cast-left : (t : ℕ) → block-lts.Need-cast-left (next-reads.Asked, next-reads.Learnt, tc-stmt-below t, tc-stmt.Post, over-reads.Asked, over-reads.Learnt) (block-at t) block.Post block-Inv-loop block-μ-loop
@@ -148,7 +149,7 @@ block-loop-holds t c =
 
 block-tc-stmt-requires : (t : ℕ) → block-lts.Need-tc-stmt-requires (next-reads.Asked, next-reads.Learnt, tc-stmt-below t, tc-stmt.Post, over-reads.Asked, over-reads.Learnt) (block-at t) block.Post block-Inv-loop block-μ-loop
 block-tc-stmt-requires t c κs =
-    (omega (arith, c .before .before .before .before .before .before .before .before .before .before .before .before .pre .0, (some-depth ((c .before .before .before .before .before .before .before .before .before .before .before .before .pre .1 .1 .0) .ready .sound) (c .before .before .before .before .before .before .before .before .before .before .before .before .pre .1 .1 .1))), (c .before .before .before .before .before .loop .inv .1, (standing-nodes (c .before .before .before .before .before .loop .inv .2) (loop-standing (c .before .before .before .before .before .loop .inv .0) (c .before .before .before .before .loop-test .taken)), loop-at (c .before .before .before .before .before .loop .inv .0) (c .before .before .before .before .loop-test .taken))))
+    (omega (arith, c .before .before .before .before .before .before .before .before .before .before .before .before .pre .0, (shallow ((c .before .before .before .before .before .before .before .before .before .before .before .before .pre .1 .1 .0) .ready .sound) (c .before .before .before .before .before .before .before .before .before .before .before .before .pre .1 .1 .1))), (c .before .before .before .before .before .loop .inv .1, (standing-nodes (c .before .before .before .before .before .loop .inv .2) (loop-standing (c .before .before .before .before .before .loop .inv .0) (c .before .before .before .before .loop-test .taken)), loop-at (c .before .before .before .before .before .loop .inv .0) (c .before .before .before .before .loop-test .taken))))
 
 block-enum-told : (t : ℕ) → block-lts.Need-enum-told (next-reads.Asked, next-reads.Learnt, tc-stmt-below t, tc-stmt.Post, over-reads.Asked, over-reads.Learnt) (block-at t) block.Post block-Inv-loop block-μ-loop
 block-enum-told t c = search needs
@@ -648,24 +649,24 @@ tc-stmt-next-requires t c κs =
 
 tc-stmt-sub-d : (t : ℕ) → tc-stmt-lts.Need-sub-d (next-reads.Asked, next-reads.Learnt, choices-below t, choices.Post, repeat-below t, repeat.Post, each-below t, each.Post, define-below t, define.Post, wide32-reads.Asked, wide32-reads.Learnt, simple-reads.Asked, simple-reads.Learnt, end-of-reads.Asked, end-of-reads.Learnt) (tc-stmt-at t) tc-stmt.Post
 tc-stmt-sub-d t c =
-    let h = (some-depth ((c .before .before .before .before .pre .1 .1 .0) .ready .sound) (c .before .before .before .before .pre .1 .1 .1)) in
+    let h = (shallow ((c .before .before .before .before .pre .1 .1 .0) .ready .sound) (c .before .before .before .before .pre .1 .1 .1)) in
     omega arith
 
 tc-stmt-choices-requires : (t : ℕ) → tc-stmt-lts.Need-choices-requires (next-reads.Asked, next-reads.Learnt, choices-below t, choices.Post, repeat-below t, repeat.Post, each-below t, each.Post, define-below t, define.Post, wide32-reads.Asked, wide32-reads.Learnt, simple-reads.Asked, simple-reads.Learnt, end-of-reads.Asked, end-of-reads.Learnt) (tc-stmt-at t) tc-stmt.Post
 tc-stmt-choices-requires t c κs =
-    (omega (arith, c .before .before .before .before .before .before .before .before .before .pre .0, (some-depth ((c .before .before .before .before .before .before .before .before .before .pre .1 .1 .0) .ready .sound) (c .before .before .before .before .before .before .before .before .before .pre .1 .1 .1))), ((c .before .before .before .before .before .before .before .before .before .pre .1 .0), ((c .before .before .before .before .before .before .before .before .before .pre .1 .1 .0), stmt-here ((c .before .before .before .before .before .before .before .before .before .pre .1 .1 .0) .ready .sound) (c .before .before .before .before .before .before .before .before .before .pre .1 .1 .1) (sym (c .before .before .before .before .match .keys1) ∙ (ap (λ d. d .kind) (c .before .before .before .before .before .before .next .ensures .node))))))
+    (omega (arith, c .before .before .before .before .before .before .before .before .before .pre .0, (shallow ((c .before .before .before .before .before .before .before .before .before .pre .1 .1 .0) .ready .sound) (c .before .before .before .before .before .before .before .before .before .pre .1 .1 .1))), ((c .before .before .before .before .before .before .before .before .before .pre .1 .0), ((c .before .before .before .before .before .before .before .before .before .pre .1 .1 .0), stmt-here ((c .before .before .before .before .before .before .before .before .before .pre .1 .1 .0) .ready .sound) (c .before .before .before .before .before .before .before .before .before .pre .1 .1 .1) (sym (c .before .before .before .before .match .keys1) ∙ (ap (λ d. d .kind) (c .before .before .before .before .before .before .next .ensures .node))))))
 
 tc-stmt-repeat-requires : (t : ℕ) → tc-stmt-lts.Need-repeat-requires (next-reads.Asked, next-reads.Learnt, choices-below t, choices.Post, repeat-below t, repeat.Post, each-below t, each.Post, define-below t, define.Post, wide32-reads.Asked, wide32-reads.Learnt, simple-reads.Asked, simple-reads.Learnt, end-of-reads.Asked, end-of-reads.Learnt) (tc-stmt-at t) tc-stmt.Post
 tc-stmt-repeat-requires t c κs =
-    (omega (arith, c .before .before .before .before .before .before .before .before .before .pre .0, (some-depth ((c .before .before .before .before .before .before .before .before .before .pre .1 .1 .0) .ready .sound) (c .before .before .before .before .before .before .before .before .before .pre .1 .1 .1))), ((c .before .before .before .before .before .before .before .before .before .pre .1 .0), ((c .before .before .before .before .before .before .before .before .before .pre .1 .1 .0), stmt-here ((c .before .before .before .before .before .before .before .before .before .pre .1 .1 .0) .ready .sound) (c .before .before .before .before .before .before .before .before .before .pre .1 .1 .1) (sym (c .before .before .before .before .match .keys2) ∙ (ap (λ d. d .kind) (c .before .before .before .before .before .before .next .ensures .node))))))
+    (omega (arith, c .before .before .before .before .before .before .before .before .before .pre .0, (shallow ((c .before .before .before .before .before .before .before .before .before .pre .1 .1 .0) .ready .sound) (c .before .before .before .before .before .before .before .before .before .pre .1 .1 .1))), ((c .before .before .before .before .before .before .before .before .before .pre .1 .0), ((c .before .before .before .before .before .before .before .before .before .pre .1 .1 .0), stmt-here ((c .before .before .before .before .before .before .before .before .before .pre .1 .1 .0) .ready .sound) (c .before .before .before .before .before .before .before .before .before .pre .1 .1 .1) (sym (c .before .before .before .before .match .keys2) ∙ (ap (λ d. d .kind) (c .before .before .before .before .before .before .next .ensures .node))))))
 
 tc-stmt-each-requires : (t : ℕ) → tc-stmt-lts.Need-each-requires (next-reads.Asked, next-reads.Learnt, choices-below t, choices.Post, repeat-below t, repeat.Post, each-below t, each.Post, define-below t, define.Post, wide32-reads.Asked, wide32-reads.Learnt, simple-reads.Asked, simple-reads.Learnt, end-of-reads.Asked, end-of-reads.Learnt) (tc-stmt-at t) tc-stmt.Post
 tc-stmt-each-requires t c κs =
-    (omega (arith, c .before .before .before .before .before .before .before .before .before .pre .0, (some-depth ((c .before .before .before .before .before .before .before .before .before .pre .1 .1 .0) .ready .sound) (c .before .before .before .before .before .before .before .before .before .pre .1 .1 .1))), ((c .before .before .before .before .before .before .before .before .before .pre .1 .0), ((c .before .before .before .before .before .before .before .before .before .pre .1 .1 .0), stmt-here ((c .before .before .before .before .before .before .before .before .before .pre .1 .1 .0) .ready .sound) (c .before .before .before .before .before .before .before .before .before .pre .1 .1 .1) (sym (c .before .before .before .before .match .keys3) ∙ (ap (λ d. d .kind) (c .before .before .before .before .before .before .next .ensures .node))))))
+    (omega (arith, c .before .before .before .before .before .before .before .before .before .pre .0, (shallow ((c .before .before .before .before .before .before .before .before .before .pre .1 .1 .0) .ready .sound) (c .before .before .before .before .before .before .before .before .before .pre .1 .1 .1))), ((c .before .before .before .before .before .before .before .before .before .pre .1 .0), ((c .before .before .before .before .before .before .before .before .before .pre .1 .1 .0), stmt-here ((c .before .before .before .before .before .before .before .before .before .pre .1 .1 .0) .ready .sound) (c .before .before .before .before .before .before .before .before .before .pre .1 .1 .1) (sym (c .before .before .before .before .match .keys3) ∙ (ap (λ d. d .kind) (c .before .before .before .before .before .before .next .ensures .node))))))
 
 tc-stmt-define-requires : (t : ℕ) → tc-stmt-lts.Need-define-requires (next-reads.Asked, next-reads.Learnt, choices-below t, choices.Post, repeat-below t, repeat.Post, each-below t, each.Post, define-below t, define.Post, wide32-reads.Asked, wide32-reads.Learnt, simple-reads.Asked, simple-reads.Learnt, end-of-reads.Asked, end-of-reads.Learnt) (tc-stmt-at t) tc-stmt.Post
 tc-stmt-define-requires t c κs =
-    (omega (arith, c .before .before .before .before .before .before .before .before .before .pre .0, (some-depth ((c .before .before .before .before .before .before .before .before .before .pre .1 .1 .0) .ready .sound) (c .before .before .before .before .before .before .before .before .before .pre .1 .1 .1))), ((c .before .before .before .before .before .before .before .before .before .pre .1 .0), ((c .before .before .before .before .before .before .before .before .before .pre .1 .1 .0), stmt-here ((c .before .before .before .before .before .before .before .before .before .pre .1 .1 .0) .ready .sound) (c .before .before .before .before .before .before .before .before .before .pre .1 .1 .1) (sym (c .before .before .before .before .match .keys4) ∙ (ap (λ d. d .kind) (c .before .before .before .before .before .before .next .ensures .node))))))
+    (omega (arith, c .before .before .before .before .before .before .before .before .before .pre .0, (shallow ((c .before .before .before .before .before .before .before .before .before .pre .1 .1 .0) .ready .sound) (c .before .before .before .before .before .before .before .before .before .pre .1 .1 .1))), ((c .before .before .before .before .before .before .before .before .before .pre .1 .0), ((c .before .before .before .before .before .before .before .before .before .pre .1 .1 .0), stmt-here ((c .before .before .before .before .before .before .before .before .before .pre .1 .1 .0) .ready .sound) (c .before .before .before .before .before .before .before .before .before .pre .1 .1 .1) (sym (c .before .before .before .before .match .keys4) ∙ (ap (λ d. d .kind) (c .before .before .before .before .before .before .next .ensures .node))))))
 
 tc-stmt-element-copy-out-wide32 : (t : ℕ) → tc-stmt-lts.Need-element-copy-out-wide32 (next-reads.Asked, next-reads.Learnt, choices-below t, choices.Post, repeat-below t, repeat.Post, each-below t, each.Post, define-below t, define.Post, wide32-reads.Asked, wide32-reads.Learnt, simple-reads.Asked, simple-reads.Learnt, end-of-reads.Asked, end-of-reads.Learnt) (tc-stmt-at t) tc-stmt.Post
 tc-stmt-element-copy-out-wide32 t c = search needs

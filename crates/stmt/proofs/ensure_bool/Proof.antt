@@ -1,6 +1,6 @@
 -- `stmt::ensure_bool` meets its contract: each way out is one law of Leaves.
 use Rattle.state.proofs.Noting.{kept-as, kept-noting, kept-ok, kept-trans, outcome-apart, refused-kept}
-use Rattle.stmt.proofs.Laws.{assigned-any}
+use Rattle.targets.proofs.Endings.{assigned-well}
 use Rattle.stmt.proofs.Cells.{assigned-refused, checks-err, checks-ok, small-node}
 use Rattle.stmt.proofs.Leaves.{condition-bad, condition-done, condition-other}
 use mathlib.Core.Path.{refl}
@@ -46,7 +46,7 @@ same-length-3 c = search needs
 
 returns-3 : tie.Need-returns-3
 returns-3 c =
-    (assigned-any refl refl (condition-done (c .before .before .before .before .before .before .before .before .before .before .before .before .pre .1 .0) (c .before .before .before .before .before .before .before .before .before .before .before .before .pre .1 .1) (checks-ok _ (c .before .before .v .given .1) (c .before .before .before .before .before .before .tc-expr .ensures .0)) refl (c .if1 .left)), kept-ok (λ e. outcome-apart e) (c .before .before .before .before .before .before .tc-expr .ensures .1))
+    (assigned-well refl refl (condition-done (c .before .before .before .before .before .before .before .before .before .before .before .before .pre .1 .0) (c .before .before .before .before .before .before .before .before .before .before .before .before .pre .1 .1) (checks-ok _ (c .before .before .v .given .1) (c .before .before .before .before .before .before .tc-expr .ensures .0)) refl (c .if1 .left)), kept-ok (λ e. outcome-apart e) (c .before .before .before .before .before .before .tc-expr .ensures .1))
 
 pub ensure-bool-spec : {M : Type 1} → statement M
 ensure-bool-spec =

@@ -1,6 +1,6 @@
 -- `stmt::evaluate` meets its contract: each way out is one law of Leaves.
 use Rattle.state.proofs.Noting.{kept-as, kept-ok, outcome-apart}
-use Rattle.stmt.proofs.Laws.{assigned-any}
+use Rattle.targets.proofs.Endings.{assigned-well}
 use Rattle.stmt.proofs.Cells.{checks-err, checks-ok}
 use Rattle.stmt.proofs.Leaves.{evaluate-bad, evaluate-done}
 use mathlib.Core.Path.{refl}
@@ -33,7 +33,7 @@ same-length-2 c = search needs
 
 returns-2 : tie.Need-returns-2
 returns-2 c =
-    (assigned-any refl refl (evaluate-done (c .before .before .before .before .before .before .before .before .before .before .pre .1 .0) (c .before .before .before .before .before .before .before .before .before .before .pre .1 .1) (checks-ok _ (c .enum-told .given .1) (c .before .before .before .before .tc-expr .ensures .0)) refl), kept-ok (λ e. outcome-apart e) (c .before .before .before .before .tc-expr .ensures .1))
+    (assigned-well refl refl (evaluate-done (c .before .before .before .before .before .before .before .before .before .before .pre .1 .0) (c .before .before .before .before .before .before .before .before .before .before .pre .1 .1) (checks-ok _ (c .enum-told .given .1) (c .before .before .before .before .tc-expr .ensures .0)) refl), kept-ok (λ e. outcome-apart e) (c .before .before .before .before .tc-expr .ensures .1))
 
 pub evaluate-spec : {M : Type 1} → statement M
 evaluate-spec =
