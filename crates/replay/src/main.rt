@@ -26,6 +26,7 @@ use words::get_word;
 use words::put;
 use words::same;
 use words::text;
+use words::wide8;
 
 // Room for a line: what stands around its message has fewer than 128 bytes.
 const LINE: usize = MESSAGE_BUFFER + 128;
@@ -53,13 +54,6 @@ const KEPT: u64 = 16777216;
 // The digits of a checksum.
 const DIGITS: usize = 16;
 
-// As a call of its own, a byte asks no proof that it fits.
-fn wide(b: u8) -> u64
-    ensures { λ r. ⌜ (r ≡ b) × (r < 256) ⌝ }
-{
-    b as u64
-}
-
 // The product by FNV's prime modulo 2^64: the numbers that wrap are sums alone.
 fn times_prime(h: u64) -> u64
     ensures { λ r. ⌜ r ≡ h * 1099511628211 % 2 ^ 64 ⌝ }
@@ -76,7 +70,7 @@ fn fnv(s: &[u8]) -> u64
     let mut h = OFFSET_BASIS;
     let mut i = 0;
     while i < s.len() {
-        h = times_prime(h ^ wide(s[i]));
+        h = times_prime(h ^ wide8(s[i]) as u64);
         i += 1;
     }
     h

@@ -11,7 +11,7 @@ use Rattle.replay.proofs.fnv.Tie as tie
 use Rattle.replay.proofs.fnv.Reads as reads
 use Rattle.replay.proofs.fnv.Lts as lts
 use Rattle.replay.proofs.times_prime.Reads as times-prime-reads
-use Rattle.replay.proofs.wide.Reads as wide-reads
+use Rattle.words.proofs.wide8.Reads as wide8-reads
 
 abbrev Inv-loop : tie.InvT-loop
 Inv-loop s h₀ i₀ h i = (i ≤ length s) × (fnvFrom h (drop i s) ≡ fnvOf s)
@@ -23,11 +23,14 @@ loop-holds : tie.Need-loop-holds Inv-loop μ-loop
 loop-holds c =
     (search needs, sum-all (c .before .args .s .now))
 
-shared-slice-read-wide : tie.Need-shared-slice-read-wide Inv-loop μ-loop
-shared-slice-read-wide c = search needs
+shared-slice-read-wide8 : tie.Need-shared-slice-read-wide8 Inv-loop μ-loop
+shared-slice-read-wide8 c = search needs
 
-wide-requires : tie.Need-wide-requires Inv-loop μ-loop
-wide-requires c κs = search needs
+wide8-requires : tie.Need-wide8-requires Inv-loop μ-loop
+wide8-requires c κs = search needs
+
+cast-times-prime : tie.Need-cast-times-prime Inv-loop μ-loop
+cast-times-prime c = search needs
 
 times-prime-requires : tie.Need-times-prime-requires Inv-loop μ-loop
 times-prime-requires c κs = search needs
@@ -41,7 +44,7 @@ loop-less c = search needs
 loop-again : tie.Need-loop-again Inv-loop μ-loop
 loop-again c =
     let a = c .before .before .before .before .before .before .args in
-    (search needs, rw (c .times-prime .ensures, c .before .wide .ensures .0) (sym (sum-more (a .s .now) (c .before .before .before .before .loop .h) (c .before .before .before .before .loop .i) (omega arith)) ∙ c .before .before .before .before .loop .inv .1))
+    (search needs, rw (c .times-prime .ensures, c .before .wide8 .ensures .0) (sym (sum-more (a .s .now) (c .before .before .before .before .loop .h) (c .before .before .before .before .loop .i) (omega arith)) ∙ c .before .before .before .before .loop .inv .1))
 
 returns : tie.Need-returns Inv-loop μ-loop
 returns c =
@@ -49,4 +52,4 @@ returns c =
 
 pub fnv-spec : {M : Type 1} → statement M
 fnv-spec =
-    tie.close (tie.spec Inv-loop μ-loop loop-holds shared-slice-read-wide wide-requires times-prime-requires add-i loop-less loop-again returns)
+    tie.close (tie.spec Inv-loop μ-loop loop-holds shared-slice-read-wide8 wide8-requires cast-times-prime times-prime-requires add-i loop-less loop-again returns)
