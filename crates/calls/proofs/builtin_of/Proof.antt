@@ -1,3 +1,4 @@
+-- The answers stand by name in answers/builtin_of.txt.
 use Rattle.meaning.specs.Base.{bytes}
 use Rattle.calls.proofs.Builtins.{builtins, row-is, row-not, no-rows, chosen}
 use borrow.Author.Needs.{needs}

@@ -1,3 +1,4 @@
+-- The answers stand by name in answers/plan_of.txt.
 use Rattle.image.proofs.Records.{head-long}
 use Rattle.calls.proofs.Plans.{plan-builtin, plan-37, plan-function, plan-38, plan-none, plan-other}
 use native.Mathlib.Omega.{arith}

@@ -1,3 +1,4 @@
+-- The answers stand by name in answers/accept.txt.
 use mathlib.Core.Path.{refl}
 use Rattle.checker.proofs.Ends.{accept-listing, accepted, short}
 use native.Mathlib.Omega.{arith}

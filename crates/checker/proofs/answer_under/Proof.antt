@@ -1,5 +1,5 @@
--- `checker::answer_under` meets its contract: the walk's answer for a well-formed image, or the judge's refusal. The answers stand by name
--- in answers/answer_under.txt.
+-- The answers stand by name in answers/answer_under.txt: the walk's answer for a well-formed image, or the judge's
+-- refusal.
 use mathlib.Core.Path.{refl, sym, ap, _∙_}
 use Rattle.image.specs.Outcome.{faultOf}
 use Rattle.image.proofs.Answers.{judged-sound}

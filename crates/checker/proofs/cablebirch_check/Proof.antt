@@ -1,3 +1,4 @@
+-- The answers stand by name in answers/cablebirch_check.txt.
 use Rattle.checker.proofs.Outcomes.{replies}
 use native.Mathlib.Omega.{arith}
 use borrow.Author.Needs.{needs}

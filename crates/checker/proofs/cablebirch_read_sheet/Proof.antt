@@ -1,3 +1,4 @@
+-- The answers stand by name in answers/cablebirch_read_sheet.txt.
 use mathlib.Core.Path.{refl, sym, ap, _∙_}
 use Rattle.checker.specs.Answers.{readingNumbers}
 use Rattle.checker.proofs.Sheets.{read-code}

@@ -1,3 +1,4 @@
+-- The answers stand by name in answers/cablebirch_write_sheet.txt.
 use Rattle.checker.proofs.Sheets.{relays}
 use native.Mathlib.Omega.{arith}
 use borrow.Author.Needs.{needs}

@@ -1,5 +1,4 @@
--- `checker::check` meets its contract: the answer under the setting that the number names, or 13. The answers stand by name in
--- answers/check.txt.
+-- The answers stand by name in answers/check.txt: the answer under the setting that the number names, or 13.
 use Rattle.checker.proofs.Outcomes.{answers-plain, answers-strict, answers-none}
 use native.Mathlib.Omega.{arith}
 use borrow.Author.Needs.{needs}

@@ -1,3 +1,4 @@
+-- The answers stand by name in answers/refuse.txt.
 use mathlib.Core.Path.{refl}
 use Rattle.checker.proofs.Ends.{refuse-there, refuse-tells, refused}
 use native.Mathlib.Omega.{arith}

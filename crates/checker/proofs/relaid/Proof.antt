@@ -1,3 +1,4 @@
+-- The answers stand by name in answers/relaid.txt.
 use mathlib.Core.Path.{refl, sym, ap, _∙_}
 use Rattle.checker.specs.Answers.{rewritingNumbers}
 use native.Mathlib.Omega.{arith}

@@ -1,4 +1,4 @@
--- `checker::replied` meets its contract: the numbers of each case. The answers stand by name in answers/replied.txt.
+-- The answers stand by name in answers/replied.txt: the numbers of each case.
 use mathlib.Core.Path.{sym, ap, _∙_}
 use Rattle.checker.specs.Answers.{numbersOf}
 use native.Mathlib.Omega.{arith}

@@ -1,4 +1,4 @@
--- `checker::walk_image` meets its contract: the size by the number of nodes.
+-- The answers stand by name in answers/walk_image.txt: the size by the number of nodes.
 use Rattle.meaning.proofs.Faults.{sizes}
 use Rattle.image.proofs.Records.{head-long}
 use native.Mathlib.Omega.{arith}

@@ -1,4 +1,4 @@
--- `checker::walk_in` meets its contract: the walk from the plain types and no name on.
+-- The answers stand by name in answers/walk_in.txt: the walk from the plain types and no name on.
 use Rattle.checker.proofs.Lending.{lent-started}
 use Rattle.checker.proofs.Outcomes.{ran-accepting, answers-accepted, answers-deep, ran-refusing, answers-refused}
 use Rattle.stmt.proofs.Cells.{ended-done, ended-deep}

@@ -1,3 +1,4 @@
+-- The answers stand by name in answers/cycle.txt.
 use Rattle.state.proofs.Noting.{same-tab}
 use mathlib.Core.Logic.{⊎-elim, inl, inr}
 use Rattle.expr.proofs.Arms.{above-27, lambda-done}

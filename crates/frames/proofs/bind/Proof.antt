@@ -1,3 +1,4 @@
+-- The answers stand by name in answers/bind.txt.
 use Rattle.frames.proofs.Laws.{bound}
 use native.Mathlib.Omega.{arith}
 use borrow.Author.Needs.{needs}

@@ -1,3 +1,4 @@
+-- The answers stand by name in answers/held_in.txt.
 use Rattle.frames.proofs.Laws.{held-none, held-some}
 use native.Mathlib.Omega.{arith}
 use borrow.Author.Needs.{needs}

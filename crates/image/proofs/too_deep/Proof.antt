@@ -1,4 +1,4 @@
--- `image::too_deep` meets its contract.
+-- The answers stand by name in answers/too_deep.txt.
 use mathlib.Core.Path.{sym}
 use Rattle.meaning.proofs.Nesting.{nodes-many}
 use Rattle.image.proofs.Depth.{few-shallow}

@@ -1,4 +1,4 @@
--- `line::accepted_line` meets its contract: its three pieces are the line. The answers stand by name in answers/accepted_line.txt.
+-- The answers stand by name in answers/accepted_line.txt: its three pieces are the line.
 use mathlib.Core.Path.{_∙_}
 use Rattle.meaning.specs.Base.{bytes}
 use Rattle.line.proofs.Pieces.{wrote, accepted-wrote}

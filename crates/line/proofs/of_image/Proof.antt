@@ -1,4 +1,4 @@
--- `line::of_image` meets its contract: the line is that of the check's answer. The answers stand by name in answers/of_image.txt.
+-- The answers stand by name in answers/of_image.txt: the line is that of the check's answer.
 use Rattle.line.proofs.Answered.{place-near, sheet-in, message-in, printable, lined}
 use native.Mathlib.Omega.{arith}
 use borrow.Author.Needs.{needs}

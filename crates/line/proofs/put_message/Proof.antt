@@ -1,4 +1,4 @@
--- `line::put_message` meets its contract. The answers stand by name in answers/put_message.txt.
+-- The answers stand by name in answers/put_message.txt.
 use Rattle.meaning.specs.Base.{bytes}
 use Rattle.line.proofs.Pieces.{wrote, dash, no-dash}
 use native.Mathlib.Omega.{arith}

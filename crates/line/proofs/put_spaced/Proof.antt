@@ -1,4 +1,4 @@
--- `line::put_spaced` meets its contract: a space and a number are one piece. The answers stand by name in answers/put_spaced.txt.
+-- The answers stand by name in answers/put_spaced.txt: a space and a number are one piece.
 use Rattle.meaning.specs.Base.{bytes}
 use Rattle.line.proofs.Pieces.{number-fits, number-wrote, number-ends}
 use native.Mathlib.Omega.{arith}

@@ -1,4 +1,4 @@
--- `line::put_three` meets its contract: three numbers are one piece. The answers stand by name in answers/put_three.txt.
+-- The answers stand by name in answers/put_three.txt: three numbers are one piece.
 use Rattle.line.proofs.Pieces.{three-wrote}
 use native.Mathlib.Omega.{arith}
 use Rattle.line.proofs.put_three.Statement.{statement}

@@ -1,4 +1,4 @@
--- `line::refused_line` meets its contract: its six pieces are the line. The answers stand by name in answers/refused_line.txt.
+-- The answers stand by name in answers/refused_line.txt: its six pieces are the line.
 use mathlib.Core.Path.{_∙_}
 use Rattle.meaning.specs.Base.{bytes}
 use Rattle.line.proofs.Pieces.{wrote, refused-wrote}

@@ -1,4 +1,4 @@
--- `line::write` meets its contract: code 0 alone is accepted. The answers stand by name in answers/write.txt.
+-- The answers stand by name in answers/write.txt: code 0 alone is accepted.
 use Rattle.line.proofs.Pieces.{accepted-whole, refused-whole}
 use native.Mathlib.Omega.{arith}
 use Rattle.line.proofs.write.Statement.{statement}

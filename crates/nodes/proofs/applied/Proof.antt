@@ -1,3 +1,4 @@
+-- The answers stand by name in answers/applied.txt.
 use Rattle.nodes.proofs.Deciding.{first-names, judged-by-number}
 use native.Mathlib.Omega.{arith}
 use borrow.Author.Needs.{needs}

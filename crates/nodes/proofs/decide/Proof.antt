@@ -1,3 +1,4 @@
+-- The answers stand by name in answers/decide.txt.
 use Rattle.image.proofs.Moving.{stops}
 use Rattle.meaning.proofs.Nesting.{within}
 use Rattle.nodes.proofs.Deciding.{decidable-as, decided-given, decided-kept, few, given-node, index-asks, index-decides, index-inside, index-placed, index-room, kind-as, other-given, tuple-given, unary-asks, unary-decides, unary-room}

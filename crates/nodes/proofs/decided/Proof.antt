@@ -1,3 +1,4 @@
+-- The answers stand by name in answers/decided.txt.
 use Rattle.state.proofs.Noting.{settled-refused, settled-type}
 use native.Mathlib.Omega.{arith}
 use borrow.Author.Needs.{needs}

@@ -1,3 +1,4 @@
+-- The answers stand by name in answers/first_code.txt.
 use Rattle.meaning.specs.Base.{if_then_else_}
 use Rattle.nodes.specs.Operands.{firstCode}
 use native.Mathlib.Omega.{arith}

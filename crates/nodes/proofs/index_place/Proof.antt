@@ -1,3 +1,4 @@
+-- The answers stand by name in answers/index_place.txt.
 use Rattle.meaning.specs.Base.{if_then_else_}
 use Rattle.rules.specs.Leaves.{indexPlace}
 use borrow.Author.Tests.{eq-eqb, ne-eqb}

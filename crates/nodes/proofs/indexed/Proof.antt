@@ -1,3 +1,4 @@
+-- The answers stand by name in answers/indexed.txt.
 use Rattle.nodes.proofs.Deciding.{indexed-at}
 use native.Mathlib.Omega.{arith}
 use borrow.Author.Needs.{needs}

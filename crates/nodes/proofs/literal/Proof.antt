@@ -1,3 +1,4 @@
+-- The answers stand by name in answers/literal.txt.
 use Rattle.nodes.specs.Operands.{literalNumber}
 use Rattle.nodes.proofs.Laws.{literal-other}
 use Rattle.nodes.proofs.literal.Statement.{statement}

@@ -1,3 +1,4 @@
+-- The answers stand by name in answers/operated.txt.
 use Rattle.nodes.proofs.Deciding.{operated}
 use Rattle.rules.proofs.Outcomes.{known}
 use native.Mathlib.Omega.{arith}

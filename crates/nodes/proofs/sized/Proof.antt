@@ -1,3 +1,4 @@
+-- The answers stand by name in answers/sized.txt.
 use Rattle.nodes.proofs.Deciding.{judged}
 use native.Mathlib.Omega.{arith}
 use borrow.Author.Needs.{needs}

@@ -1,3 +1,4 @@
+-- The answers stand by name in answers/streamed.txt.
 use Rattle.nodes.proofs.Deciding.{streams-gives, streams-small}
 use Rattle.state.proofs.Noting.{counted-noting}
 use native.Mathlib.Omega.{arith}

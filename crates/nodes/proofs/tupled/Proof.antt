@@ -1,3 +1,4 @@
+-- The answers stand by name in answers/tupled.txt.
 use Rattle.meaning.specs.Types.{tuple, tys}
 use Rattle.state.proofs.Noting.{counted-kept, made-noted}
 use Rattle.types.specs.Table.{denote}

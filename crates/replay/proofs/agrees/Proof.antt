@@ -1,4 +1,4 @@
--- `replay::agrees` meets its contract. The answers stand by name in answers/agrees.txt.
+-- The answers stand by name in answers/agrees.txt.
 use mathlib.Core.Path.{sym, ap, _∙_}
 use mathlib.Core.List.{List}
 use Prim.Native.Nat.{ℕ}

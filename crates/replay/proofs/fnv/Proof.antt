@@ -1,4 +1,4 @@
--- `replay::fnv` meets its contract: what is left to sum gives what all gives. The answers stand by name in answers/fnv.txt.
+-- The answers stand by name in answers/fnv.txt: what is left to sum gives what all gives.
 use mathlib.Core.Path.{_≡_, sym, _∙_}
 use Prim.Native.Nat.{_-_, _≤_}
 use lib.ListN.{length, drop}

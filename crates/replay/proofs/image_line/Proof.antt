@@ -1,4 +1,4 @@
--- `replay::image_line` meets its contract: the parts that it lends are as long as the rooms. The answers stand by name in answers/image_line.txt.
+-- The answers stand by name in answers/image_line.txt: the parts that it lends are as long as the rooms.
 use mathlib.Core.Path.{sym}
 use Rattle.replay.proofs.Fronts.{part-long}
 use native.Mathlib.Omega.{arith}

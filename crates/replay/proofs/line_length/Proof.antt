@@ -1,4 +1,4 @@
--- `replay::line_length` is safe, and what it tells lies inside. The answers stand by name in answers/line_length.txt.
+-- The answers stand by name in answers/line_length.txt: `replay::line_length` is safe, and what it tells lies inside.
 use Prim.Native.Nat.{_-_, _≤_}
 use lib.ListN.{length}
 use native.Mathlib.Omega.{arith}

@@ -1,4 +1,4 @@
--- `replay::line_of` meets its contract. The answers stand by name in answers/line_of.txt.
+-- The answers stand by name in answers/line_of.txt.
 use Rattle.replay.specs.Lines.{lineFor}
 use native.Mathlib.Omega.{arith}
 use borrow.Author.Needs.{needs}

@@ -1,4 +1,4 @@
--- `replay::put_checksum` meets its contract. The answers stand by name in answers/put_checksum.txt.
+-- The answers stand by name in answers/put_checksum.txt.
 use Rattle.meaning.specs.Base.{bytes}
 use Rattle.line.proofs.Pieces.{wrote}
 use Rattle.replay.proofs.Fronts.{checksum-wrote}

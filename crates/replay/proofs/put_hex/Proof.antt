@@ -1,4 +1,4 @@
--- `replay::put_hex` meets its contract: sixteen digits. The answers stand by name in answers/put_hex.txt.
+-- The answers stand by name in answers/put_hex.txt: sixteen digits.
 use Prim.Native.Nat.{_^_, _<_}
 use Rattle.replay.proofs.Fronts.{digits-fit, hex-wrote}
 use native.Mathlib.Omega.{arith}

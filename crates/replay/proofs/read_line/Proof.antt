@@ -1,4 +1,4 @@
--- `replay::read_line` meets its contract. The answers stand by name in answers/read_line.txt.
+-- The answers stand by name in answers/read_line.txt.
 use Rattle.meaning.specs.Base.{bytes}
 use Rattle.line.proofs.Pieces.{wrote}
 use Rattle.replay.proofs.Fronts.{read-wrote}

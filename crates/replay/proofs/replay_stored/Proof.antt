@@ -1,4 +1,4 @@
--- `replay::replay_stored`: the sums of four lists do not overflow. The answers stand by name in answers/replay_stored.txt.
+-- The answers stand by name in answers/replay_stored.txt: the sums of four lists do not overflow.
 use native.Mathlib.Omega.{arith}
 use borrow.Author.Needs.{needs}
 use Rattle.replay.proofs.replay_stored.Statement.{statement}

@@ -1,4 +1,4 @@
--- `replay::sheet_line` meets its contract. The answers stand by name in answers/sheet_line.txt.
+-- The answers stand by name in answers/sheet_line.txt.
 use Prim.Native.Nat.{ℕ}
 use lib.ListN.{length-replicate}
 use Rattle.replay.proofs.Fronts.{again-in, again-headed, read-fronted, refused-fronted, no-sheet}

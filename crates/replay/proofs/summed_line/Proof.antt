@@ -1,4 +1,4 @@
--- `replay::summed_line` meets its contract: the checksum takes the place of the line's end. The answers stand by name in answers/summed_line.txt.
+-- The answers stand by name in answers/summed_line.txt: the checksum takes the place of the line's end.
 use Rattle.replay.specs.Lines.{checkedLine}
 use Rattle.replay.proofs.Fronts.{some-line, sum-room, summed, fronted}
 use native.Mathlib.Omega.{arith}

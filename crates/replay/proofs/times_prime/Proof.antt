@@ -1,4 +1,4 @@
--- `replay::times_prime` meets its contract. The answers stand by name in answers/times_prime.txt.
+-- The answers stand by name in answers/times_prime.txt.
 use mathlib.Core.Path.{_∙_}
 use Rattle.replay.proofs.Sums.{product}
 use borrow.Author.Needs.{needs}

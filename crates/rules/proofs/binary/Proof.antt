@@ -1,3 +1,4 @@
+-- The answers stand by name in answers/binary.txt.
 use Rattle.types.proofs.Readers.{known-room}
 use Rattle.rules.proofs.Operations.{read-kind, binary-gives, binary-refuses, binary-equal, binary-differs}
 use native.Mathlib.Omega.{arith}

@@ -1,3 +1,4 @@
+-- The answers stand by name in answers/bound.txt.
 use Rattle.rules.proofs.Arguments.{bound-is}
 use borrow.Author.Needs.{needs}
 use Rattle.rules.proofs.bound.Statement.{statement}

@@ -1,3 +1,4 @@
+-- The answers stand by name in answers/callable.txt.
 use Rattle.rules.proofs.Arguments.{callable-is}
 use borrow.Author.Needs.{needs}
 use Rattle.rules.proofs.callable.Statement.{statement}

@@ -1,3 +1,4 @@
+-- The answers stand by name in answers/dict_step.txt.
 use Rattle.rules.proofs.Steps.{dict-key, dict-value, dict-stops}
 use borrow.Author.Needs.{needs}
 use Rattle.rules.proofs.dict_step.Statement.{statement}

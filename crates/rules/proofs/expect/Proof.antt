@@ -1,3 +1,4 @@
+-- The answers stand by name in answers/expect.txt.
 use Rattle.rules.proofs.Arguments.{expect-same, expect-unknown, expect-not}
 use borrow.Author.Needs.{needs}
 use Rattle.rules.proofs.expect.Statement.{statement}

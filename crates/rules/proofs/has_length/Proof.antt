@@ -1,3 +1,4 @@
+-- The answers stand by name in answers/has_length.txt.
 use mathlib.Core.Logic.{inl, inr}
 use Rattle.rules.proofs.Arguments.{sized-single, sized-run, sized-none}
 use Rattle.rules.proofs.has_length.Statement.{statement}

@@ -1,3 +1,4 @@
+-- The answers stand by name in answers/index.txt.
 use Rattle.types.proofs.Readers.{known-room}
 use Rattle.rules.proofs.Indexing.{known-tuple, index-unknown, index-string, index-list, index-dict, index-tuple, index-other}
 use borrow.Author.Needs.{needs}

@@ -1,3 +1,4 @@
+-- The answers stand by name in answers/iterator.txt.
 use Rattle.rules.proofs.Streaming.{asks-filter, asks-map, filter-made, map-made}
 use Rattle.rules.proofs.iterator.Statement.{statement}
 use Rattle.rules.proofs.iterator.Tie as tie

@@ -1,3 +1,4 @@
+-- The answers stand by name in answers/joined_of.txt.
 use Rattle.rules.proofs.Steps.{join-unknown, join-same, join-not}
 use Rattle.rules.proofs.joined_of.Statement.{statement}
 use Rattle.rules.proofs.joined_of.Tie as tie

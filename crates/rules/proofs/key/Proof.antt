@@ -1,3 +1,4 @@
+-- The answers stand by name in answers/key.txt.
 use Rattle.rules.proofs.Indexing.{key-same, key-unknown, key-any, key-not}
 use borrow.Author.Needs.{needs}
 use Rattle.rules.proofs.key.Statement.{statement}

@@ -1,3 +1,4 @@
+-- The answers stand by name in answers/len.txt.
 use Rattle.rules.proofs.Arguments.{sized-yes, sized-no}
 use borrow.Author.Needs.{needs}
 use Rattle.rules.proofs.len.Statement.{statement}

@@ -1,3 +1,4 @@
+-- The answers stand by name in answers/list_step.txt.
 use Rattle.rules.proofs.Steps.{list-unknown, list-same, list-stops}
 use Rattle.rules.proofs.list_step.Statement.{statement}
 use Rattle.rules.proofs.list_step.Tie as tie

@@ -1,3 +1,4 @@
+-- The answers stand by name in answers/prompt.txt.
 use Rattle.rules.proofs.Arguments.{prompt-is}
 use borrow.Author.Needs.{needs}
 use Rattle.rules.proofs.prompt.Statement.{statement}

@@ -1,3 +1,4 @@
+-- The answers stand by name in answers/second_code.txt.
 use Rattle.meaning.specs.Base.{if_then_else_}
 use Rattle.rules.specs.Leaves.{secondCode}
 use Rattle.rules.proofs.second_code.Statement.{statement}

@@ -1,3 +1,4 @@
+-- The answers stand by name in answers/stream.txt.
 use Rattle.types.proofs.Readers.{is-number}
 use Rattle.rules.proofs.Streaming.{asks-element, second-gives, second-refuses}
 use borrow.Author.Needs.{needs}

@@ -1,3 +1,4 @@
+-- The answers stand by name in answers/streamed_of.txt.
 use mathlib.Core.Logic.{inl, inr}
 use Rattle.rules.proofs.Streaming.{stream-none, stream-other}
 use native.Mathlib.Omega.{arith}

@@ -1,3 +1,4 @@
+-- The answers stand by name in answers/unary.txt.
 use Rattle.types.proofs.Readers.{known-room}
 use Rattle.rules.proofs.Operations.{read-kind, unary-gives, unary-refuses}
 use native.Mathlib.Omega.{arith}

@@ -1,3 +1,4 @@
+-- The answers stand by name in answers/refuse.txt.
 use Rattle.state.proofs.Noting.{refused-of}
 use native.Mathlib.Omega.{arith}
 use borrow.Author.Needs.{needs}

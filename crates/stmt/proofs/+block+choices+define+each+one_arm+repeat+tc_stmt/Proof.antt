@@ -1,5 +1,6 @@
--- The walk over the statements meets its contracts: the depth that is left falls. In a Block what is left ends as all of it ends; in an If
--- the branches so far are told of; the measure of both loops is what is left.
+-- The answers stand by name in answers/cycle.txt: the walk over the statements meets its contracts: the depth that is
+-- left falls. In a Block what is left ends as all of it ends; in an If the branches so far are told of; the measure of
+-- both loops is what is left.
 use Prim.Native.Nat.{_+_, _-_, _*_, _<_, ℕ}
 use Rattle.state.proofs.Noting.{kept-as, kept-noting}
 use Rattle.stmt.proofs.Laws.{done-any, drops-if, few-nodes, pair-for, pair-while, ready-nodes, second-of}

@@ -1,4 +1,4 @@
--- `stmt::after_arm` meets its contract.
+-- The answers stand by name in answers/after_arm.txt.
 use Rattle.stmt.proofs.Branching.{block-last, block-when}
 use Rattle.image.proofs.Moving.{stops}
 use native.Mathlib.Omega.{arith}

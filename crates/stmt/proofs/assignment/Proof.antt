@@ -1,4 +1,5 @@
--- `stmt::assignment` meets its contract: the value is checked in the second child's nodes, and the target in the first's.
+-- The answers stand by name in answers/assignment.txt: the value is checked in the second child's nodes, and the target
+-- in the first's.
 use Rattle.state.proofs.Noting.{kept-as, kept-noting, kept-trans}
 use Rattle.stmt.proofs.Laws.{ready-nodes, second-of}
 use Rattle.stmt.proofs.Cells.{checks-err, checks-ok}

@@ -1,4 +1,4 @@
--- `stmt::elements` meets its contract: each way out is one law of Compound.
+-- The answers stand by name in answers/elements.txt: each way out is one law of Compound.
 use Rattle.state.proofs.Noting.{kept-noting, kept-ok, kept-trans, refused-kept, typed-apart, typed-ill}
 use Rattle.stmt.proofs.Cells.{checks-ok, iterated-refused, small-node, small-type}
 use Rattle.stmt.proofs.Compound.{elements-bad, elements-done, elements-none}

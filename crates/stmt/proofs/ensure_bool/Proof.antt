@@ -1,4 +1,4 @@
--- `stmt::ensure_bool` meets its contract: each way out is one law of Leaves.
+-- The answers stand by name in answers/ensure_bool.txt: each way out is one law of Leaves.
 use Rattle.state.proofs.Noting.{kept-as, kept-noting, kept-ok, kept-trans, outcome-apart, refused-kept}
 use Rattle.targets.proofs.Endings.{assigned-well}
 use Rattle.stmt.proofs.Cells.{assigned-refused, checks-err, checks-ok, small-node}

@@ -1,4 +1,4 @@
--- `stmt::evaluate` meets its contract: each way out is one law of Leaves.
+-- The answers stand by name in answers/evaluate.txt: each way out is one law of Leaves.
 use Rattle.state.proofs.Noting.{kept-as, kept-ok, outcome-apart}
 use Rattle.targets.proofs.Endings.{assigned-well}
 use Rattle.stmt.proofs.Cells.{checks-err, checks-ok}

@@ -1,4 +1,4 @@
--- `stmt::give` meets its contract: each way out is one law of Leaves.
+-- The answers stand by name in answers/give.txt: each way out is one law of Leaves.
 use Rattle.state.proofs.Noting.{kept-as, kept-noting, outcome-apart}
 use Rattle.stmt.proofs.Laws.{done-any, typing}
 use Rattle.stmt.proofs.Cells.{agreement-from, checks-err, checks-ok, done-ends, done-refused, moved-noting, refused-from, ret-set, small-agreed, small-node, small-old, small-type, tab-moved, tells-kept, tells-ok, tells-refused}

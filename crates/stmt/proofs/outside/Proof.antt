@@ -1,4 +1,4 @@
--- `stmt::outside` meets its contract.
+-- The answers stand by name in answers/outside.txt.
 use Rattle.stmt.proofs.Cells.{outside-ill, outside-well}
 use native.Mathlib.Omega.{arith}
 use borrow.Author.Needs.{needs}

@@ -1,4 +1,5 @@
--- `stmt::parameters` meets its contract: the parameters before the cursor are bound; the measure is how many are left.
+-- The answers stand by name in answers/parameters.txt: the parameters before the cursor are bound; the measure is how
+-- many are left.
 use Rattle.stmt.proofs.Leaves.{Entering, entering-end, entering-first, entering-here, entering-last, entering-next}
 use Rattle.image.proofs.Moving.{stops}
 use Rattle.meaning.specs.Image.{nodesFrom}

@@ -1,4 +1,4 @@
--- `stmt::simple` meets its contract: one law for each kind of statement.
+-- The answers stand by name in answers/simple.txt: one law for each kind of statement.
 use Rattle.state.proofs.Noting.{outcome-apart}
 use Rattle.stmt.proofs.Laws.{done-any, one-child, pair-assign, ready-nodes}
 use Rattle.stmt.proofs.Cells.{done-ends, done-settled, small-node, tells-ok, tells-outside, tells-typing}

@@ -1,3 +1,4 @@
+-- The answers stand by name in answers/typecheck_program.txt.
 use Rattle.stmt.proofs.Cells.{end-handed, tells-refuses, done-refuses}
 use Prim.Native.Nat.{_+_}
 use Rattle.stmt.proofs.Cells.{end-other, end-well, moved-noting, ran-as, ret-clear, standing-as, standing-nodes, tab-moved, walked-from}

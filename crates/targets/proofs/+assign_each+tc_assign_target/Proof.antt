@@ -1,3 +1,4 @@
+-- The answers stand by name in answers/cycle.txt.
 use Rattle.expr.proofs.Rows.{few-nodes}
 use Rattle.image.proofs.Moving.{parent-of, stops}
 use Rattle.rules.proofs.Outcomes.{known}

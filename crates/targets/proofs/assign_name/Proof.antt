@@ -1,3 +1,4 @@
+-- The answers stand by name in answers/assign_name.txt.
 use Rattle.state.proofs.Noting.{settled-ill, settled-well}
 use Rattle.targets.proofs.Naming.{fits-cell, name-differs, name-written}
 use native.Mathlib.Omega.{arith}

@@ -1,3 +1,4 @@
+-- The answers stand by name in answers/check_only.txt.
 use Rattle.state.proofs.Noting.{kept-as, kept-ok, outcome-apart, typed-well}
 use Rattle.targets.proofs.Endings.{assigned-well}
 use Rattle.targets.proofs.Singles.{only-checked}

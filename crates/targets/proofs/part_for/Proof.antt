@@ -1,3 +1,4 @@
+-- The answers stand by name in answers/part_for.txt.
 use Rattle.targets.proofs.Unpacking.{sharing-room, sharing-element, share-part, share-element, share-unknown}
 use native.Mathlib.Omega.{arith}
 use Rattle.targets.proofs.part_for.Statement.{statement}

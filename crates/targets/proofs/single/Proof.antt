@@ -1,3 +1,4 @@
+-- The answers stand by name in answers/single.txt.
 use Rattle.expr.proofs.Rows.{few-nodes}
 use Rattle.state.proofs.Noting.{settled-ill}
 use Rattle.targets.proofs.Answers.{settled-ends}

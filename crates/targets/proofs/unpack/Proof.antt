@@ -1,3 +1,4 @@
+-- The answers stand by name in answers/unpack.txt.
 use Rattle.types.proofs.Readers.{known-room}
 use Rattle.state.proofs.Noting.{settled-ill, settled-well}
 use Rattle.targets.proofs.Unpacking.{known-count, unpacks-any, unpacks-not, unpacks-other, unpacks-tuple}

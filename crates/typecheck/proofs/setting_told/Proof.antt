@@ -1,4 +1,4 @@
--- `typecheck::setting_told` meets its contract. The answers stand by name in answers/setting_told.txt.
+-- The answers stand by name in answers/setting_told.txt.
 use mathlib.Core.Path.{sym, _∙_}
 use Rattle.meaning.specs.Base.{bytes}
 use Rattle.typecheck.proofs.Words.{no-word, more-words, is-plain, is-strict, is-neither}

@@ -1,4 +1,4 @@
--- `types::add` meets its contract: a record, its link and its slot are written.
+-- The answers stand by name in answers/add.txt: a record, its link and its slot are written.
 use lib.ListN.{length-set}
 use Rattle.types.proofs.Writing.{added}
 use native.Mathlib.Omega.{arith}

@@ -1,4 +1,4 @@
--- `types::agreed` meets its contract: each branch is one law of Answers.
+-- The answers stand by name in answers/agreed.txt: each branch is one law of Answers.
 use Rattle.types.proofs.Answers.{agree-unknown, agree-same, agree-old, agree-not}
 use Rattle.types.proofs.agreed.Statement.{statement}
 use Rattle.types.proofs.agreed.Tie as tie

@@ -1,4 +1,4 @@
--- `types::alike` meets its contract: the numbers passed are equal; the measure is what is left.
+-- The answers stand by name in answers/alike.txt: the numbers passed are equal; the measure is what is left.
 use Rattle.types.proofs.Searching.{told-no, told-yes}
 use Rattle.types.specs.Steps.{Equal}
 use borrow.Author.Count.{below-more}

@@ -1,4 +1,4 @@
--- `types::base` meets its contract: the room for records comes first.
+-- The answers stand by name in answers/base.txt: the room for records comes first.
 use mathlib.Core.Path.{refl}
 use Rattle.types.specs.Table.{capacity}
 use borrow.Author.Needs.{needs}

@@ -1,4 +1,4 @@
--- `types::common_of` meets its contract: its two cells and the shared number are what the law asks.
+-- The answers stand by name in answers/common_of.txt: its two cells and the shared number are what the law asks.
 use Prim.Native.Nat.{_+_}
 use Rattle.types.proofs.Room.{capacity-within}
 use Rattle.types.proofs.Sharing.{common-told}

@@ -1,4 +1,4 @@
--- `types::copy` meets its contract: the elements passed are written; the measure is what is left.
+-- The answers stand by name in answers/copy.txt: the elements passed are written; the measure is what is left.
 use Rattle.types.proofs.Tuples.{copied-none, copied-more}
 use Rattle.types.specs.Steps.{Copied}
 use Prim.Native.Nat.{_≤_, _-_}

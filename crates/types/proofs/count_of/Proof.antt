@@ -1,4 +1,4 @@
--- `types::count_of` meets its contract: the cell is the count.
+-- The answers stand by name in answers/count_of.txt: the cell is the count.
 use Rattle.types.proofs.Room.{capacity-within}
 use Rattle.types.proofs.Readers.{count-told}
 use native.Mathlib.Omega.{arith}

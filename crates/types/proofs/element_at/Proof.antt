@@ -1,4 +1,4 @@
--- `types::element_at` meets its contract: the two cells are what the law asks.
+-- The answers stand by name in answers/element_at.txt: the two cells are what the law asks.
 use Rattle.types.proofs.Room.{capacity-within}
 use Rattle.types.proofs.Readers.{element-told}
 use native.Mathlib.Omega.{arith}

@@ -1,4 +1,4 @@
--- `types::element_of` meets its contract: each branch is one law of Walks.
+-- The answers stand by name in answers/element_of.txt: each branch is one law of Walks.
 use Rattle.types.proofs.Room.{capacity-within}
 use Rattle.types.proofs.Walks.{walk-tuple, walk-part, walk-unknown, walk-string, walk-range, walk-not}
 use mathlib.Core.Path.{sym, _∙_}

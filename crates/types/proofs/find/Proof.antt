@@ -1,4 +1,5 @@
--- `types::find` meets its contract: no record passed is the one; the measure is the number, since links lead to lower ones.
+-- The answers stand by name in answers/find.txt: no record passed is the one; the measure is the number, since links
+-- lead to lower ones.
 use Rattle.types.proofs.Room.{capacity-within, slots-within}
 use Rattle.types.proofs.Searching.{passed-none, passed-more, found-here, found-none}
 use Rattle.types.specs.Steps.{RecordAt, Passed}

@@ -1,4 +1,5 @@
--- `types::find_tuple` meets its contract: no record passed is the Tuple; the measure is the number, since links lead to lower ones.
+-- The answers stand by name in answers/find_tuple.txt: no record passed is the Tuple; the measure is the number, since
+-- links lead to lower ones.
 use Rattle.types.proofs.Room.{capacity-within, slots-within}
 use Rattle.types.proofs.Readers.{is-number}
 use Rattle.types.proofs.Chains.{chains-of}

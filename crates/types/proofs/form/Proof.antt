@@ -1,4 +1,4 @@
--- `types::form` meets its contract: the record was found, or it is added at the end.
+-- The answers stand by name in answers/form.txt: the record was found, or it is added at the end.
 use Rattle.types.proofs.Chains.{chains-of, record-slot}
 use Rattle.types.proofs.Searching.{form-slot, add-room}
 use Rattle.types.proofs.Forming.{form-old, form-new}

@@ -1,4 +1,5 @@
--- `types::hash_of` meets its contract: the hash of the numbers passed, with those that are left, comes to the whole's.
+-- The answers stand by name in answers/hash_of.txt: the hash of the numbers passed, with those that are left, comes to
+-- the whole's.
 use Rattle.types.proofs.Chains.{Hashing, hashing-none, hashing-more, hashing-all}
 use Prim.Native.Nat.{_≤_, _-_}
 use native.Mathlib.Omega.{arith}

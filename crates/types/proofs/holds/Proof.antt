@@ -1,4 +1,4 @@
--- `types::holds` meets its contract: the first cell that differs tells.
+-- The answers stand by name in answers/holds.txt: the first cell that differs tells.
 use Rattle.types.proofs.Searching.{told-no, told-yes}
 use borrow.Author.Needs.{needs}
 use Rattle.types.proofs.holds.Statement.{statement}

@@ -1,4 +1,4 @@
--- `types::kind_of` meets its contract: the cell is the kind.
+-- The answers stand by name in answers/kind_of.txt: the cell is the kind.
 use Rattle.types.proofs.Room.{capacity-within}
 use Rattle.types.proofs.Readers.{kind-told}
 use native.Mathlib.Omega.{arith}

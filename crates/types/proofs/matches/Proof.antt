@@ -1,4 +1,4 @@
--- `types::matches` meets its contract: kind, count and elements, one after the other, tell.
+-- The answers stand by name in answers/matches.txt: kind, count and elements, one after the other, tell.
 use Rattle.types.proofs.Room.{capacity-within}
 use Rattle.types.proofs.Searching.{told-no}
 use Rattle.types.proofs.Tuples.{tuple-told}

@@ -1,4 +1,4 @@
--- `types::mixed` meets its contract: a remainder by 4093 is below it.
+-- The answers stand by name in answers/mixed.txt: a remainder by 4093 is below it.
 use Rattle.types.specs.Table.{step}
 use borrow.Author.Needs.{needs}
 use Rattle.types.proofs.mixed.Statement.{statement}

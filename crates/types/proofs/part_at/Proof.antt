@@ -1,4 +1,4 @@
--- The answers stand by name in answers/part_at.txt
+-- The answers stand by name in answers/part_at.txt: the answers stand by name in answers/part_at.txt
 use Rattle.types.proofs.Readers.{known-room, element-there, part-element, part-first, part-second}
 use native.Mathlib.Omega.{arith}
 use borrow.Author.Needs.{needs}

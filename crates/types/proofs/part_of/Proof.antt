@@ -1,4 +1,4 @@
--- `types::part_of` meets its contract: the cell is the first part's number.
+-- The answers stand by name in answers/part_of.txt: the cell is the first part's number.
 use Rattle.types.proofs.Room.{capacity-within}
 use Rattle.types.proofs.Readers.{first-told}
 use native.Mathlib.Omega.{arith}

@@ -1,4 +1,4 @@
--- The answers stand by name in answers/parts_of.txt
+-- The answers stand by name in answers/parts_of.txt: the answers stand by name in answers/parts_of.txt
 use Rattle.types.proofs.Readers.{many-none, many-two, many-elements, many-one}
 use native.Mathlib.Omega.{arith}
 use borrow.Author.Needs.{needs}

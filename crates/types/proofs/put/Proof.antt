@@ -1,4 +1,4 @@
--- `types::put` meets its contract: three cells are set.
+-- The answers stand by name in answers/put.txt: three cells are set.
 use lib.ListN.{length-set}
 use native.Mathlib.Omega.{arith}
 use Rattle.types.proofs.Writing.{written}

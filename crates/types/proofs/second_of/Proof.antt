@@ -1,4 +1,4 @@
--- `types::second_of` meets its contract: the cell is the second part's number.
+-- The answers stand by name in answers/second_of.txt: the cell is the second part's number.
 use Rattle.types.proofs.Room.{capacity-within}
 use Rattle.types.proofs.Readers.{second-told}
 use native.Mathlib.Omega.{arith}

@@ -1,4 +1,5 @@
--- `types::shared_of` meets its contract: what is left answers what all but the first answer; the measure is what is left.
+-- The answers stand by name in answers/shared_of.txt: what is left answers what all but the first answer; the measure
+-- is what is left.
 use Rattle.types.proofs.Sharing.{Sharing, share-first, share-more, share-not, share-all}
 use Rattle.types.specs.Reading.{shared}
 use lib.ListN.{take, drop}

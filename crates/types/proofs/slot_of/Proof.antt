@@ -1,4 +1,4 @@
--- `types::slot_of` meets its contract: slots come behind the room for records and elements.
+-- The answers stand by name in answers/slot_of.txt: slots come behind the room for records and elements.
 use mathlib.Core.Path.{refl}
 use native.Mathlib.Nat.{mod-lt}
 use Rattle.types.specs.Table.{capacity, slotOf}

@@ -1,4 +1,4 @@
--- `types::start` meets its contract: the records passed are plain types'; the measure is what is left.
+-- The answers stand by name in answers/start.txt: the records passed are plain types'; the measure is what is left.
 use lib.ListN.{length}
 use Rattle.types.proofs.Room.{capacity-within}
 use Rattle.types.proofs.Writing.{started-none, started-more, started-wf}

@@ -1,4 +1,4 @@
--- `types::tuple_of` meets its contract: the record was found, or elements and record are added at the end.
+-- The answers stand by name in answers/tuple_of.txt: the record was found, or elements and record are added at the end.
 use Rattle.types.proofs.Room.{capacity-within}
 use Rattle.types.proofs.Searching.{tuple-slot, add-room}
 use Rattle.types.proofs.Tuples.{tuple-old, tuple-new}
