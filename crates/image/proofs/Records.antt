@@ -4,30 +4,20 @@ use mathlib.Core.Bool.{true}
 use mathlib.Core.Option.{none}
 use mathlib.Core.List.{List, []}
 use Prim.Native.Nat.{ℕ, zero, suc, _+_, _-_, _*_, _<_, _≤_}
-use native.Mathlib.Nat.{add-zero, mul-zero, mul-suc, not-suc-le-zero, le-of-suc-le-suc}
+use native.Mathlib.Nat.{add-zero}
 use native.Mathlib.Omega.{arith}
 use lib.ListN.{length, getD, take, drop, List·getD-map, length-map, length-drop}
 use lib.Seq.{drop-drop, take-all}
 use borrow.Author.Tests.{leb-true}
-use Rattle.meaning.specs.Base.{_and_, choose, if_then_else_, word, records}
+use Rattle.meaning.specs.Base.{_and_, choose, if_then_else_, word}
 use Rattle.meaning.specs.Image.{nameRecord, nameRecords, textsOf, nameFrom, roleOf, namesOf, nameOf, node, nodesOf, nodeOf, nameCount, nodeCount, textCount, namesFrom, nodesFrom, textsFrom, total, headStands, brokenName}
 use Rattle.meaning.specs.Image.{Name}
 use Rattle.meaning.proofs.Choices.{and-left, records-many}
 use Rattle.meaning.proofs.Faults.{Headed, sizes}
-use Rattle.words.proofs.Laws.{word-drop, first-word}
+use Rattle.words.proofs.Laws.{word-drop, first-word, record-at}
 use Rattle.image.specs.declared.NameAt.{NameAt}
 use Rattle.image.specs.Parts.{recordOf, nameMeans}
 use Rattle.image.proofs.Searches.{names-fit}
-
--- record i of those that stand one after the other from a place on
-pub record-at : {A : Type 0} (read : List ℕ → A) (size n from : ℕ) (bs : List ℕ) (i : ℕ) (d : A) → i < n
-    → getD (records read size n (drop from bs)) i d ≡ read (drop (from + size * i) bs)
-unfolding records
-record-at read size zero from bs i d h = absurd (not-suc-le-zero h)
-record-at read size (suc n) from bs zero d h = rw (mul-zero, add-zero)
-record-at read size (suc n) from bs (suc i) d h =
-    let further : from + size * suc i ≡ from + size + size * i = omega (arith, mul-suc size i) in
-    rw (further, drop-drop) (record-at read size n (from + size) bs i d (le-of-suc-le-suc h))
 
 -- ---- nodes
 

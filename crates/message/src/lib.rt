@@ -410,26 +410,12 @@ fn pieces_of(image: &[u8], table: &[u16], counts: Counts, code: u32, a: usize, b
         codes::FUNCTION_ARITY => passed(image, a, b),
         codes::NOT_ITERABLE
         | codes::UNPACK_NON_ITERABLE
-        | operator_codes::INT_OR_FLOAT
-        | operator_codes::EXPECTED_BOOL
-        | codes::INPUT
-        | codes::LEN
-        | codes::RANGE
-        | codes::MAP_FIRST
-        | codes::MAP_SECOND
-        | codes::FILTER_FIRST
-        | codes::FILTER_SECOND
-        | codes::LIST_INDEX
-        | codes::TUPLE_INDEX
-        | codes::STRING_INDEX
-        | codes::NOT_SUBSCRIPTABLE => one_type(a),
+        | operator_codes::INT_OR_FLOAT..=operator_codes::EXPECTED_BOOL
+        | codes::INPUT..=codes::LIST_INDEX
+        | codes::TUPLE_INDEX..=codes::NOT_SUBSCRIPTABLE => one_type(a),
         codes::INCONSISTENT_RETURN
         | codes::CANNOT_ASSIGN
-        | operator_codes::PLUS
-        | operator_codes::TIMES
-        | operator_codes::COMPARE
-        | codes::EQUALITY
-        | operator_codes::NUMERIC_PAIR
+        | operator_codes::PLUS..=operator_codes::NUMERIC_PAIR
         | codes::DICT_KEY => two_types(a, b),
         _ => nothing(),
     }

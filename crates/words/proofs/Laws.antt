@@ -4,13 +4,13 @@ use mathlib.Core.Path.{_≡_, refl, sym, ap, _∙_}
 use mathlib.Core.Logic.{_⊎_, inl, inr}
 use mathlib.Core.List.{List, [], _∷_, _++_, append-assoc}
 use Prim.Native.Nat.{ℕ, zero, suc, _+_, _-_, _*_, _/_, _%_, _^_, _<_, _≤_}
-use native.Mathlib.Nat.{add-assoc, zero-add, add-zero, pow-suc}
+use native.Mathlib.Nat.{add-assoc, zero-add, add-zero, mul-zero, mul-suc, pow-suc, not-suc-le-zero, le-of-suc-le-suc}
 use native.Mathlib.Decide.{decLt}
 use native.Mathlib.Omega.{arith}
 use lib.ListN.{length, getD, set, take, drop, length-append, length-drop, take-append-drop, List·getD-append}
 use lib.Seq.{length-take-le, take-at, drop-at, take-append-le, drop-append-le, drop-drop, getD-drop, getD-take, getD-append-seam, split-at, paste-zero, sets-eq}
 use borrow.Author.Tests.{lt-ltb, le-ltb}
-use Rattle.meaning.specs.Base.{if_then_else_, bytes, sameText, digits, decimal, word, words}
+use Rattle.meaning.specs.Base.{if_then_else_, bytes, sameText, digits, decimal, word, words, records}
 use Rattle.meaning.specs.Answer.{overlaid}
 use Rattle.meaning.proofs.SheetWords.{Small, four-bytes, words-length}
 use Rattle.words.specs.Words.{putAt}
@@ -230,3 +230,13 @@ decimal-longer n h small = rw (decimal-more n h small, length-append)
 same-fixed : (t : List ℕ) → sameText t (112 ∷ 114 ∷ 105 ∷ 110 ∷ 116 ∷ []) ≡ sameText t (bytes "print")
 unfolding bytes
 same-fixed t = refl
+
+-- record i of those that stand one after the other from a place on
+pub record-at : {A : Type 0} (read : List ℕ → A) (size n from : ℕ) (bs : List ℕ) (i : ℕ) (d : A) → i < n
+    → getD (records read size n (drop from bs)) i d ≡ read (drop (from + size * i) bs)
+unfolding records
+record-at read size zero from bs i d h = absurd (not-suc-le-zero h)
+record-at read size (suc n) from bs zero d h = rw (mul-zero, add-zero)
+record-at read size (suc n) from bs (suc i) d h =
+    let further : from + size * suc i ≡ from + size + size * i = omega (arith, mul-suc size i) in
+    rw (further, drop-drop) (record-at read size n (from + size) bs i d (le-of-suc-le-suc h))
