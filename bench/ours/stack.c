@@ -1,10 +1,12 @@
-/* The stack that one call needs: stack [--sheet] FILE...
+/* The stack that one call needs: stack [--strict | --told | --read | --sheet] FILE...
    The call runs on a stack of its own that was painted before. The lowest byte that is no longer paint, counted from
    the stack pointer at the call, is how deep it went. Done with two paints, since a byte may be written with the very
    value of the paint; the deeper one counts. A byte that a frame reserves and never writes is seen only if something
    below it is written. There are 16 MiB; a call that needs more runs into a page that may not be touched, and dies.
 
-   Prints for each file: bytes, the call's code, and the file. With --sheet a file is a sheet, read and written again. */
+   Prints for each file: bytes, the call's code, what was called, and the file. A file is an image, checked in plain, or
+   with --strict in strict, or with --told in plain and a message buffer in which every message fits; with --read it is a
+   sheet that is read, with --sheet one that is read and written again. */
 #define _GNU_SOURCE
 #include "cablebirch.h"
 #include <stdio.h>
@@ -14,9 +16,9 @@
 
 enum { ROOM = 16 << 20, GUARD = 1 << 16 };
 
-static uint8_t image[CABLEBIRCH_IMAGE_MAX + 1], sheet[CABLEBIRCH_SHEET_MAX + 1], message[CABLEBIRCH_MESSAGE_ROOM];
+static uint8_t image[CABLEBIRCH_IMAGE_MAX + 1], sheet[CABLEBIRCH_SHEET_MAX + 1], message[1 << 20];
 static size_t length;
-static int sheets;
+static const char *mode = "";
 static cablebirch_answer answer;
 static uint8_t *entered;
 static ucontext_t here, there;
@@ -24,12 +26,18 @@ static ucontext_t here, there;
 static void call(void) {
     /* Pushing its return address is the first thing that a call writes. */
     __asm__ volatile("mov %%rsp, %0" : "=m"(entered));
-    if (!sheets) {
-        answer = cablebirch_check(CABLEBIRCH_PLAIN, image, length, sheet, CABLEBIRCH_SHEET_MAX, message, sizeof message);
-    } else {
+    uint32_t setting = strcmp(mode, "--strict") ? CABLEBIRCH_PLAIN : CABLEBIRCH_STRICT;
+    size_t room = strcmp(mode, "--told") ? CABLEBIRCH_MESSAGE_ROOM : sizeof message;
+    if (!strcmp(mode, "--read")) {
+#ifdef SHEETS
+        answer.code = cablebirch_read_sheet(image, length);
+#endif
+    } else if (!strcmp(mode, "--sheet")) {
 #ifdef SHEETS
         answer = cablebirch_write_sheet(image, length, sheet, CABLEBIRCH_SHEET_MAX);
 #endif
+    } else {
+        answer = cablebirch_check(setting, image, length, sheet, CABLEBIRCH_SHEET_MAX, message, room);
     }
 }
 
@@ -54,16 +62,18 @@ static size_t depth(uint8_t *stack, uint8_t paint) {
 
 int main(int argc, char **argv) {
     int first = 1;
-    if (argc > 1 && !strcmp(argv[1], "--sheet")) {
-        sheets = 1;
+    if (argc > 1 && !strncmp(argv[1], "--", 2)) {
+        mode = argv[1];
         first = 2;
 #ifndef SHEETS
-        fprintf(stderr, "stack: the archive has no cablebirch_write_sheet\n");
-        return 3;
+        if (!strcmp(mode, "--read") || !strcmp(mode, "--sheet")) {
+            fprintf(stderr, "stack: the archive has no cablebirch_write_sheet\n");
+            return 3;
+        }
 #endif
     }
     if (first >= argc) {
-        fprintf(stderr, "usage: stack [--sheet] FILE...\n");
+        fprintf(stderr, "usage: stack [--strict | --told | --read | --sheet] FILE...\n");
         return 2;
     }
     uint8_t *mapped = mmap(NULL, GUARD + ROOM, PROT_NONE, MAP_PRIVATE | MAP_ANONYMOUS, -1, 0);
@@ -80,7 +90,7 @@ int main(int argc, char **argv) {
         length = fread(image, 1, sizeof image, file);
         fclose(file);
         size_t one = depth(mapped + GUARD, 0xa5), other = depth(mapped + GUARD, 0x5a);
-        printf("%zu %u %s\n", one > other ? one : other, answer.code, argv[i]);
+        printf("%zu %u %s %s\n", one > other ? one : other, answer.code, *mode ? mode + 2 : "plain", argv[i]);
     }
     return 0;
 }

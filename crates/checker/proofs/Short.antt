@@ -16,6 +16,7 @@ use Rattle.meaning.specs.Types.{Ty, unknown, kind, parts, part}
 use Rattle.meaning.specs.Image.{Name, namesOf}
 use Rattle.meaning.specs.Sheet.{Entry, typesOf, elementsIn, elementsOf, spellings, sheetOf, entries}
 use Rattle.meaning.specs.Answer.{Answer, bare, written}
+use Rattle.meaning.proofs.Choices.{count-long}
 use Rattle.meaning.proofs.Faults.{Sound}
 use Rattle.meaning.proofs.SheetTypes.{Known}
 use Rattle.meaning.proofs.SheetRoom.{sheet-room}
@@ -39,11 +40,6 @@ of-count : (a n x : ℕ) → List·Memᴰ x (count a n) → x < a + n
 unfolding count
 of-count a zero x m = absurd (List·Memᴰ·not-nil m)
 of-count a (suc n) x m = ⊎-elim (λ e. omega arith) (λ r. omega (arith, of-count (suc a) n x r)) (List·Memᴰ·cases-cons m)
-
-count-many : (a n : ℕ) → length (count a n) ≡ n
-unfolding count
-count-many a zero = refl
-count-many a (suc n) = ap suc (count-many (suc a) n)
 
 place-of : (xs : List Ty) (x : Ty) → List·Memᴰ x xs → (j : ℕ) × ((j < length xs) × (getD xs j unknown ≡ x))
 place-of [] x m = absurd (List·Memᴰ·not-nil m)
@@ -112,7 +108,7 @@ module _ {bs : List ℕ} {t : Tab} {fs : Rows} {top : ℕ} (s : Sound bs) (w : W
         room .0,
         room .1,
         length-map (count 0 t.n) (denote t),
-        count-many 0 t.n,
+        count-long 0 t.n,
         all-elements w 0 t.n (omega arith),
         w .room,
         w .most,

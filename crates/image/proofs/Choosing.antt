@@ -10,6 +10,7 @@ use lib.Dec.{eqb, leb, ltb}
 use borrow.Author.Tests.{eq-eqb, ne-eqb, le-leb, lt-leb, lt-ltb, le-ltb}
 use Rattle.meaning.specs.Base.{_and_, _or_, choose, if_then_else_, base-open}
 use Rattle.meaning.specs.Image.{NameRecord, Name, Node, plain, takes, roleStands, roleOf, allows, safe, isStatement, isSpanless, isExpression, nodeStands, belongs, image-open}
+use Rattle.meaning.proofs.Choices.{and-true, and-false}
 use Rattle.image.specs.Kinds.{recordStands}
 
 module _ (r : NameRecord) where
@@ -59,16 +60,6 @@ or-false : (t : Bool) → (t or false) ≡ t
 unfolding _or_
 or-false true = refl
 or-false false = refl
-
-pub and-true : (t : Bool) → (t and true) ≡ t
-unfolding _and_
-and-true true = refl
-and-true false = refl
-
-pub and-false : (t : Bool) → (t and false) ≡ false
-unfolding _and_
-and-false true = refl
-and-false false = refl
 
 -- only the roles 1 to 3 are builtins, and only builtins are unsafe
 pub no-builtin : (w : Name) (r : NameRecord) → roleOf r ≡ w .role → (leb 1 (r .role) and leb (r .role) 3) ≡ false → safe w ≡ true

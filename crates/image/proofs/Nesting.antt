@@ -11,11 +11,10 @@ use lib.Dec.{eqb}
 use borrow.Author.Tests.{lt-ltb, le-ltb, ltb-true, leb-true}
 use Rattle.meaning.specs.Base.{_and_, _or_}
 use Rattle.meaning.specs.Image.{Node, nameCount, nodeCount, nodesOf, nodeOf, isStatement, isSpanless, isExpression, argBelow, countStands, nodeStands, belongs, lands, nests, brokenNode}
-use Rattle.meaning.proofs.Choices.{and-left, and-right, none-failing}
+use Rattle.meaning.proofs.Choices.{and-true, and-false, and-left, and-right, none-failing}
 use Rattle.meaning.proofs.Faults.{Headed, sizes}
 use Rattle.meaning.proofs.Nesting.{Stands, stands, nodes-many}
 use Rattle.image.specs.Kinds.{rootStands}
-use Rattle.image.proofs.Choosing.{and-true, and-false}
 
 -- ---- one node
 

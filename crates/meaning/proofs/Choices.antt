@@ -10,9 +10,16 @@ use native.Mathlib.Omega.{arith}
 use borrow.Author.Tests.{eqb-true, eq-eqb, ne-eqb}
 use lib.Dec.{eqb}
 use lib.ListN.{length, getD, drop}
-use Rattle.meaning.specs.Base.{_and_, _or_, if_then_else_, ifSome, sameText, records}
+use Rattle.meaning.specs.Base.{_and_, _or_, if_then_else_, ifSome, sameText, count, records}
 use Rattle.meaning.specs.Types.{Ty, Ty-discrete, unknown, int, bool, string, float, nonetype, range, function, list, dict, tuple, mapIter, filterIter, same, kind, plain}
 use Rattle.meaning.specs.Image.{firstNot}
+
+-- ---- numbers one after the other
+
+pub count-long : (a n : ℕ) → length (count a n) ≡ n
+unfolding count
+count-long a zero = refl
+count-long a (suc n) = ap suc (count-long (suc a) n)
 
 -- ---- and, or, if
 

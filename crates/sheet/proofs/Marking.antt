@@ -15,6 +15,7 @@ use Rattle.meaning.specs.Limits.{mostTypes}
 use Rattle.meaning.specs.Base.{if_then_else_, count}
 use Rattle.meaning.specs.Types.{Ty, unknown}
 use Rattle.meaning.specs.Sheet.{addNew, position}
+use Rattle.meaning.proofs.Choices.{count-long}
 use Rattle.meaning.proofs.SheetTypes.{Ordered}
 use Rattle.meaning.proofs.SheetWalk.{near, far, here}
 use Rattle.types.specs.Table.{Tab, tab, mostNumbers, denote, Wf}
@@ -36,11 +37,6 @@ in-count f a (suc n) x h l = elim (ℕ-discrete x a) [
   | yes e ↦ List·Memᴰ·head (ap f e)
   | no e ↦ List·Memᴰ·tail (in-count f (suc a) n x (omega arith) (omega arith))
 ]
-
-length-count : (a n : ℕ) → length (count a n) ≡ n
-unfolding count
-length-count a zero = refl
-length-count a (suc n) = ap suc (length-count (suc a) n)
 
 -- ---- the marks at hand
 
@@ -145,7 +141,7 @@ module _ (t : Tab) (ms : List ℕ) (i : ℕ) (m : Marked t ms) (below : i < t.n)
         length-append us (ty ∷ []),
         types-length m,
         length-map (count 8 (t.n - 8)) (denote t),
-        length-count 8 (t.n - 8),
+        count-long 8 (t.n - 8),
         m .wf .room,
         m .wf .most,
         m .wf .base,

@@ -5,11 +5,12 @@ use Prim.Native.Nat.{ℕ, zero, suc, _+_, _-_, _≤_, _<_}
 use native.Mathlib.Nat.{add-zero, add-suc}
 use native.Mathlib.Omega.{arith}
 use native.Mathlib.Decide.{decLt, ℕ-discrete}
-use lib.ListN.{length, getD, length-append, List·getD-append}
+use lib.ListN.{length, getD, List·getD-append}
 use Rattle.meaning.specs.Types.{Ty, unknown, int, bool, string, float, nonetype, range, function, list, dict, tuple, mapIter, filterIter, kind, parts, part}
 use Rattle.meaning.proofs.Choices.{plain-kind}
 use Rattle.types.specs.Table.{Tab, tab, mostNumbers, kindAt, secondAt, shape, trees, denote, Means, Wf}
 use Rattle.types.specs.Reading.{Known, typeAt}
+use Rattle.types.proofs.Rows.{length-trees}
 use Rattle.types.proofs.Laws.{kind-of, parts-many, plain-number, first-part, second-part, element-part}
 
 -- ---- how many parts a kind has
@@ -82,11 +83,6 @@ unfolding trees shape
 trees-cells t u e zero = refl
 trees-cells t u e (suc k) = rw (trees-cells t u e k, e)
 
-trees-long : (t : Tab) (k : ℕ) → length (trees t k) ≡ k
-unfolding trees
-trees-long t zero = refl
-trees-long t (suc k) = rw (length-append, trees-long t k) (omega arith)
-
 getD-left : (xs ys : List Ty) (i : ℕ) → i < length xs → getD (xs ++ ys) i unknown ≡ getD xs i unknown
 getD-left xs ys i h = rw List·getD-append
 
@@ -95,7 +91,7 @@ trees-more : (t : Tab) (n d i : ℕ) → i < n → getD (trees t (n + d)) i unkn
 unfolding trees
 trees-more t n zero i h = rw add-zero
 trees-more t n (suc d) i h =
-    let inside : i < length (trees t (n + d)) = rw (trees-long t (n + d)) (omega arith) in
+    let inside : i < length (trees t (n + d)) = rw (length-trees t (n + d)) (omega arith) in
     rw (add-suc, getD-left (trees t (n + d)) _ i inside) (trees-more t n d i h)
 
 pub type-is : (t : Tab) (cs : List ℕ) → t.cells ≡ cs → (i : ℕ) → i < t.n → typeAt cs i ≡ denote t i

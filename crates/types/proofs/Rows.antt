@@ -17,7 +17,7 @@ use Rattle.types.proofs.Pieces.{piece-map}
 abbrev see : Tab → ℕ → ℕ → Ty
 see t k i = getD (trees t k) i unknown
 
-length-trees : (t : Tab) (k : ℕ) → length (trees t k) ≡ k
+pub length-trees : (t : Tab) (k : ℕ) → length (trees t k) ≡ k
 unfolding trees
 length-trees t zero = refl
 length-trees t (suc k) = length-append (trees t k) _ ∙ omega (arith, length-trees t k)

@@ -1,5 +1,6 @@
 -- The answers stand by name in answers/record_stands.txt.
-use Rattle.image.proofs.Choosing.{and-true, and-false, stands-bare, stands-single, stands-many, before-kinds, between-kinds, behind-kinds}
+use Rattle.meaning.proofs.Choices.{and-true, and-false}
+use Rattle.image.proofs.Choosing.{stands-bare, stands-single, stands-many, before-kinds, between-kinds, behind-kinds}
 use Rattle.image.specs.Kinds.{recordStands}
 use Rattle.meaning.specs.Image.{image-open}
 use Rattle.meaning.specs.Base.{base-open}

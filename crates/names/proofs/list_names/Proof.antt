@@ -15,7 +15,7 @@ use Rattle.names.proofs.list_names.Lts as lts
 use Rattle.frames.proofs.held_in.Reads as held-in-reads
 use Rattle.image.proofs.areas.Reads as areas-reads
 use Rattle.image.proofs.name_at.Reads as name-at-reads
-use Rattle.names.proofs.put_name.Reads as put-name-reads
+use Rattle.sheet.proofs.list.put_name.Reads as put-name-reads
 
 abbrev Inv-loop : tie.InvT-loop
 Inv-loop image frames top names₀ l k₀ c₀ names k c = Naming image frames top names k c
