@@ -2,6 +2,7 @@
 use mathlib.Core.Path.{_∙_}
 use Prim.Native.Nat.{ℕ}
 use lib.ListN.{length-replicate}
+use Rattle.types.specs.Table.{mostNumbers}
 use borrow.Author.Needs.{needs}
 use native.Mathlib.Omega.{arith}
 use Rattle.message.proofs.measured_many.Statement.{statement}
@@ -12,7 +13,7 @@ slice-aggregate-measure c = search needs
 
 measure-requires : tie.Need-measure-requires
 measure-requires c κs =
-    (c .before .before .before .before .pre .0 .known, omega (arith, c .before .before .before .before .pre .0 .known .most, length-replicate {A = ℕ} 2056 1))
+    (c .before .before .before .before .pre .0 .known, omega (arith, c .before .before .before .before .pre .0 .known .most, length-replicate {A = ℕ} mostNumbers 1))
 
 slice-aggregate-total : tie.Need-slice-aggregate-total
 slice-aggregate-total c = search needs

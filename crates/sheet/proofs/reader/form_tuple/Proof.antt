@@ -3,6 +3,7 @@ use Rattle.sheet.proofs.Reading.{tuple-gather, tuple-listed, tuple-made
 use lib.ListN.{length-replicate}
 use Prim.Native.Nat.{ℕ}
 use native.Mathlib.Omega.{arith}
+use Rattle.meaning.specs.Limits.{mostTypes}
 use borrow.Author.Needs.{needs}
 use Rattle.sheet.proofs.reader.form_tuple.Statement.{statement}
 use Rattle.sheet.proofs.reader.form_tuple.Tie as tie
@@ -14,7 +15,7 @@ use Rattle.types.proofs.tuple_of.Reads as tuple-of-reads
 -- src/lib.rt:502:5
 gather-requires : tie.Need-gather-requires
 gather-requires c κs =
-    tuple-gather (c .before .before .before .pre) (length-replicate {A = ℕ} 2048 0)
+    tuple-gather (c .before .before .before .pre) (length-replicate {A = ℕ} mostTypes 0)
 
 -- src/lib.rt:512:29
 slice-aggregate-tuple-of : tie.Need-slice-aggregate-tuple-of

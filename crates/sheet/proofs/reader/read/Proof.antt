@@ -5,6 +5,7 @@ use lib.ListN.{length-replicate}
 use Prim.Native.Nat.{ℕ}
 use Rattle.types.proofs.Room.{capacity-as}
 use native.Mathlib.Omega.{arith}
+use Rattle.meaning.specs.Limits.{mostTypes}
 use borrow.Author.Needs.{needs}
 use Rattle.sheet.proofs.reader.read.Statement.{statement}
 use Rattle.sheet.proofs.reader.read.Tie as tie
@@ -40,7 +41,7 @@ begin-table-requires c κs =
 -- src/lib.rt:739:9
 read-types-requires : tie.Need-read-types-requires
 read-types-requires c κs =
-    (c .before .before .before .before .before .before .before .bounded .ensures .yes (not-false _ (c .before .before .before .before .before .before .if1 .left)), (c .before .before .before .before .begin-table .ensures, (omega (arith, c .before .before .before .before .before .before .before .before .before .before .pre .0, capacity-as (c .before .before .before .before .before .before .before .before .before .before .args .table .now) (c .before .before .before .before .begin-table .last .0) (c .before .before .before .before .begin-table .kept .0)), length-replicate {A = ℕ} 2048 0)))
+    (c .before .before .before .before .before .before .before .bounded .ensures .yes (not-false _ (c .before .before .before .before .before .before .if1 .left)), (c .before .before .before .before .begin-table .ensures, (omega (arith, c .before .before .before .before .before .before .before .before .before .before .pre .0, capacity-as (c .before .before .before .before .before .before .before .before .before .before .args .table .now) (c .before .before .before .before .begin-table .last .0) (c .before .before .before .before .begin-table .kept .0)), length-replicate {A = ℕ} mostTypes 0)))
 
 -- src/lib.rt:741:9
 refused-requires-2 : tie.Need-refused-requires-2

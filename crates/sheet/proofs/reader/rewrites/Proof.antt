@@ -4,6 +4,7 @@ use Rattle.sheet.proofs.Ending.{wrote-short, wrote-inside, wrote-compar
 use lib.ListN.{length-replicate}
 use Prim.Native.Nat.{ℕ}
 use native.Mathlib.Omega.{arith}
+use Rattle.meaning.specs.Limits.{largestSheet}
 use borrow.Author.Needs.{needs}
 use Rattle.sheet.proofs.reader.rewrites.Statement.{statement}
 use Rattle.sheet.proofs.reader.rewrites.Tie as tie
@@ -25,7 +26,7 @@ write-requires c κs =
 -- src/lib.rt:711:9
 returns : tie.Need-returns
 returns c =
-    wrote-short (c .before .before .before .write .ensures) (length-replicate {A = ℕ} 42532 0) (not-true _ (c .if1 .taken))
+    wrote-short (c .before .before .before .write .ensures) (length-replicate {A = ℕ} largestSheet 0) (not-true _ (c .if1 .taken))
 
 -- src/lib.rt:713:22
 slice-aggregate-text : tie.Need-slice-aggregate-text
@@ -43,7 +44,7 @@ same-requires c κs = search needs
 -- src/lib.rt:698:1
 returns-2 : tie.Need-returns-2
 returns-2 c =
-    wrote-compared (c .before .before .before .before .before .before .write .ensures) (not-false _ (c .before .before .before .if1 .left)) (length-replicate {A = ℕ} 42532 0) (c .before .text .ensures) (c .same .ensures)
+    wrote-compared (c .before .before .before .before .before .before .write .ensures) (not-false _ (c .before .before .before .if1 .left)) (length-replicate {A = ℕ} largestSheet 0) (c .before .text .ensures) (c .same .ensures)
 
 pub rewrites-spec : {M : Type 1} → statement M
 rewrites-spec =
