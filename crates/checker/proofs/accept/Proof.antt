@@ -8,7 +8,6 @@ use Rattle.checker.proofs.accept.Tie as tie
 use Rattle.checker.proofs.accept.Reads as reads
 use Rattle.checker.proofs.accept.Lts as lts
 use Rattle.names.proofs.list_names.Reads as list-names-reads
-use Rattle.sheet.proofs.writer.write.Reads as write-reads
 
 -- src/lib.rt:65:9
 list-names-requires : tie.Need-list-names-requires

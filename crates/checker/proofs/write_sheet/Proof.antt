@@ -10,8 +10,6 @@ use Rattle.checker.proofs.write_sheet.Statement.{statement}
 use Rattle.checker.proofs.write_sheet.Tie as tie
 use Rattle.checker.proofs.write_sheet.Reads as reads
 use Rattle.checker.proofs.write_sheet.Lts as lts
-use Rattle.sheet.proofs.reader.read.Reads as read-reads
-use Rattle.sheet.proofs.writer.write.Reads as write-reads
 
 slice-aggregate-read : tie.Need-slice-aggregate-read
 slice-aggregate-read c = search needs
