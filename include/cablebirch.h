@@ -5,6 +5,11 @@
  * The functions keep no state: any number of threads may call them at once, each with buffers of its own. Within one call, a
  * buffer that is written must not overlap another buffer. No pointer may be null, even where its length is 0.
  *
+ * They allocate nothing and work on the caller's stack. The most that each was seen to need (measured on the deepest inputs known, by
+ * bench/stack, and not proved): cablebirch_check 143 KB (142,776 bytes), cablebirch_read_sheet and cablebirch_write_sheet 90 KB (89,704
+ * and 89,768). With a message buffer of more than CABLEBIRCH_MESSAGE_ROOM, cablebirch_check needs more where a message names a type that
+ * is nested deeper than such a buffer can tell: 290,408 bytes for one of 1,891 levels.
+ *
  * A script loads unseen exactly when it is accepted and its sheet equals the last approved sheet, byte for byte:
  *
  *     static uint8_t sheet[CABLEBIRCH_SHEET_MAX], message[CABLEBIRCH_MESSAGE_ROOM];

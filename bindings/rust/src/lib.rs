@@ -12,7 +12,9 @@
 //! }
 //! ```
 //!
-//! The functions keep no state: any number of threads may call them at once.
+//! The functions keep no state: any number of threads may call them at once. They work on the caller's stack: [`check`] was seen to
+//! need 142,776 bytes at most, [`read_sheet`] 89,704 and [`write_sheet`] 89,768; with a message buffer of more than [`MESSAGE_ROOM`], [`check`]
+//! up to 290,408, where a message names a type nested 1,891 deep (measured, not proved: `docs/BENCHMARKS.md`).
 
 #![warn(missing_docs)]
 
