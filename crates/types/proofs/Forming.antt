@@ -102,6 +102,7 @@ module _ (t : Tab) (k p q : ℕ) (x : Asked t k p q) where
           inside = λ e. absurd (x .no-tuple (sym ki ∙ e));
           elements = λ e. absurd (x .no-tuple (sym ki ∙ e));
         };
+        own = λ e. absurd (x .no-tuple (sym ki ∙ e));
         slot = slot;
         headed = record {
           least = least;

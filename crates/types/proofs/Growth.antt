@@ -1,6 +1,6 @@
 -- One more record: where it is low and its type is new, the table is sound again and every old number means what it meant.
 use mathlib.Core.Path.{_≡_, refl, sym, ap, _∙_, subst}
-use Prim.Native.Nat.{ℕ, _+_, _*_, _≤_, _<_}
+use Prim.Native.Nat.{ℕ, zero, suc, _+_, _*_, _≤_, _<_}
 use native.Mathlib.Nat.{add-assoc}
 use native.Mathlib.Omega.{arith}
 use native.Mathlib.Decide.{decLt, ℕ-discrete}
@@ -9,7 +9,7 @@ use lib.ListN.{length, getD}
 use Rattle.meaning.specs.Base.{if_then_else_}
 use Rattle.meaning.specs.Types.{Ty, tys}
 use Rattle.types.specs.Layout.{kindCell, firstCell, secondCell, linkCell, elementsFrom}
-use Rattle.types.specs.Table.{Tab, capacity, kindAt, firstAt, secondAt, elementAt, slotAt, shape, denote, Low, Chains, Chained, Wf, Grown, Made}
+use Rattle.types.specs.Table.{Tab, capacity, kindAt, firstAt, secondAt, elementAt, slotAt, shape, denote, Low, tupled, Chains, Chained, Wf, Grown, Made}
 use Rattle.types.proofs.Room.{capacity-within, capacity-as}
 use Rattle.types.proofs.Shapes.{shaped-cong}
 use Rattle.types.proofs.Pieces.{piece-map, piece-same}
@@ -27,9 +27,13 @@ pub record Next (t u : Tab) : Type 0 where
   pub records : (x : ℕ) → x < kindCell t.n → getD u.cells x 0 ≡ getD t.cells x 0
   pub elements : (j : ℕ) → j < t.m → getD u.cells (elementsFrom t.cells + j) 0 ≡ elementAt t j
   pub low : Low u t.n
+  pub own : kindAt u t.n ≡ 10 → t.m + secondAt u t.n ≤ u.m
   pub slot : ℕ
   pub headed : Headed t.cells u.cells t.n slot
   pub fresh : (i : ℕ) → i < t.n → denote t i ≡ shape u (denote t) t.n → ⊥
+
+add-one : (n : ℕ) → n + 1 ≡ suc n
+add-one n = omega arith
 
 module _ (t u : Tab) (w : Wf t) (x : Next t u) where
   as-wide : capacity u.cells ≡ capacity t.cells
@@ -96,6 +100,19 @@ module _ (t u : Tab) (w : Wf t) (x : Next t u) where
         (slot-as t.cells u.cells _ as-wide)
   ]
 
+  -- the old Tuples have the elements that they had, and a new one has its own
+  tupled-kept : (k : ℕ) → k ≤ t.n → tupled u.cells k ≡ tupled t.cells k
+  unfolding tupled
+  tupled-kept zero h = refl
+  tupled-kept (suc k) h = rw (kind-kept k (omega arith), second-kept k (omega arith), tupled-kept k (omega arith))
+
+  next-apart : tupled u.cells u.n ≤ u.m
+  unfolding tupled if_then_else_
+  next-apart = rw (x .count, add-one t.n) (elim (ℕ-discrete (kindAt u t.n) 10) [
+    | yes e ↦ rw e (omega (arith, x .own e, tupled-kept t.n (omega arith), w .apart))
+    | no n ↦ rw (ne-eqb (kindAt u t.n) 10 n) (omega (arith, x .wider, tupled-kept t.n (omega arith), w .apart))
+  ])
+
   next-same : (i : ℕ) → i < t.n → denote u i ≡ denote t i
   next-same = denote-agree t u (omega (arith, x .count)) agree
 
@@ -138,6 +155,7 @@ module _ (t u : Tab) (w : Wf t) (x : Next t u) where
       low = next-low;
       inj = next-inj;
       chained = next-chained;
+      apart = next-apart;
     };
     long = x .long;
     as-wide = as-wide;

@@ -3,6 +3,7 @@ pub mod Room
 pub mod Laws
 pub mod Forming
 pub mod Parts
+pub mod Elements
 pub mod Readers
 pub mod Answers
 mod Shapes

@@ -126,6 +126,7 @@ module _ (t : Tab) (st : List ℕ) (s q : ℕ) (x : Listed t st s q) where
               let b : j < q = omega arith in
               rw (as-wide, fi, equal .at j b) (x .known j b);
         };
+        own = λ e. omega (arith, si);
         slot = slot;
         headed = record {
           least = least;

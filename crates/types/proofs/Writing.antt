@@ -1,14 +1,16 @@
 -- Writing a record, and the table with the plain types alone.
-use mathlib.Core.Path.{_≡_, sym, ap, _∙_}
+use mathlib.Core.Path.{_≡_, refl, sym, ap, _∙_}
 use mathlib.Core.List.{List}
-use Prim.Native.Nat.{ℕ, _+_, _*_, _<_}
+use Prim.Native.Nat.{ℕ, zero, suc, _+_, _*_, _<_}
 use native.Mathlib.Omega.{arith}
 use borrow.Author.Count.{below-more}
+use borrow.Author.Tests.{ne-eqb}
 use lib.ListN.{length, getD, set, length-set}
 use lib.Seq.{getD-set-same, getD-set-other}
+use Rattle.meaning.specs.Base.{if_then_else_}
 use Rattle.meaning.specs.Types.{kind}
-use Rattle.types.specs.Layout.{kindCell, firstCell, secondCell, linkCell}
-use Rattle.types.specs.Table.{Tab, tab, capacity, kindAt, shape, denote, Low, Chains, Fresh, Wf}
+use Rattle.types.specs.Layout.{kindCell, kindIn, firstCell, secondCell, linkCell}
+use Rattle.types.specs.Table.{Tab, tab, capacity, kindAt, shape, denote, Low, tupled, Chains, Fresh, Wf}
 use Rattle.types.specs.Steps.{RecordAt, Written, Added, Started}
 use Rattle.types.proofs.Room.{capacity-as}
 use Rattle.types.proofs.Shapes.{shaped-kind}
@@ -92,6 +94,12 @@ chains-none f = record {
   link-last = λ i j a b c. absurd (omega arith);
 }
 
+-- records that are no Tuples have no elements
+tupled-none : (cs : List ℕ) (k : ℕ) → ((i : ℕ) → i < k → kindIn cs i ≡ 10 → ⊥) → tupled cs k ≡ 0
+unfolding tupled if_then_else_
+tupled-none cs zero n = refl
+tupled-none cs (suc k) n = rw (ne-eqb (kindIn cs k) 10 (n k (omega arith))) (omega (arith, tupled-none cs k (λ i h. n i (omega arith))))
+
 pub started-wf : (cs : List ℕ) → Started cs 8 → Wf (tab cs 8 0)
 unfolding shape
 started-wf cs s =
@@ -117,4 +125,5 @@ started-wf cs s =
       low = low;
       inj = λ i j a b e. sym (own i a) ∙ ap kind e ∙ own j b;
       chained = chained-as (chains-none (s .fresh));
+      apart = omega (arith, tupled-none cs 8 (λ i h e. omega (arith, s .plains i h .kind-is)));
     }

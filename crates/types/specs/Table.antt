@@ -86,6 +86,11 @@ pub record Low (t : Tab) (i : ℕ) : Type 0 where
   pub inside : kindAt t i ≡ 10 → firstAt t i + secondAt t i ≤ t.m
   pub elements : kindAt t i ≡ 10 → (j : ℕ) → j < secondAt t i → getD t.cells (elementsFrom t.cells + firstAt t i + j) 0 < i
 
+-- how many elements the Tuples among the first k records have together
+unfoldable pub tupled : List ℕ → ℕ → ℕ
+tupled cs zero = 0
+tupled cs (suc k) = (if eqb (kindIn cs k) 10 then secondIn cs k else 0) + tupled cs k
+
 -- ---- the chains, by which a type's number is found: each structured number is in the one that its record's hash names
 
 -- a hash with one number more
@@ -143,6 +148,8 @@ pub record Wf (t : Tab) : Type 0 where
   pub low : (i : ℕ) → i < t.n → Low t i
   pub inj : (i j : ℕ) → i < t.n → j < t.n → denote t i ≡ denote t j → i ≡ j
   pub chained : Chained t.cells t.n
+  -- no two Tuples share an element, so that what they have together is in use
+  pub apart : tupled t.cells t.n ≤ t.m
 
 -- ---- what may become of a table
 
