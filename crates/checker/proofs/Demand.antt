@@ -1,35 +1,33 @@
--- Demand 3, of two runs of `check`, each under either setting: "Two sheets are equal exactly when both modules end with the same names in
--- the module frame with the same types."
+-- Demand 3, of two runs of `check` or of its C twin, each under either setting: "Two sheets are equal exactly when both modules end with the
+-- same names in the module frame with the same types."
 use mathlib.Core.Path.{_≡_, refl, sym, ap, _∙_, subst}
-use mathlib.Core.Bool.{Bool, true, false}
 use mathlib.Core.Logic.{_↔_}
 use mathlib.Core.Option.{Option, none, some}
-use mathlib.Core.List.{List, [], _∷_, _++_, List·Memᴰ}
+use mathlib.Core.List.{List, [], _∷_, List·Memᴰ}
 use Prim.Native.Nat.{ℕ, _≤_, _<_}
 use native.Mathlib.Omega.{arith}
 use native.Mathlib.Decide.{ℕ-discrete}
-use lib.Dec.{leb}
 use lib.ListN.{length, take, drop}
 use lib.Seq.{take-append-seam}
-use Rattle.meaning.specs.Base.{if_then_else_}
+use Rattle.meaning.specs.Limits.{largestSheet}
 use Rattle.meaning.specs.Types.{Ty}
-use Rattle.meaning.specs.Image.{Fault, Name, Node, imageFault, namesOf, nodesOf}
+use Rattle.meaning.specs.Image.{Fault, imageFault, namesOf, nodesOf}
 use Rattle.meaning.specs.Decode.{treeOf}
 use Rattle.meaning.specs.Frames.{Frame, Frames, newest}
-use Rattle.meaning.specs.Walk.{plain, State, End, done, wrong, tooDeep, program, start}
+use Rattle.meaning.specs.Walk.{plain, State, End, done, wrong, tooDeep}
 use Rattle.meaning.specs.Sheet.{Entry, entries, sheetOf}
 use Rattle.meaning.specs.Read.{entriesIn}
-use Rattle.meaning.specs.Answer.{Answer as Meant, bare, written, ended, walked, answerUnder, answer, overlaid}
+use Rattle.meaning.specs.Answer.{Answer as Meant, ended, walked, answerUnder, answer, overlaid}
 use Rattle.meaning.proofs.Faults.{Sound, sound, fault-told}
-use Rattle.meaning.proofs.Answers.{plain-is, no-setting}
+use Rattle.meaning.proofs.Answers.{answered, plain-is, no-setting}
 use Rattle.meaning.proofs.Strict.{plain-accepts}
 use Rattle.meaning.proofs.Kept.{accepted-one-frame, refused-typing}
-use Rattle.meaning.proofs.SheetForm.{short-trip, short-injective}
+use Rattle.meaning.proofs.SheetForm.{sheet-is, sheet-length, short-trip, short-injective}
 use Rattle.meaning.proofs.SheetNames.{texts-stand}
 use Rattle.meaning.proofs.SheetSame.{told-by-members, entry-held, held-entry}
-use Rattle.checker.specs.Answers.{Answers, numbersOf}
-use Rattle.checker.specs.Module.{framesAt, lowest, moduleFrame, ModuleHas, SameModule, sheetIn}
-use Rattle.checker.specs.declared.Answer.{Answer}
+use Rattle.checker.specs.Answers.{Numbers, Replies}
+use Rattle.checker.specs.Module.{framesAt, lowest, moduleFrame, SameModule, sheetIn}
+use Rattle.checker.proofs.Written.{written-sheet}
 use Rattle.checker.proofs.Ends.{answer-fault, answer-sound}
 
 -- ---- an accepted program: its image is sound, and its sheet is that of its module frame
@@ -49,15 +47,6 @@ unfolding newest lowest
 only-frame [] e = refl
 only-frame (f ∷ []) e = refl
 only-frame (f ∷ g ∷ fs) e = absurd (omega arith)
-
-written-sheet : (room : ℕ) (bs : List ℕ) → written room bs .code ≡ 0 → written room bs .sheet ≡ bs
-unfolding written if_then_else_
-written-sheet room bs e = by (leb (length bs) room) e
-  where
-    by : (b : Bool) → (if b then record { code = 0; place = 0; spanStart = 0; spanEnd = 0; sheet = bs; message = [] } else bare 10 0) .code ≡ 0
-        → (if b then record { code = 0; place = 0; spanStart = 0; spanEnd = 0; sheet = bs; message = [] } else bare 10 0) .sheet ≡ bs
-    by true e = refl
-    by false e = absurd (omega arith)
 
 module _ (image : List ℕ) (room told : ℕ) where
   -- the module frame of a program that ended well is its only frame
@@ -100,27 +89,37 @@ module _ (image : List ℕ) (room told : ℕ) where
 
 -- ---- one run
 
-module _ (setting : ℕ) (image : List ℕ) (room told : ℕ) {r : Answer} {old new oldMessage newMessage : List ℕ}
-    (x : Answers (answer setting image room told) r old new oldMessage newMessage) where
-  pub sheet-there : sheetIn r new ≡ answer setting image room told .sheet
+module _ (setting : ℕ) (image : List ℕ) (room told : ℕ) {n : Numbers} {old new oldMessage newMessage : List ℕ}
+    (x : Replies (answer setting image room told) n old new oldMessage newMessage) where
+  -- no answer has a sheet of more than 42,532 bytes
+  pub reply-most : length (answer setting image room told .sheet) ≤ largestSheet
+  reply-most = elim (ℕ-discrete (answer setting image room told .code) 0) [
+    | yes e ↦ let s = sheet-is _ (x .form e) in omega (arith, ap length (s .written), sheet-length _ (s .limits))
+    | no z ↦ omega (arith, ap length (answered room told setting image .sheet (omega (arith, z))))
+  ]
+
+  pub reply-short : length (answer setting image room told .sheet) < 4294967296
+  reply-short = omega (arith, reply-most)
+
+  pub sheet-there : sheetIn n new ≡ answer setting image room told .sheet
   unfolding overlaid
   sheet-there =
-      let n : numbersOf r .sheet ≡ length (answer setting image room told .sheet) = ap (λ n. n .sheet) (x .numbers) in
-      rw (n, x .sheet) (take-append-seam (answer setting image room told .sheet) (drop (length (answer setting image room told .sheet)) old))
+      let e : n .sheet ≡ length (answer setting image room told .sheet) = ap (λ (k : Numbers). k .sheet) (x .numbers) in
+      rw (e, x .sheet) (take-append-seam (answer setting image room told .sheet) (drop (length (answer setting image room told .sheet)) old))
 
-  module _ (c : numbersOf r .code ≡ 0) where
+  module _ (c : n .code ≡ 0) where
     pub own : Concluded image (answer setting image room told)
-    own = accepted image room told setting (sym (ap (λ n. n .code) (x .numbers)) ∙ c)
+    own = accepted image room told setting (sym (ap (λ (k : Numbers). k .code) (x .numbers)) ∙ c)
 
     -- the sheet is that of the module frame
-    pub sheet-of-module : sheetIn r new ≡ sheetOf (moduleOf image)
+    pub sheet-of-module : sheetIn n new ≡ sheetOf (moduleOf image)
     sheet-of-module = sheet-there ∙ own .sheet
 
     module-short : length (sheetOf (moduleOf image)) < 4294967296
-    module-short = rw (← own .sheet) (x .short)
+    module-short = rw (← own .sheet) reply-short
 
     -- and says what the module frame holds: reading gives its names with their types
-    pub sheet-tells-module : entriesIn (sheetIn r new) ≡ moduleOf image
+    pub sheet-tells-module : entriesIn (sheetIn n new) ≡ moduleOf image
     sheet-tells-module = ap entriesIn sheet-of-module ∙ short-trip (moduleOf image) module-short
 
 -- ---- the names with their types, as a list and one by one
@@ -143,10 +142,10 @@ list-same {a} {b} e =
 
 -- ---- two runs
 
-module _ (setting setting₂ : ℕ) (a b : List ℕ) (room told room₂ told₂ : ℕ) {r q : Answer} {s s₁ m m₁ t t₁ n n₁ : List ℕ}
-    (x : Answers (answer setting a room told) r s s₁ m m₁) (y : Answers (answer setting₂ b room₂ told₂) q t t₁ n n₁)
-    (c : numbersOf r .code ≡ 0) (d : numbersOf q .code ≡ 0) where
-  pub same-sheet-same-list : (sheetIn r s₁ ≡ sheetIn q t₁) ↔ (moduleOf a ≡ moduleOf b)
+module _ (setting setting₂ : ℕ) (a b : List ℕ) (room told room₂ told₂ : ℕ) {n k : Numbers} {s s₁ m m₁ t t₁ l l₁ : List ℕ}
+    (x : Replies (answer setting a room told) n s s₁ m m₁) (y : Replies (answer setting₂ b room₂ told₂) k t t₁ l l₁)
+    (c : n .code ≡ 0) (d : k .code ≡ 0) where
+  pub same-sheet-same-list : (sheetIn n s₁ ≡ sheetIn k t₁) ↔ (moduleOf a ≡ moduleOf b)
   same-sheet-same-list =
       let i = short-injective (moduleOf a) (moduleOf b) (module-short setting a room told x c) (module-short setting₂ b room₂ told₂ y d) in
       let u = sheet-of-module setting a room told x c in
@@ -154,7 +153,7 @@ module _ (setting setting₂ : ℕ) (a b : List ℕ) (room told room₂ told₂ 
       (λ e. i .0 (sym u ∙ e ∙ v), λ e. u ∙ i .1 e ∙ sym v)
 
   -- "Two sheets are equal exactly when both modules end with the same names in the module frame with the same types."
-  pub same-sheet-same-module : (sheetIn r s₁ ≡ sheetIn q t₁) ↔ SameModule a b
+  pub same-sheet-same-module : (sheetIn n s₁ ≡ sheetIn k t₁) ↔ SameModule a b
   same-sheet-same-module = (
     λ e. list-same (same-sheet-same-list .0 e),
     λ e. same-sheet-same-list .1 (same-list (own setting a room told x c .sound) (own setting₂ b room₂ told₂ y d .sound) e),

@@ -1,5 +1,6 @@
 mod Places
-mod Short
+mod Limited
+mod Written
 mod Lending
 pub mod Ends
 pub mod Outcomes
@@ -7,3 +8,6 @@ pub mod Sheets
 pub mod Demand
 pub mod Settings
 pub mod Starred
+pub mod Exactly
+pub mod Within
+pub mod Few

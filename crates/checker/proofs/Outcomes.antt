@@ -1,76 +1,93 @@
 -- What `check` promises, from the ends of its parts; and that no second outcome fits.
 use mathlib.Core.Path.{_≡_, refl, sym, ap, _∙_}
-use mathlib.Core.Bool.{Bool, true, false}
+use mathlib.Core.Bool.{true, false}
 use mathlib.Core.List.{List, [], _∷_}
 use mathlib.Core.Option.{some}
 use Prim.Native.Nat.{ℕ, _≤_, _<_}
 use native.Mathlib.Omega.{arith}
 use borrow.Author.Tests.{ne-eqb}
-use lib.Dec.{leb, eqb}
+use lib.Dec.{eqb}
 use lib.ListN.{length}
 use Rattle.meaning.specs.Base.{choose, if_then_else_}
-use Rattle.meaning.specs.Image.{Fault, imageFault, nodeCount, nodesFrom, namesOf}
+use Rattle.meaning.specs.Image.{Fault, imageFault, nodesFrom, namesOf}
 use Rattle.meaning.specs.Frames.{newest}
-use Rattle.meaning.specs.Sheet.{entries, sheetOf}
+use Rattle.meaning.specs.Sheet.{entries, sheetOf, withinLimits}
 use Rattle.meaning.specs.Walk.{Setting}
 use Rattle.meaning.specs.Answer.{Answer as Meant, bare, written, answerUnder, answer, overlaid}
-use Rattle.meaning.proofs.Faults.{Sound, sizes}
+use Rattle.meaning.proofs.Faults.{Sound, sizes, fault-told}
 use Rattle.meaning.proofs.Answers.{overlaid-none, plain-is, strict-is, no-setting}
-use Rattle.types.specs.Table.{Tab, Wf}
+use Rattle.types.specs.Table.{Tab}
 use Rattle.frames.specs.Env.{Rows, framesOf}
 use Rattle.stmt.specs.Contract.{settingIf, Ran}
-use Rattle.checker.specs.Answers.{Answers, Wrote, Told, Numbers, bareNumbers, numbersOf, numbersIn, Stands, Replies}
+use Rattle.checker.specs.Answers.{Answers, Wrote, Told, Numbers, bareNumbers, numbersOf, Stands, Replies, replyMeans}
 use Rattle.checker.specs.Steps.{Accepting, Refusing, refusedAs}
-use Rattle.checker.specs.declared.Refusal.{Refusal}
+use Rattle.checker.specs.declared.Reply.{Reply}
 use Rattle.checker.specs.declared.Answer.{Answer}
 use Rattle.checker.specs.declared.Answer.the-variants.{Accepted, BadHead, BadCount, BadOffset, BadName, UnsafeName, BadNode, BadNesting, TooDeep, NinthFrame, ShortBuffer, NoSetting, Typing}
 use Rattle.checker.proofs.Places.{fault-near}
-use Rattle.checker.proofs.Short.{sheet-short, written-short}
+use Rattle.checker.proofs.Limited.{sheet-within}
+use Rattle.checker.proofs.Written.{no-message, no-place, written-roomy, written-form}
 use Rattle.checker.proofs.Ends.{newest-row, answer-fault, ran-well, ran-deep, ran-ill, ran-typing}
 
 -- a buffer that nothing was written to
 kept : (m : List ℕ) → m ≡ overlaid [] m
 kept m = sym (overlaid-none m)
 
-no-message : (room : ℕ) (bs : List ℕ) → written room bs .message ≡ []
-unfolding written if_then_else_
-no-message room bs = by (leb (length bs) room)
-  where
-    by : (b : Bool) → (if b then record { code = 0; place = 0; spanStart = 0; spanEnd = 0; sheet = bs; message = [] } else bare 10 0) .message ≡ []
-    by true = refl
-    by false = refl
-
-no-place : (room : ℕ) (bs : List ℕ) → written room bs .place ≡ 0
-unfolding written if_then_else_
-no-place room bs = by (leb (length bs) room)
-  where
-    by : (b : Bool) → (if b then record { code = 0; place = 0; spanStart = 0; spanEnd = 0; sheet = bs; message = [] } else bare 10 0) .place ≡ 0
-    by true = refl
-    by false = refl
+-- a code alone leaves both buffers
+bare-replies : (c p : ℕ) {n : Numbers} (s m : List ℕ) → n ≡ bareNumbers c p → p < 4294967296 → 1 ≤ c → (c ≡ 10 → ⊥) → Replies (bare c p) n s s m m
+bare-replies c p s m e h l z = record {
+  numbers = e;
+  near = h;
+  roomy = λ r t. z t;
+  form = λ t. absurd (omega (arith, t, l));
+  sheet = kept s;
+  message = kept m;
+}
 
 pub answers-fault : (setting : Setting) (bs : List ℕ) (x y : ℕ) {f : Fault} {q : Answer} {s m : List ℕ} → imageFault bs ≡ some f → numbersOf q ≡ bareNumbers (f .code) (f .place)
     → Stands q → Answers (answerUnder setting bs x y) q s s m m
 answers-fault setting bs x y {f} {q} {s} {m} e n t =
-    rw (answer-fault setting bs f x y e) record { numbers = n; stands = t; near = fault-near bs f e; short = omega arith; sheet = kept s; message = kept m }
+    let k = fault-told bs f e in
+    rw (answer-fault setting bs f x y e) record {
+      replies = bare-replies (f .code) (f .place) s m n (fault-near bs f e) (k .above) (λ t. omega (arith, t, k .below));
+      stands = t;
+    }
 
 module _ {bs : List ℕ} {setting : Setting} {t u : Tab} {gs : Rows} {top : ℕ} {su : List ℕ} {code place a b : ℕ} (h : Sound bs) (r : Ran bs setting t u gs top su code place a b) where
-  pub ran-accepting : code ≡ 0 → Accepting bs u gs top
-  ran-accepting z = let l = r .left (λ n. absurd (omega arith)) in record { sound = h; wf = l .grown .wf; fit = l .fit }
+  pub ran-accepting : t .m ≡ 0 → code ≡ 0 → Accepting bs u gs top
+  ran-accepting m z =
+      let l = r .left (λ n. absurd (omega arith)) in
+      record {
+        sound = h;
+        wf = l .grown .wf;
+        fit = l .fit;
+        few = omega (arith, l .elements-spent, m, sizes (h .headed) .nodes);
+      }
 
-  pub answers-accepted : {q : Answer} {old new m : List ℕ} → code ≡ 0
+  pub answers-accepted : {q : Answer} {old new m : List ℕ} → t .m ≡ 0 → code ≡ 0
       → Wrote (written (length old) (sheetOf (entries (namesOf bs) (newest (framesOf u gs top))))) q old new → Answers (answerUnder setting bs (length old) (length m)) q old new m m
-  answers-accepted {q} {old} {new} {m} z w =
+  answers-accepted {q} {old} {new} {m} k z w =
+      let es = entries (namesOf bs) (newest (framesOf u gs top)) in
+      let a = ran-accepting k z in
+      let l : withinLimits es ≡ true = rw (newest-row u gs top) (sheet-within (a .sound) (a .wf) (a .fit) (a .few)) in
       rw (ran-well h r z (length old) (length m)) record {
-        numbers = w .numbers;
+        replies = record {
+          numbers = w .numbers;
+          near = rw (no-place (length old) (sheetOf es)) (omega arith);
+          roomy = written-roomy (length old) es l;
+          form = written-form (length old) es l;
+          sheet = w .sheet;
+          message = rw (no-message (length old) (sheetOf es)) (kept m);
+        };
         stands = w .stands;
-        near = rw (no-place (length old) (sheetOf (entries (namesOf bs) (newest (framesOf u gs top))))) (omega arith);
-        short = written-short (length old) (sheetOf (entries (namesOf bs) (newest (framesOf u gs top)))) (rw (newest-row u gs top) (sheet-short h (ran-accepting z .wf) (ran-accepting z .fit)));
-        sheet = w .sheet;
-        message = rw (no-message (length old) (sheetOf (entries (namesOf bs) (newest (framesOf u gs top))))) (kept m);
       }
 
   pub answers-deep : (x y : ℕ) {s m : List ℕ} → (code ≡ 0 → ⊥) → code ≡ 9 → Answers (answerUnder setting bs x y) (NinthFrame place) s s m m
-  answers-deep x y {s} {m} z n = rw (ran-deep h r z n x y) record { numbers = refl; stands = tt; near = omega (arith, r .placed n, sizes (h .headed) .nodes); short = omega arith; sheet = kept s; message = kept m }
+  answers-deep x y {s} {m} z n =
+      rw (ran-deep h r z n x y) record {
+        replies = bare-replies 9 place s m refl (omega (arith, r .deep n .placed, sizes (h .headed) .nodes)) (omega arith) (λ t. omega (arith, t));
+        stands = tt;
+      }
 
   pub ran-refusing : {nodes : ℕ} → nodes ≡ nodesFrom bs → (code ≡ 0 → ⊥) → (code ≡ 9 → ⊥) → Refusing bs nodes u code place a b
   ran-refusing e z n = record {
@@ -85,13 +102,17 @@ module _ {bs : List ℕ} {setting : Setting} {t u : Tab} {gs : Rows} {top : ℕ}
       → Answers (answerUnder setting bs x (length old)) q s s old new
   unfolding refusedAs
   answers-refused x {q} {s} {old} {new} z n w =
+      let k = ran-typing h r z n in
       rw (ran-ill h r z n x (length old)) record {
-        numbers = w .numbers;
+        replies = record {
+          numbers = w .numbers;
+          near = omega (arith, r .named n .placed z, sizes (h .headed) .nodes);
+          roomy = λ l t. omega (arith, t, k);
+          form = λ t. absurd (omega (arith, t, k));
+          sheet = kept s;
+          message = w .message;
+        };
         stands = w .stands;
-        near = omega (arith, r .named n .placed z, sizes (h .headed) .nodes);
-        short = omega arith;
-        sheet = kept s;
-        message = w .message;
       }
 
 -- ---- the setting, by its number
@@ -109,7 +130,7 @@ module _ {n : ℕ} (bs : List ℕ) (x y : ℕ) {q : Answer} {s s₁ m m₁ : Lis
 pub answers-none : (n : ℕ) (bs : List ℕ) (x y : ℕ) {s m : List ℕ} → (n ≡ 0 → ⊥) → (n ≡ 1 → ⊥) → Answers (answer n bs x y) NoSetting s s m m
 answers-none n bs x y {s} {m} p q =
     rw (no-setting bs x y n (omega (arith, p, q)))
-    record { numbers = refl; stands = tt; near = omega arith; short = omega arith; sheet = kept s; message = kept m }
+    record { replies = bare-replies 13 0 s m refl (omega arith) (omega arith) (λ t. omega (arith, t)); stands = tt }
 
 -- ---- no second outcome fits
 
@@ -155,15 +176,39 @@ answer-back (Typing q) s =
       n 13 (omega arith),
     )
 
--- two outcomes that both meet the promise are equal, answer and bytes
+-- answers with the same numbers are equal
+pub same-answer : (r q : Answer) → Stands r → Stands q → numbersOf r ≡ numbersOf q → r ≡ q
+same-answer r q s t e = sym (answer-back r s) ∙ ap answerFrom e ∙ answer-back q t
+
+abbrev replyFrom : Numbers → Reply
+replyFrom n =
+    record {
+      code = n .code;
+      «span_start» = n .spanStart;
+      «span_end» = n .spanEnd;
+      place = n .place;
+      «sheet_length» = n .sheet;
+      «message_length» = n .message;
+    }
+
+-- and so are C's
+pub same-reply : (r q : Reply) → replyMeans r ≡ replyMeans q → r ≡ q
+same-reply r q e = ap replyFrom e
+
+-- the numbers and the bytes leave no choice
+pub one-told : {a : Meant} {n k : Numbers} {s s₁ s₂ m m₁ m₂ : List ℕ} → Replies a n s s₁ m m₁ → Replies a k s s₂ m m₂ → (n ≡ k) × (s₁ ≡ s₂) × (m₁ ≡ m₂)
+one-told x y = (x .numbers ∙ sym (y .numbers), x .sheet ∙ sym (y .sheet), x .message ∙ sym (y .message))
+
+-- two outcomes that both meet the promise of `check` are equal, answer and bytes
 pub one-outcome : (a : Meant) {r q : Answer} {s s₁ s₂ m m₁ m₂ : List ℕ} → Answers a r s s₁ m m₁ → Answers a q s s₂ m m₂ → (r ≡ q) × (s₁ ≡ s₂) × (m₁ ≡ m₂)
-one-outcome a {r} {q} x y = (
-  sym (answer-back r (x .stands)) ∙ ap answerFrom (x .numbers ∙ sym (y .numbers)) ∙ answer-back q (y .stands),
-  x .sheet ∙ sym (y .sheet),
-  x .message ∙ sym (y .message),
-)
+one-outcome a {r} {q} x y = let o = one-told (x .replies) (y .replies) in (same-answer r q (x .stands) (y .stands) (o .0), o .1, o .2)
 
 -- ---- for other languages
 
-pub replies : {a : Meant} {r : Answer} {n : Numbers} {s s₁ m m₁ : List ℕ} → n ≡ numbersOf r → Answers a r s s₁ m m₁ → Replies a n s s₁ m m₁
-replies e x = record { numbers = e ∙ x .numbers; near = x .near; sheet = x .sheet; message = x .message }
+pub replies : {a : Meant} {n k : Numbers} {s s₁ m m₁ : List ℕ} → n ≡ k → Replies a k s s₁ m m₁ → Replies a n s s₁ m m₁
+replies e x = record { numbers = e ∙ x .numbers; near = x .near; roomy = x .roomy; form = x .form; sheet = x .sheet; message = x .message }
+
+-- the same of `cablebirch_check`: every field and every byte
+pub one-reply : (a : Meant) (r q : Reply) {s s₁ s₂ m m₁ m₂ : List ℕ} → Replies a (replyMeans r) s s₁ m m₁ → Replies a (replyMeans q) s s₂ m m₂
+    → (r ≡ q) × (s₁ ≡ s₂) × (m₁ ≡ m₂)
+one-reply a r q x y = let o = one-told x y in (same-reply r q (o .0), o .1, o .2)

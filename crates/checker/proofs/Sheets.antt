@@ -6,18 +6,20 @@ use Prim.Native.Nat.{ℕ}
 use lib.ListN.{length}
 use Rattle.meaning.specs.Base.{if_then_else_, ifSome, choose}
 use Rattle.meaning.specs.Sheet.{sheetOf}
-use Rattle.meaning.specs.Read.{entriesIn, isSheet, readSheet}
-use Rattle.meaning.specs.Answer.{Answer as Meant, bare, written, writeAnswer, readAnswer, overlaid}
+use Rattle.meaning.specs.Read.{entriesIn, readSheet}
+use Rattle.meaning.specs.Answer.{Answer as Meant, written, writeAnswer, readAnswer, overlaid}
 use Rattle.meaning.proofs.Answers.{overlaid-none}
 use Rattle.types.specs.Table.{Tab}
 use Rattle.sheet.specs.Listing.{listed}
 use Rattle.sheet.specs.Listing.{Wrote as Laid}
 use Rattle.sheet.specs.Reading.{Reads}
-use Rattle.checker.specs.Answers.{Answers, Numbers, numbersIn, readingNumbers, rewritingNumbers, rewritten, Rewrote, Replies, Relaid}
+use Rattle.checker.specs.Answers.{Numbers, numbersIn, readingNumbers, rewritingNumbers, rewritten, Relaid, replyMeans}
+use Rattle.checker.specs.declared.Reply.{Reply}
 use Rattle.checker.specs.declared.Reading.{Reading}
 use Rattle.checker.specs.declared.Rewriting.{Rewriting}
 use Rattle.checker.specs.declared.Reading.the-variants.{Sheet, NoSheet}
 use Rattle.checker.specs.declared.Rewriting.the-variants.{Written, NoRoom, NotRead}
+use Rattle.checker.proofs.Outcomes.{same-reply}
 
 module _ {bs : List ℕ} {stands : Bool} {t : Tab} {cells : List ℕ} {n : ℕ} (r : Reads bs stands t cells n) where
   pub reading-yes : stands ≡ true → readingNumbers Sheet ≡ numbersIn (readAnswer bs)
@@ -32,19 +34,19 @@ module _ {bs : List ℕ} {stands : Bool} {t : Tab} {cells : List ℕ} {n : ℕ} 
   unfolding rewritten readSheet writeAnswer ifSome if_then_else_
   again e room = rw (sym (r .stands-is) ∙ e)
 
-  pub not-read : {out : List ℕ} → stands ≡ false → Rewrote (rewritten bs (length out)) NotRead out out
+  pub not-read : {out : List ℕ} → stands ≡ false → Relaid (rewritten bs (length out)) (rewritingNumbers NotRead) out out
   unfolding rewritten readSheet ifSome if_then_else_
   not-read {out} e =
       rw (sym (r .stands-is) ∙ e) record { numbers = refl; sheet = sym (overlaid-none out) }
 
   module _ {fits : Bool} {long : ℕ} {old new : List ℕ} (s : stands ≡ true) (w : Laid (listed bs t cells n) fits long old new) where
-    pub rewritten-yes : fits ≡ true → Rewrote (rewritten bs (length old)) (Written long) old new
+    pub rewritten-yes : fits ≡ true → Relaid (rewritten bs (length old)) (rewritingNumbers (Written long)) old new
     unfolding written if_then_else_
     rewritten-yes e =
         let f = sym (w .fits-is) ∙ e in
         rw (again s (length old), ← r .listed-is s) record { numbers = rw (w .length-is, f); sheet = w .out-is }
 
-    pub rewritten-no : fits ≡ false → Rewrote (rewritten bs (length old)) NoRoom old new
+    pub rewritten-no : fits ≡ false → Relaid (rewritten bs (length old)) (rewritingNumbers NoRoom) old new
     unfolding written if_then_else_
     rewritten-no e =
         let f = sym (w .fits-is) ∙ e in
@@ -55,7 +57,7 @@ module _ {bs : List ℕ} {stands : Bool} {t : Tab} {cells : List ℕ} {n : ℕ} 
 pub read-code : (bs : List ℕ) (c : ℕ) → c ≡ numbersIn (readAnswer bs) .code → c ≡ readAnswer bs .code
 read-code bs c e = e
 
-pub relays : {a : Meant} {r : Rewriting} {n : Numbers} {old new : List ℕ} → n ≡ rewritingNumbers r → Rewrote a r old new → Relaid a n old new
+pub relays : {a : Meant} {n k : Numbers} {old new : List ℕ} → n ≡ k → Relaid a k old new → Relaid a n old new
 relays e w = record { numbers = e ∙ w .numbers; sheet = w .sheet }
 
 -- ---- no second outcome fits
@@ -80,6 +82,17 @@ rewriting-back (Written n) = refl
 rewriting-back NoRoom = refl
 rewriting-back NotRead = refl
 
-pub one-rewriting : (a : Meant) {r q : Rewriting} {old new₁ new₂ : List ℕ} → Rewrote a r old new₁ → Rewrote a q old new₂ → (r ≡ q) × (new₁ ≡ new₂)
-one-rewriting a {r} {q} x y =
-    (sym (rewriting-back r) ∙ ap rewritingFrom (x .numbers ∙ sym (y .numbers)) ∙ rewriting-back q, x .sheet ∙ sym (y .sheet))
+pub same-rewriting : (r q : Rewriting) → rewritingNumbers r ≡ rewritingNumbers q → r ≡ q
+same-rewriting r q e = sym (rewriting-back r) ∙ ap rewritingFrom e ∙ rewriting-back q
+
+pub one-rewriting : (a : Meant) (r q : Rewriting) {old new₁ new₂ : List ℕ} → Relaid a (rewritingNumbers r) old new₁
+    → Relaid a (rewritingNumbers q) old new₂ → (r ≡ q) × (new₁ ≡ new₂)
+one-rewriting a r q x y = (same-rewriting r q (x .numbers ∙ sym (y .numbers)), x .sheet ∙ sym (y .sheet))
+
+-- nor one of the C twins: every field and every byte
+pub one-reading-told : (bs : List ℕ) {c d : ℕ} → c ≡ readAnswer bs .code → d ≡ readAnswer bs .code → c ≡ d
+one-reading-told bs x y = x ∙ sym y
+
+pub one-relaid : (a : Meant) (r q : Reply) {old new₁ new₂ : List ℕ} → Relaid a (replyMeans r) old new₁ → Relaid a (replyMeans q) old new₂
+    → (r ≡ q) × (new₁ ≡ new₂)
+one-relaid a r q x y = (same-reply r q (x .numbers ∙ sym (y .numbers)), x .sheet ∙ sym (y .sheet))

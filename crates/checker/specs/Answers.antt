@@ -1,11 +1,12 @@
 -- The answers of the public functions in the document's numbers, and what they leave of the lent bytes.
 use mathlib.Core.Path.{_≡_}
-use mathlib.Core.Bool.{Bool}
+use mathlib.Core.Bool.{Bool, true}
 use mathlib.Core.List.{List}
 use Prim.Native.Nat.{ℕ, _≤_, _<_}
 use lib.ListN.{length}
+use Rattle.meaning.specs.Limits.{largestSheet}
 use Rattle.meaning.specs.Base.{ifSome}
-use Rattle.meaning.specs.Read.{readSheet}
+use Rattle.meaning.specs.Read.{isSheet, readSheet}
 use Rattle.meaning.specs.Answer.{overlaid, bare, writeAnswer, answerUnder}
 use Rattle.meaning.specs.Answer.{Answer as Meant}
 use Rattle.stmt.specs.Contract.{settingIf}
@@ -75,15 +76,22 @@ numbersIn a =
       message = length (a .message);
     }
 
--- r has the numbers of a, its place and the length of its sheet are words, a's sheet stands at the front of the one buffer and its message
--- at the front of the other, and the rest is kept
-pub record Answers (a : Meant) (r : Answer) (oldSheet newSheet oldMessage newMessage : List ℕ) : Type 0 where
-  pub numbers : numbersOf r ≡ numbersIn a
-  pub stands : Stands r
+-- what is left for a caller who got the numbers n: they are a's; its place is a word; where the sheet's buffer has room for the largest sheet
+-- the answer is not 10; what is written for 0 is a sheet; a's sheet stands at the front of the one buffer and its message at the front of the
+-- other, and the rest is kept
+pub record Replies (a : Meant) (n : Numbers) (oldSheet newSheet oldMessage newMessage : List ℕ) : Type 0 where
+  pub numbers : n ≡ numbersIn a
   pub near : a .place < 4294967296
-  pub short : length (a .sheet) < 4294967296
+  -- "A sheet never exceeds 42,532 bytes."
+  pub roomy : largestSheet ≤ length oldSheet → a .code ≡ 10 → ⊥
+  pub form : a .code ≡ 0 → isSheet (a .sheet) ≡ true
   pub sheet : newSheet ≡ overlaid (a .sheet) oldSheet
   pub message : newMessage ≡ overlaid (a .message) oldMessage
+
+-- the same of an answer by cases
+pub record Answers (a : Meant) (r : Answer) (oldSheet newSheet oldMessage newMessage : List ℕ) : Type 0 where
+  pub replies : Replies a (numbersOf r) oldSheet newSheet oldMessage newMessage
+  pub stands : Stands r
 
 -- what comes of an image under one of the two settings
 abbrev pub AnswersUnder : Bool → List ℕ → Answer → List ℕ → List ℕ → List ℕ → List ℕ → Type 0
@@ -116,8 +124,9 @@ rewritingNumbers NotRead = bareNumbers 12 0
 unfoldable pub rewritten : List ℕ → ℕ → Meant
 rewritten bs room = ifSome (readSheet bs) (λ es. writeAnswer es room) (bare 12 0)
 
-pub record Rewrote (a : Meant) (r : Rewriting) (old new : List ℕ) : Type 0 where
-  pub numbers : rewritingNumbers r ≡ numbersIn a
+-- the same for a caller who got the numbers n
+pub record Relaid (a : Meant) (n : Numbers) (old new : List ℕ) : Type 0 where
+  pub numbers : n ≡ numbersIn a
   pub sheet : new ≡ overlaid (a .sheet) old
 
 -- ---- for other languages
@@ -132,13 +141,3 @@ replyMeans r =
       sheet = r .«sheet_length»;
       message = r .«message_length»;
     }
-
-pub record Replies (a : Meant) (n : Numbers) (oldSheet newSheet oldMessage newMessage : List ℕ) : Type 0 where
-  pub numbers : n ≡ numbersIn a
-  pub near : a .place < 4294967296
-  pub sheet : newSheet ≡ overlaid (a .sheet) oldSheet
-  pub message : newMessage ≡ overlaid (a .message) oldMessage
-
-pub record Relaid (a : Meant) (n : Numbers) (old new : List ℕ) : Type 0 where
-  pub numbers : n ≡ numbersIn a
-  pub sheet : new ≡ overlaid (a .sheet) old

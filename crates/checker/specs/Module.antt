@@ -9,8 +9,7 @@ use Rattle.meaning.specs.Frames.{Frame, Frames}
 use Rattle.meaning.specs.Walk.{plain, End, done, wrong, tooDeep}
 use Rattle.meaning.specs.Answer.{walked}
 use Rattle.meaning.proofs.SheetSame.{Held}
-use Rattle.checker.specs.declared.Answer.{Answer}
-use Rattle.checker.specs.Answers.{numbersOf}
+use Rattle.checker.specs.Answers.{Numbers}
 
 -- the frames that a walk ends with, the newest first
 unfoldable pub framesAt : End → Frames
@@ -35,6 +34,6 @@ ModuleHas image name t = Held (namesOf image) (moduleFrame image) name t
 pub record SameModule (a b : List ℕ) : Type 0 where
   pub same : (name : List ℕ) (t : Ty) → ModuleHas a name t ↔ ModuleHas b name t
 
--- the bytes of the sheet: so many as the answer tells, at the front of the buffer that was lent
-abbrev pub sheetIn : Answer → List ℕ → List ℕ
-sheetIn r buffer = take (numbersOf r .sheet) buffer
+-- the bytes of the sheet: so many as the answer's numbers tell, at the front of the buffer that was lent
+abbrev pub sheetIn : Numbers → List ℕ → List ℕ
+sheetIn n buffer = take (n .sheet) buffer

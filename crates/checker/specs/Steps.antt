@@ -2,6 +2,7 @@
 use mathlib.Core.Path.{_≡_}
 use mathlib.Core.List.{List, []}
 use Prim.Native.Nat.{ℕ, _+_, _≤_}
+use Rattle.meaning.specs.Limits.{mostElements}
 use Rattle.meaning.specs.Image.{nodeCount, nodesFrom, nodesOf, nodeOf, namesOf}
 use Rattle.meaning.specs.Message.{message, refusal}
 use Rattle.meaning.specs.Answer.{Answer, fitting}
@@ -32,6 +33,7 @@ pub record Accepting (bs : List ℕ) (t : Tab) (fs : Rows) (top : ℕ) : Type 0 
   pub sound : Sound bs
   pub wf : Wf t
   pub fit : Fit t fs top
+  pub few : t.m ≤ mostElements
 
 -- ---- a typing refusal
 

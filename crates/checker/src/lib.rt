@@ -11,7 +11,7 @@ ghost use Rattle.meaning.proofs.Faults.{Sound};
 ghost use Rattle.types.specs.Table.{tab};
 ghost use Rattle.frames.specs.Env.{framesOf};
 ghost use Rattle.checker.specs.Answers.{Answers, AnswersUnder, Wrote, Told, numbersOf, numbersIn, bareNumbers};
-ghost use Rattle.checker.specs.Answers.{readingNumbers, rewritingNumbers, rewritten, Rewrote, replyMeans};
+ghost use Rattle.checker.specs.Answers.{readingNumbers, rewritingNumbers, rewritten, replyMeans};
 ghost use Rattle.checker.specs.Answers.{Replies, Relaid};
 ghost use Rattle.checker.specs.Steps.{Sized, Lent, Accepting, Refusing, refusedAs};
 use frames::EMPTY;
@@ -288,8 +288,8 @@ pub enum Rewriting {
 
 // Reads a sheet and writes what was read with the check's own writer: the same bytes, if they fit.
 pub fn write_sheet(sheet: &[u8], out: &mut [u8]) -> Rewriting
-    ensures { λ r. ⌜ Rewrote (rewritten (now (sheet .entry)) (length (now (out .entry))))
-        r (now (out .entry)) (now (out .exit)) ⌝ }
+    ensures { λ r. ⌜ Relaid (rewritten (now (sheet .entry)) (length (now (out .entry))))
+        (rewritingNumbers r) (now (out .entry)) (now (out .exit)) ⌝ }
 {
     let mut table = [FRESH; MANY_CELLS];
     let mut names = NO_ENTRIES;

@@ -20,7 +20,7 @@ use Rattle.image.proofs.Moving.{parent-of}
 use Rattle.expr.specs.Contract.{At}
 use Rattle.expr.proofs.Rows.{shallow}
 use Rattle.stmt.specs.Contract.{stateOf, acted, walkedAt, bodyAt, Standing, Stmt, Bodiless, Within, Fine, Done}
-use Rattle.stmt.proofs.Laws.{ended-done, ended-wrong, was-deep, was-wrong, goes-on, too-deep, named-well, left-refl, fine-trans, fine-wider, done-as, ready-within, ready-next, wide-at, within-all, within-le, within-child, within-at}
+use Rattle.stmt.proofs.Laws.{ended-done, ended-wrong, was-deep, was-wrong, goes-on, too-deep, deep-wider, deep-then, named-well, left-refl, fine-trans, fine-wider, done-as, ready-within, ready-next, wide-at, within-all, within-le, within-child, within-at}
 
 less-one : (n : ℕ) → suc n - 1 ≡ n
 less-one n = sub-one (suc n)
@@ -106,7 +106,7 @@ module _ {bs : List ℕ} {setting : Setting} {nodes : ℕ} {t u : Tab} {fs gs : 
     pub loop-deep : code ≡ 9
         → Done (namesOf bs) (bodyAt bs setting loop drops d i (stateOf t fs top ret)) t v hs top peak had sv i (stopOf (nodesOf bs) i) (nodeCount bs) code place a b
     unfolding onward
-    loop-deep z = too-deep z (loop-answer ∙ rw (was-deep c z)) (c .placed z)
+    loop-deep z = too-deep z (loop-answer ∙ rw (was-deep c z)) (deep-wider (deep-then (l .fine .left) (c .deep z)) (omega arith) (loop-child .1))
 
     -- an error is returned
     pub loop-wrong : (code ≡ 0 → ⊥) → (code ≡ 9 → ⊥) → drops ≡ false
@@ -116,7 +116,7 @@ module _ {bs : List ℕ} {setting : Setting} {nodes : ℕ} {t u : Tab} {fs gs : 
       says = loop-answer ∙ rw (was-wrong c z n, y) (sym (ended-wrong (namesOf bs) v hs peak (denote v had) code place a b z n));
       fine = λ x. fine-wider (fine-trans (l .fine) (c .fine n)) (omega arith) (loop-child .1);
       named = c .named;
-      placed = c .placed;
+      deep = λ x. absurd (n x);
     }
 
     pub loop-next : {e : ℕ} → e ≡ stopOf (nodesOf bs) j → (code ≡ 9 → ⊥) → (code ≡ 0) ⊎ (drops ≡ true)
@@ -142,5 +142,5 @@ loop-end {bs} {setting} {nodes} {t} {u} {fs} {gs} {top} {ret} {i} {d} {loop} {dr
       says = (rw o at (l .answer)) ∙ sym (ended-done (namesOf bs) u gs high (denote u got) 0 0 0 0 refl);
       fine = λ _. fine-wider (l .fine) (omega arith) (within-le (l .standing .ready .sound) (l .within));
       named = λ _. named-well;
-      placed = λ x. absurd (omega arith);
+      deep = λ x. absurd (omega arith);
     }

@@ -35,7 +35,7 @@ use Rattle.expr.specs.Contract.{Ready, At}
 use Rattle.targets.specs.Ending.{ended, Named, Left, Assigned}
 use Rattle.targets.proofs.Endings.{left-then, left-wider}
 use Rattle.stmt.specs.Contract.{stateOf, acted, bodyAt, conditionAt, armBlock, armedAt, Standing, Stmt, Branch, Within, Done}
-use Rattle.stmt.proofs.Laws.{ended-done, ended-wrong, was-done, was-deep, was-wrong, too-deep, named-well, left-refl, left-rows, done-as, ready-within, ready-next, place-at, wide-at, within-all, within-le, within-child, within-at, count-if}
+use Rattle.stmt.proofs.Laws.{ended-done, ended-wrong, was-done, was-deep, was-wrong, too-deep, deep-wider, deep-then, named-well, left-refl, left-rows, done-as, ready-within, ready-next, place-at, wide-at, within-all, within-le, within-child, within-at, count-if}
 
 -- ---- one branch
 
@@ -129,7 +129,7 @@ module _ {bs : List ℕ} {nodes : ℕ} {t : Tab} {fs : Rows} {top : ℕ} {st : L
             says = when-is setting ∙ rw (c .says (denote t ret), w) (sym w ∙ rw (c .left .grown .same ret (r .kept)));
             fine = λ _. record { left = left-wider (c .left) (omega arith) (omega (arith, when-wide)); kept = omega (arith, r .kept, c .left .grown .more); raised = omega arith };
             named = λ _. c .named;
-            placed = λ x. absurd (c .typing x);
+            deep = λ x. absurd (c .typing x);
           }
 
       module _ {k : ℕ} (o : k ≡ stopOf (nodesOf bs) i) where
@@ -157,7 +157,7 @@ module _ {bs : List ℕ} {nodes : ℕ} {t : Tab} {fs : Rows} {top : ℕ} {st : L
                   let f = e .fine x in
                   rw m (record { left = left-then l (f .left); kept = f .kept; raised = f .raised });
               named = e .named;
-              placed = e .placed;
+              deep = λ x. rw m (deep-then l (e .deep x));
             }
 
 -- ---- the loop of `choices`: Δs are the frames of the branches so far, as ms and cs tell
@@ -249,7 +249,7 @@ module _ {bs : List ℕ} {setting : Setting} {nodes : ℕ} {t : Tab} {fs : Rows}
         → Done (namesOf bs) (acted bs setting loop d i (stateOf t fs top ret)) t v fs top top had sv i (stopOf (nodesOf bs) i) (nodeCount bs) code place′ a b
     unfolding onCopy _>>=_
     choosing-out z = elim (ℕ-discrete code 9) [
-      | yes y ↦ too-deep y (choosing-answer ∙ rw (was-deep c y)) (c .placed y)
+      | yes y ↦ too-deep y (choosing-answer ∙ rw (was-deep c y)) (deep-wider (deep-then (l .spent) (c .deep y)) (omega arith) (choosing-step .inside))
       | no y ↦ record {
         says = choosing-answer
             ∙ rw (was-wrong c z y, ← (choosing-same y)) (sym (ended-wrong (namesOf bs) v fs top (denote v had) code place′ a b z y));
@@ -259,7 +259,7 @@ module _ {bs : List ℕ} {setting : Setting} {nodes : ℕ} {t : Tab} {fs : Rows}
           raised = omega arith;
         };
         named = c .named;
-        placed = c .placed;
+        deep = λ x. absurd (y x);
       }
     ]
 
@@ -377,7 +377,6 @@ choosing-end {bs} {setting} {nodes} {t} {fs} {gs} {top} {ret} {i} {d} {loop} {u}
     let e = l .spent in
     let h = within-child s (within-all s i (q .there)) (omega (arith, count-if s q)) .2 in
     let le = within-le s (l .within) in
-    let deep = merge-shallow m in
     record {
       says = (rw o at (l .answer)) ∙ merged (namesOf bs) (i + 1) (denote u got) (sym (l .same)) (l .tally) c ∙ merge-ended (namesOf bs) u gs top (denote u got) (i + 1) m;
       fine = λ _. record {
@@ -392,5 +391,5 @@ choosing-end {bs} {setting} {nodes} {t} {fs} {gs} {top} {ret} {i} {d} {loop} {u}
         raised = omega arith;
       };
       named = λ _. merge-named u m c h;
-      placed = λ x. absurd (deep x);
+      deep = λ x. absurd (merge-shallow m x);
     }

@@ -19,7 +19,7 @@ use Rattle.meaning.proofs.Decoding.{while-at, for-at, def-at}
 use Rattle.meaning.proofs.Faults.{Sound}
 use Rattle.types.specs.Table.{Tab, denote}
 use Rattle.types.specs.Reading.{ElementOf}
-use Rattle.types.proofs.Laws.{unknown-number}
+use Rattle.types.proofs.Laws.{grown-refl, unknown-number}
 use Rattle.types.proofs.Answers.{perhaps-yes, perhaps-no}
 use Rattle.frames.specs.Env.{Rows, cellRoom, framesOf, Fit, Bound}
 use Rattle.frames.proofs.Laws.{frames-grown, frames-clear, frames-pop, length-frames, fit-clear, fit-top}
@@ -29,7 +29,7 @@ use Rattle.expr.specs.Contract.{Done as Typed}
 use Rattle.targets.specs.Ending.{ended, Named, Left, Assigned}
 use Rattle.targets.proofs.Endings.{left-then, left-wider}
 use Rattle.stmt.specs.Contract.{stateOf, acted, bodyAt, conditionAt, Standing, Stmt, Pair, Within, Params, Done, Entered, Iterated}
-use Rattle.stmt.proofs.Laws.{ended-done, ended-wrong, was-done, was-deep, was-wrong, too-deep, named-well, left-rows, ready-within, ready-next, typing, check-left, check-named, check-well, check-ill, place-at, within-all, within-end, within-child, within-at, pair-while, pair-for, count-def, arg-small, pair-wide}
+use Rattle.stmt.proofs.Laws.{ended-done, ended-wrong, was-done, was-deep, was-wrong, too-deep, deep-wider, deep-then, wide-at, named-well, left-rows, ready-within, ready-next, typing, check-left, check-named, check-well, check-ill, place-at, within-all, within-end, within-child, within-at, pair-while, pair-for, count-def, arg-small, pair-wide}
 
 -- ---- what a For walks over
 
@@ -90,7 +90,7 @@ pub copied : {ws : List Name} {whole inner : End} {t u v : Tab} {fs gs : Rows} {
     → Done ws inner u v gs top high got sv k e M code place a b → Done ws whole t v fs top top got sv i f M code place a b
 unfolding after
 copied {ws} {whole} {inner} {t} {u} {v} {fs} {gs} {top} {high} {got} {su} {sv} {i} {k} {e} {f} {M} {code} {place} {a} {b} here fit l o c = elim (ℕ-discrete code 9) [
-  | yes z ↦ too-deep z (here ∙ rw (was-deep c z)) (c .placed z)
+  | yes z ↦ too-deep z (here ∙ rw (was-deep c z)) (deep-wider (deep-then l (c .deep z)) (omega arith) o)
   | no z ↦
       let g = c .fine z in
       let same : framesOf v fs top ≡ framesOf t fs top = frames-grown (g .left .grown) (l .fit) ∙ frames-grown (l .grown) fit in
@@ -101,7 +101,7 @@ copied {ws} {whole} {inner} {t} {u} {v} {fs} {gs} {top} {high} {got} {su} {sv} {
         ];
         fine = λ _. record { left = left-wider (left-then l (left-rows (l .fit) (g .left))) (omega arith) o; kept = g .kept; raised = omega arith };
         named = c .named;
-        placed = c .placed;
+        deep = λ x. absurd (z x);
       }
 ]
 
@@ -148,7 +148,7 @@ module _ {bs : List ℕ} {nodes : ℕ} {t : Tab} {fs : Rows} {top : ℕ} {st : L
       says = o ∙ rw (l .grown .same ret (r .kept));
       fine = λ _. record { left = wider; kept = omega (arith, r .kept, l .grown .more); raised = omega arith };
       named = λ _. n;
-      placed = λ x. absurd (z x);
+      deep = λ x. absurd (z x);
     }
 
 -- ---- While
@@ -247,10 +247,14 @@ module _ {bs : List ℕ} {nodes : ℕ} {t : Tab} {fs : Rows} {top : ℕ} {st : L
   unfolding acted bodyAt act
   def-is setting loop = rw (def-at (nodesOf bs) (λ j. exprAt (nodesOf bs) d j) (λ j. blockAt (nodesOf bs) d j) i (q .kind), add-one i, m)
 
+  def-wide : i ≤ stopOf (nodesOf bs) i
+  def-wide = omega (arith, wide-at (r .ready .sound) i (q .there) .0)
+
   pub def-deep : 7 ≤ top → (setting : Setting) (loop : Bool)
       → Done (namesOf bs) (acted bs setting loop d i (stateOf t fs top ret)) t t fs top top ret st i (stopOf (nodesOf bs) i) (nodeCount bs) 9 i 0 0
   unfolding ifRoom if_then_else_
-  def-deep o setting loop = too-deep refl (def-is setting loop ∙ rw (length-frames t fs top, le-ltb (top + 1) 8 (omega arith))) (q .there)
+  def-deep o setting loop = too-deep refl (def-is setting loop ∙ rw (length-frames t fs top, le-ltb (top + 1) 8 (omega arith)))
+      (record { grown = grown-refl (r .ready .wf); types-spent = omega (arith, def-wide); placed = q .there })
 
   -- the new row, cleared and with the parameters bound
   module _ {cs es : Rows} {j k : ℕ} (o : top < 7) (c : cs ≡ set fs (top + 1) (replicate 128 0)) (here : j ≡ i + 1) (y′ : Entered cs es (top + 1) (paramsFrom (nodesOf bs) (n - 1) j))
@@ -326,7 +330,7 @@ module _ {bs : List ℕ} {nodes : ℕ} {t : Tab} {fs : Rows} {top : ℕ} {st : L
               raised = omega (arith, f .raised);
             };
             named = λ _. named-well;
-            placed = λ x. absurd (omega arith);
+            deep = λ x. absurd (omega arith);
           }
 
       -- the frame stays
@@ -334,7 +338,7 @@ module _ {bs : List ℕ} {nodes : ℕ} {t : Tab} {fs : Rows} {top : ℕ} {st : L
           → Done (namesOf bs) (acted bs setting loop d i (stateOf t fs top ret)) t u gs top high ret su i (stopOf (nodesOf bs) i) (nodeCount bs) code place a b
       unfolding popped after
       def-bad z loop = elim (ℕ-discrete code 9) [
-        | yes x ↦ too-deep x (def-answer setting loop ∙ rw (was-deep e x)) (e .placed x)
+        | yes x ↦ too-deep x (def-answer setting loop ∙ rw (was-deep e x)) (deep-wider (e .deep x) (omega (arith, block-ends .0)) (omega (arith, block-ends .1)))
         | no x ↦
             let f = e .fine x in
             record {
@@ -342,6 +346,6 @@ module _ {bs : List ℕ} {nodes : ℕ} {t : Tab} {fs : Rows} {top : ℕ} {st : L
                   (sym (ended-wrong (namesOf bs) u gs high (denote u ret) code place a b z x));
               fine = λ _. record { left = around x; kept = omega (arith, r .kept, f .left .grown .more); raised = omega (arith, f .raised) };
               named = e .named;
-              placed = e .placed;
+              deep = λ y. absurd (x y);
             }
       ]

@@ -22,7 +22,7 @@ use Rattle.meaning.proofs.Faults.{Sound, sizes}
 use Rattle.meaning.proofs.Nesting.{Nested, sound-nested, nodes-many, node-stands, child, children, children-le, children-end, deeper}
 use Rattle.meaning.proofs.Choices.{if-le}
 use Rattle.types.specs.Table.{Tab, denote}
-use Rattle.types.proofs.Laws.{grown-refl}
+use Rattle.types.proofs.Laws.{grown-refl, grown-trans}
 use Rattle.frames.specs.Env.{Rows, framesOf, Fit}
 use Rattle.frames.proofs.Laws.{frames-grown, fit-grown}
 use Rattle.rules.specs.Outcome.{typesNamed, pieces}
@@ -35,7 +35,7 @@ use Rattle.expr.specs.Contract.{Done as Typed}
 use Rattle.expr.proofs.Rows.{many}
 use Rattle.targets.specs.Ending.{ended, Named, Left}
 use Rattle.targets.proofs.Endings.{left-then, left-wider}
-use Rattle.stmt.specs.Contract.{stateOf, settingIf, Stmt, Pair, Within, Fine, Done}
+use Rattle.stmt.specs.Contract.{stateOf, settingIf, Stmt, Pair, Within, Fine, Deep, Done}
 
 -- ---- the setting: code that is told whether it is plain drops exactly if it is
 
@@ -80,14 +80,14 @@ module _ {ws : List Name} {r : End} {t u : Tab} {gs : Rows} {top high ret : ℕ}
     | no z ↦ rw (was-wrong z n, y)
   ]
 
--- a Def was too deep: nothing more is promised
+-- a Def was too deep: of the rows and the stack nothing more is promised
 pub too-deep : {ws : List Name} {r : End} {t u : Tab} {gs : Rows} {top high ret : ℕ} {su : List ℕ} {i e M code place a b : ℕ}
-    → code ≡ 9 → r ≡ tooDeep place → place < M → Done ws r t u gs top high ret su i e M code place a b
+    → code ≡ 9 → r ≡ tooDeep place → Deep t u i e M place → Done ws r t u gs top high ret su i e M code place a b
 too-deep {ws} {r} {t} {u} {gs} {top} {high} {ret} {su} {i} {e} {M} {code} {place} {a} {b} z q h = record {
   says = q ∙ sym (ended-deep ws u gs high (denote u ret) code place a b z);
   fine = λ n. absurd (n z);
   named = λ n. absurd (n z);
-  placed = λ _. h;
+  deep = λ _. h;
 }
 
 -- a code whose message names nothing
@@ -127,13 +127,24 @@ fine-trans a b = record { left = left-then (a .left) (b .left); kept = b .kept; 
 pub fine-wider : {t u : Tab} {gs : Rows} {top high ret : ℕ} {su : List ℕ} {i e k f : ℕ} → Fine t u gs top high ret su i e → k ≤ i → e ≤ f → Fine t u gs top high ret su k f
 fine-wider a p q = record { left = left-wider (a .left) p q; kept = a .kept; raised = a .raised }
 
+pub deep-wider : {t u : Tab} {i e k f M place : ℕ} → Deep t u i e M place → k ≤ i → e ≤ f → Deep t u k f M place
+deep-wider d p q = record { grown = d .grown; types-spent = omega (arith, d .types-spent); placed = d .placed }
+
+-- a part that ended otherwise, and then one that was too deep
+pub deep-then : {t u v : Tab} {gs : Rows} {high : ℕ} {su : List ℕ} {i j e M place : ℕ} → Left t u gs high su i j → Deep u v j e M place → Deep t v i e M place
+deep-then a d = record {
+  grown = grown-trans (a .grown) (d .grown);
+  types-spent = omega (arith, a .types-spent, d .types-spent);
+  placed = d .placed;
+}
+
 pub done-wider : {ws : List Name} {r : End} {t u : Tab} {gs : Rows} {top high ret : ℕ} {su : List ℕ} {i e k f M code place a b : ℕ}
     → Done ws r t u gs top high ret su i e M code place a b → k ≤ i → e ≤ f → Done ws r t u gs top high ret su k f M code place a b
-done-wider d p q = record { says = d .says; fine = λ n. fine-wider (d .fine n) p q; named = d .named; placed = d .placed }
+done-wider d p q = record { says = d .says; fine = λ n. fine-wider (d .fine n) p q; named = d .named; deep = λ x. deep-wider (d .deep x) p q }
 
 pub done-as : {ws : List Name} {r q : End} {t u : Tab} {gs : Rows} {top high ret : ℕ} {su : List ℕ} {i e M code place a b : ℕ}
     → q ≡ r → Done ws r t u gs top high ret su i e M code place a b → Done ws q t u gs top high ret su i e M code place a b
-done-as o d = record { says = o ∙ d .says; fine = d .fine; named = d .named; placed = d .placed }
+done-as o d = record { says = o ∙ d .says; fine = d .fine; named = d .named; deep = d .deep }
 
 -- all went well: the place and the numbers tell nothing
 pub done-any : {ws : List Name} {r : End} {t u : Tab} {gs : Rows} {top high ret : ℕ} {su : List ℕ} {i e M code place a b code′ place′ a′ b′ : ℕ}
@@ -142,7 +153,7 @@ done-any {ws} {r} {t} {u} {gs} {top} {high} {ret} {code′ = code′} {place′}
   says = was-done d z ∙ sym (ended-done ws u gs high (denote u ret) code′ place′ a′ b′ o);
   fine = λ _. d .fine (λ x. omega arith);
   named = λ _. rw o named-well;
-  placed = λ x. absurd (omega arith);
+  deep = λ x. absurd (omega arith);
 }
 
 pub ready-within : {bs : List ℕ} {nodes : ℕ} {fs : Rows} {top : ℕ} {t : Tab} {st : List ℕ} {i e j f : ℕ}

@@ -47,7 +47,7 @@ assigned-done {t = t} ret a h = record {
   says = rw (a .left .grown .same ret h) (a .says (denote t ret));
   fine = λ n. record { left = a .left; kept = omega (arith, a .left .grown .more); raised = omega arith };
   named = λ n. a .named;
-  placed = λ z. absurd (a .typing z);
+  deep = λ z. absurd (a .typing z);
 }
 
 -- ---- conditions and Exprs: the expression at node i is checked
@@ -128,7 +128,7 @@ module _ {bs : List ℕ} {nodes : ℕ} {t u : Tab} {fs : Rows} {top : ℕ} {st s
       says = rw (q .fine .grown .same ret k) (check-ill _ (r .fit) q z (denote t ret) _);
       fine = λ n. fine-here (omega (arith, q .fine .grown .more));
       named = λ n. check-named _ (r .fit) q;
-      placed = λ x. absurd (typing _ (r .fit) q x);
+      deep = λ x. absurd (typing _ (r .fit) q x);
     }
 
     pub give-agreed : {there : Bool} {got : ℕ} → code ≡ 0 → Agreement ret number there got → there ≡ true
@@ -143,7 +143,7 @@ module _ {bs : List ℕ} {nodes : ℕ} {t u : Tab} {fs : Rows} {top : ℕ} {st s
               ∙ rw (← same-old, o .says u (g .wf) m (q .below z), perhaps-yes u there got y) (well-says (denote u got) i);
           fine = λ n. fine-here (o .below u m (q .below z));
           named = λ n. named-well;
-          placed = λ x. absurd (omega arith);
+          deep = λ x. absurd (omega arith);
         }
 
     pub give-wrong : {there : Bool} {got : ℕ} → code ≡ 0 → Agreement ret number there got → there ≡ false
@@ -159,7 +159,7 @@ module _ {bs : List ℕ} {nodes : ℕ} {t u : Tab} {fs : Rows} {top : ℕ} {st s
               (sym (ended-wrong (namesOf bs) u fs top (denote u ret) 22 i ret number (λ x. omega arith) (λ x. omega arith)));
           fine = λ n. fine-here m;
           named = λ n. record { first = λ x. m; second = λ x. q .below z; small = λ x w. absurd (two w); placed = λ x. h .there };
-          placed = λ x. absurd (omega arith);
+          deep = λ x. absurd (omega arith);
         }
       where
         two : typesNamed 22 ≡ 0 → ⊥
@@ -238,7 +238,7 @@ module _ {bs : List ℕ} {nodes : ℕ} {t : Tab} {fs : Rows} {top : ℕ} {st : L
         says = o;
         fine = λ _. record { left = left-refl (r .ready) (omega arith); kept = r .kept; raised = omega arith };
         named = λ _. named-none code i z (λ _. q .there);
-        placed = λ x. absurd (n x);
+        deep = λ x. absurd (n x);
       }
 
   only-says : (c : ℕ) → (c ≡ 9 → ⊥) → (c ≡ 0 → ⊥) → pieces (namesOf bs) t c 0 0 ≡ []
@@ -333,7 +333,7 @@ module _ {bs : List ℕ} {nodes : ℕ} {t : Tab} {fs : Rows} {top : ℕ} {st : L
         says = nothing-at setting a b c f g n ∙ sym (ended-done (namesOf bs) t fs top (denote t ret) 0 0 0 0 refl);
         fine = λ _. record { left = left-refl (r .ready) (omega arith); kept = r .kept; raised = omega arith };
         named = λ _. named-well;
-        placed = λ x. absurd (omega arith);
+        deep = λ x. absurd (omega arith);
       }
 
 -- ---- parameters

@@ -23,9 +23,9 @@ use Rattle.frames.proofs.Laws.{zeros, map-replicate}
 use Rattle.meaning.specs.Frames.{empty}
 use Rattle.expr.specs.Contract.{Ready, At}
 use Rattle.targets.specs.Ending.{Left}
-use Rattle.targets.proofs.Endings.{left-then, left-wider}
+use Rattle.targets.proofs.Endings.{left-none, left-then, left-wider}
 use Rattle.stmt.specs.Contract.{stateOf, walkedAt, Standing, Within, Done, Started, Ran}
-use Rattle.stmt.proofs.Laws.{ended-done, ended-deep, ended-wrong, was-done, was-deep, was-wrong, named-well, left-refl, ready-within, ready-next, few-nodes, wide-at, within-all, within-le, within-child, within-at, stop-is}
+use Rattle.stmt.proofs.Laws.{ended-done, ended-deep, ended-wrong, was-done, was-deep, was-wrong, named-well, deep-wider, deep-then, ready-within, ready-next, few-nodes, wide-at, within-all, within-le, within-child, within-at, stop-is}
 use Rattle.stmt.proofs.Bodies.{block-down}
 
 root-depth : (ds : List Node) → 0 < length ds → 0 < nodeOf ds 0 .stop → 1 ≤ depth 0 0 ds
@@ -47,7 +47,7 @@ module _ {bs : List ℕ} (s : Sound bs) where
 pub record Running (bs : List ℕ) (setting : Setting) (nodes : ℕ) (t u : Tab) (gs : Rows) (high : ℕ) (su : List ℕ) (j left : ℕ) : Type 0 where
   pub standing : Standing bs nodes gs high u su 0 j (nodeCount bs)
   pub within : Within bs 0 j left
-  pub spent : Left t u gs high su 0 j
+  pub spent : Left t u gs high su 1 j
   pub returns : Ty
   pub answer : walked setting bs ≡ program (namesOf bs) setting (stmtsFrom (nodesOf bs) (λ k. stmtAt (nodesOf bs) 63 k) left j) (state (framesOf u gs high) returns)
 
@@ -69,7 +69,7 @@ running-first {bs} {setting} {nodes} {fs} {t} {st} {n} a k e =
     record {
       standing = record { ready = ready-within r (omega arith) (omega arith); kept = omega (arith, a .types) };
       within = rw e (within-all s 0 (some-node s));
-      spent = left-refl r (omega arith);
+      spent = left-none 1 (a .wf) (a .fit) (a .stack);
       returns = unknown;
       answer = rw (block-down bs 64 0 (omega arith), ← e, a .module-frame);
     }
@@ -104,7 +104,7 @@ module _ {bs : List ℕ} {setting : Setting} {nodes : ℕ} {t u : Tab} {gs : Row
       ];
       named = c .named;
       left = λ n. left-wider (left-then (l .spent) (c .fine n .left)) (omega arith) (omega (arith, running-child .1, root-stop (l .standing .ready .sound)));
-      placed = c .placed;
+      deep = λ y. deep-wider (deep-then (l .spent) (c .deep y)) (omega arith) (omega (arith, running-child .1, root-stop (l .standing .ready .sound)));
     }
 
     pub running-next : {e : ℕ} → e ≡ stopOf (nodesOf bs) j → code ≡ 0 → Running bs setting nodes t v hs peak sv e (left - 1)
@@ -131,7 +131,7 @@ running-end {bs} {setting} {nodes} {t} {u} {gs} {high} {su} {j} {left} l z =
       says = (rw o at (l .answer)) ∙ sym (ended-done (namesOf bs) u gs high (l .returns) 0 0 0 0 refl);
       named = λ _. named-well;
       left = λ _. left-wider (l .spent) (omega arith) (omega (arith, within-le s (l .within), root-stop s));
-      placed = λ x. absurd (omega arith);
+      deep = λ x. absurd (omega arith);
     }
 
 -- ---- eight rows of absent names: the module's frame is empty

@@ -155,11 +155,17 @@ pub record Fine (t u : Tab) (gs : Rows) (top high ret : ℕ) (su : List ℕ) (i 
   pub kept : ret < u.n
   pub raised : top ≤ high
 
+-- a Def, at this place of M nodes, needed a ninth frame: of the table no more was spent than of any walk
+pub record Deep (t u : Tab) (i e M place : ℕ) : Type 0 where
+  pub grown : Grown t u
+  pub types-spent : u.n + i ≤ t.n + e
+  pub placed : place < M
+
 pub record Done (ws : List Name) (r : End) (t u : Tab) (gs : Rows) (top high ret : ℕ) (su : List ℕ) (i e M code place a b : ℕ) : Type 0 where
   pub says : r ≡ ended ws u gs high (denote u ret) code place a b
   pub fine : (code ≡ 9 → ⊥) → Fine t u gs top high ret su i e
   pub named : (code ≡ 9 → ⊥) → Named u M code place a b
-  pub placed : code ≡ 9 → place < M
+  pub deep : code ≡ 9 → Deep t u i e M place
 
 -- gs is fs with the names xs in the row `top` as Unknown, whatever the table
 pub record Entered (fs gs : Rows) (top : ℕ) (xs : List ℕ) : Type 0 where
@@ -199,10 +205,10 @@ pub record Refuses (e : Answer) (code : ℕ) : Type 0 where
   pub coded : e ≡ answer.Wrong → code ≡ 0 → ⊥
   pub typing : e ≡ answer.Wrong → code ≡ 9 → ⊥
 
--- how the whole walk ended, y being the return type where it stood
+-- how the whole walk ended, and the return type where it stood; node 0, the module's Block, forms no type
 pub record Ran (bs : List ℕ) (setting : Setting) (t u : Tab) (gs : Rows) (top : ℕ) (su : List ℕ) (code place a b : ℕ) : Type 0 where
   pub returns : Ty
   pub says : walked setting bs ≡ ended (namesOf bs) u gs top returns code place a b
   pub named : (code ≡ 9 → ⊥) → Named u (nodeCount bs) code place a b
-  pub left : (code ≡ 9 → ⊥) → Left t u gs top su 0 (nodeCount bs)
-  pub placed : code ≡ 9 → place < nodeCount bs
+  pub left : (code ≡ 9 → ⊥) → Left t u gs top su 1 (nodeCount bs)
+  pub deep : code ≡ 9 → Deep t u 1 (nodeCount bs) (nodeCount bs) place

@@ -28,7 +28,7 @@ same-length-2 c = search needs
 -- src/lib.rt:271:1
 returns : tie.Need-returns
 returns c =
-    replies (c .replied .ensures) (c .before .before .before .before .before .check .ensures)
+    replies (c .replied .ensures) (c .before .before .before .before .before .check .ensures .replies)
 
 pub cablebirch-check-spec : {M : Type 1} → statement M
 cablebirch-check-spec =

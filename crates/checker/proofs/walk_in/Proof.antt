@@ -2,6 +2,7 @@
 use Rattle.checker.proofs.Lending.{lent-started}
 use Rattle.checker.proofs.Outcomes.{ran-accepting, answers-accepted, answers-deep, ran-refusing, answers-refused}
 use Rattle.stmt.proofs.Cells.{ended-done, ended-deep}
+use mathlib.Core.Path.{refl}
 use native.Mathlib.Omega.{arith}
 use borrow.Author.Needs.{needs}
 use Rattle.checker.proofs.walk_in.Statement.{statement}
@@ -30,7 +31,7 @@ enum-told c = search needs
 -- src/lib.rt:144:22
 accept-requires : tie.Need-accept-requires
 accept-requires c κs =
-    ran-accepting (c .before .before .before .before .before .before .before .before .before .before .before .before .before .before .before .before .before .before .before .pre .sound) (c .before .before .before .before .before .before .before .typecheck-program .ensures .0) (ended-done _ (c .before .before .before .enum-told .given .1))
+    ran-accepting (c .before .before .before .before .before .before .before .before .before .before .before .before .before .before .before .before .before .before .before .pre .sound) (c .before .before .before .before .before .before .before .typecheck-program .ensures .0) refl (ended-done _ (c .before .before .before .enum-told .given .1))
 
 -- src/lib.rt:148:13
 enum-told-2 : tie.Need-enum-told-2
@@ -56,7 +57,7 @@ same-length-2 c = search needs
 -- src/lib.rt:126:1
 returns : tie.Need-returns
 returns c =
-    answers-accepted (c .before .before .before .before .before .before .before .before .before .before .before .before .before .before .before .before .before .before .before .before .before .before .pre .sound) (c .before .before .before .before .before .before .before .before .before .before .typecheck-program .ensures .0) (ended-done _ (c .before .before .before .before .before .before .enum-told .given .1)) (c .before .before .accept .ensures)
+    answers-accepted (c .before .before .before .before .before .before .before .before .before .before .before .before .before .before .before .before .before .before .before .before .before .before .pre .sound) (c .before .before .before .before .before .before .before .before .before .before .typecheck-program .ensures .0) refl (ended-done _ (c .before .before .before .before .before .before .enum-told .given .1)) (c .before .before .accept .ensures)
 
 -- src/lib.rt:126:1
 same-length-3 : tie.Need-same-length-3
