@@ -21,8 +21,9 @@ use Rattle.meaning.proofs.Kept.{refused-typing}
 use Rattle.meaning.proofs.Answers.{overlaid-length, overlaid-front}
 use Rattle.meaning.proofs.Answers.{answered as bounds}
 use Rattle.meaning.proofs.SheetForm.{sheet-size}
-use Rattle.line.specs.Printing.{Printable, answered, Lined}
+use Rattle.line.specs.Printing.{Printable, answered, Fronted, Lined}
 use Rattle.checker.specs.Answers.{Numbers, numbersIn, Replies}
+use Rattle.checker.proofs.Demand.{reply-short}
 
 -- ---- an accepted program's sheet has a header
 
@@ -69,6 +70,9 @@ within old {new} {size} w e f kept =
     let long : length new ≡ length w + length (drop (length w) old) = ap length e ∙ length-append w (drop (length w) old) in
     omega (arith, long, f, kept)
 
+pub fronted : (old : List ℕ) {new : List ℕ} {size : ℕ} (w : List ℕ) → new ≡ overlaid w old → size ≡ length w → length new ≡ length old → Fronted w old new size
+fronted old w e f kept = record { line = e; ends = f; long = kept; inside = omega (arith, kept, within old w e f kept) }
+
 -- ---- the buffers
 
 module _ (setting : ℕ) (bs : List ℕ) {n : Numbers} (s s₁ m m₁ : List ℕ) (r : Replies (answer setting bs (length s) (length m)) n s s₁ m m₁) where
@@ -105,14 +109,16 @@ module _ (setting : ℕ) (bs : List ℕ) {n : Numbers} (s s₁ m m₁ : List ℕ
   has-header : n .code ≡ 0 → 40 ≤ length (answer setting bs (length s) (length m) .sheet)
   has-header z = answer-header setting bs (length s) (length m) .forty (sym code-is ∙ z)
 
-  pub printable : {out : List ℕ} → length s < 4294967296 → 64 + length m ≤ length out
-      → Printable (n .code) (take (n .sheet) s₁) (take (n .message) m₁) out
-  printable short room =
+  short-sheet : length (answer setting bs (length s) (length m) .sheet) < 4294967296
+  short-sheet = reply-short setting bs (length s) (length m) r
+
+  pub printable : {out : List ℕ} → 64 + length m ≤ length out → Printable (n .code) (take (n .sheet) s₁) (take (n .message) m₁) out
+  printable room =
       let q = length-take-le (n .sheet) s₁ sheet-in in
       let t = length-take-le (n .message) m₁ message-in in
       record {
         headed = λ z. omega (arith, q, size-is, has-header z);
-        short = omega (arith, q, sheet-in, long-s, short);
+        short = omega (arith, q, size-is, short-sheet);
         room = omega (arith, t, message-in, long-m, room);
       }
 
@@ -120,17 +126,15 @@ module _ (setting : ℕ) (bs : List ℕ) {n : Numbers} (s s₁ m m₁ : List ℕ
       → (new ≡ overlaid (lineOf (answered (n .code) p (n .spanStart) (n .spanEnd) (take (n .sheet) s₁) (take (n .message) m₁))) old)
       × (size ≡ length (lineOf (answered (n .code) p (n .spanStart) (n .spanEnd) (take (n .sheet) s₁) (take (n .message) m₁))))
       → length new ≡ length old
-      → Lined (answer setting bs (length s) (length m)) old new s s₁ size (n .code) (n .sheet)
+      → Lined (answer setting bs (length s) (length m)) old new s s₁ m m₁ size (n .code) (n .sheet)
   lined {old} {new} {size} {p} e w kept =
       let l : lineOf (answered (n .code) p (n .spanStart) (n .spanEnd) (take (n .sheet) s₁) (take (n .message) m₁)) ≡ lineOf (answer setting bs (length s) (length m)) =
       rw (e, sheet-part, message-part, r .numbers) in
       record {
-        line = w .0 ∙ rw l;
-        ends = w .1 ∙ ap length l;
-        inside = within old (lineOf (answer setting bs (length s) (length m))) (w .0 ∙ rw l) (w .1 ∙ ap length l) kept;
+        front = fronted old (lineOf (answer setting bs (length s) (length m))) (w .0 ∙ rw l) (w .1 ∙ ap length l) kept;
+        sheet = r .sheet;
+        message = r .message;
         told = code-is;
-        sheet-long = long-s;
-        sheet-inside = sheet-in;
-        sheet-is = sheet-part;
-        headed = has-header;
+        counted = size-is;
+        roomy = r .roomy;
       }

@@ -3,7 +3,8 @@ use mathlib.Core.Path.{_≡_}
 use mathlib.Core.List.{List}
 use Prim.Native.Nat.{ℕ, _+_, _<_, _≤_}
 use lib.Dec.{eqb}
-use lib.ListN.{length, take}
+use lib.ListN.{length}
+use Rattle.meaning.specs.Limits.{largestSheet}
 use Rattle.meaning.specs.Answer.{Answer, overlaid}
 use Rattle.meaning.specs.Base.{if_then_else_, bytes}
 use Rattle.meaning.specs.Line.{lineOf}
@@ -31,13 +32,19 @@ pub record Wrote (d : List ℕ) (at : ℕ) (s e : List ℕ) (end : ℕ) : Type 0
   pub long : length e ≡ length d
   pub inside : end ≤ length e
 
--- the line of an answer stands at the front of a buffer, its sheet at the front of another; size is the line's
-pub record Lined (a : Answer) (old new oldSheet newSheet : List ℕ) (size code sheet : ℕ) : Type 0 where
-  pub line : new ≡ overlaid (lineOf a) old
-  pub ends : size ≡ length (lineOf a)
-  pub inside : size ≤ length old
+-- a line stands at the front of a buffer that is as long as it was, and the rest is kept
+pub record Fronted (w old new : List ℕ) (size : ℕ) : Type 0 where
+  pub line : new ≡ overlaid w old
+  pub ends : size ≡ length w
+  pub long : length new ≡ length old
+  pub inside : size ≤ length new
+
+-- the line of an answer stands at the front of a buffer, its sheet and its message at the front of two others, and the rest of the three is
+-- kept; size is the line's, count the sheet's; and a room for the largest sheet is never too short
+pub record Lined (a : Answer) (old new oldSheet newSheet oldMessage newMessage : List ℕ) (size code count : ℕ) : Type 0 where
+  pub front : Fronted (lineOf a) old new size
+  pub sheet : newSheet ≡ overlaid (a .sheet) oldSheet
+  pub message : newMessage ≡ overlaid (a .message) oldMessage
   pub told : code ≡ a .code
-  pub sheet-long : length newSheet ≡ length oldSheet
-  pub sheet-inside : sheet ≤ length newSheet
-  pub sheet-is : take sheet newSheet ≡ a .sheet
-  pub headed : code ≡ 0 → 40 ≤ length (a .sheet)
+  pub counted : count ≡ length (a .sheet)
+  pub roomy : largestSheet ≤ length oldSheet → a .code ≡ 10 → ⊥

@@ -128,12 +128,11 @@ pub fn of_image(
     message: &mut [u8],
     out: &mut [u8],
 ) -> Printed
-    requires { ⌜ length (now sheet) < 4294967296 ⌝ }
     requires { ⌜ 64 + length (now message) ≤ length (now out) ⌝ }
     ensures { λ r. ⌜ Lined
         (answer setting (now (image .entry)) (length (now (sheet .entry))) (length (now (message .entry))))
         (now (out .entry)) (now (out .exit)) (now (sheet .entry)) (now (sheet .exit))
-        (r .length) (r .code) (r .sheet) ⌝ }
+        (now (message .entry)) (now (message .exit)) (r .length) (r .code) (r .sheet) ⌝ }
 {
     let a = cablebirch_check(setting, image, sheet, message);
     let length = write(

@@ -22,10 +22,12 @@ use Rattle.meaning.proofs.SheetForm.{sheet-size}
 use Rattle.words.specs.Words.{putAt}
 use Rattle.words.proofs.Laws.{decimal-length, put-overlaid}
 use Rattle.checker.specs.Answers.{Numbers, rewritten, Relaid}
-use Rattle.line.specs.Printing.{Printable, Wrote, Lined, answered}
+use Rattle.line.specs.Printing.{Printable, Wrote, Fronted, Lined, answered}
 use Rattle.line.proofs.Pieces.{wrote, and-then, spaced-next}
-use Rattle.line.proofs.Answered.{Header, bare-header, written-header, within}
-use Rattle.replay.specs.Lines.{fnvOf, hexOf, checksum, summedLine, readLine, rewrittenLine, sheetLine, Fronted}
+use Rattle.line.proofs.Answered.{Header, bare-header, written-header}
+use Rattle.line.proofs.Answered.{fronted as to-front}
+use Rattle.line.proofs.One.{sheet-is}
+use Rattle.replay.specs.Lines.{fnvOf, hexOf, checksum, summedLine, readLine, rewrittenLine, sheetLine}
 
 -- ---- sixteen digits
 
@@ -128,38 +130,34 @@ not-summed : (a : Answer) → (a .code ≡ 0 → ⊥) → summedLine a ≡ lineO
 unfolding summedLine if_then_else_
 not-summed a nz = rw (ne-eqb _ _ nz)
 
-module _ {a : Answer} {old mid s s₁ : List ℕ} {size code sheet : ℕ} (l : Lined a old mid s s₁ size code sheet) where
-  kept : length mid ≡ length old
-  kept = ap length (l .line) ∙ overlaid-length _ old (omega (arith, l .ends, l .inside))
-
+module _ {a : Answer} {old mid s s₁ t t₁ : List ℕ} {size code count : ℕ} (l : Lined a old mid s s₁ t t₁ size code count) where
   size-of : code ≡ 0 → (1 ≤ size) × (size ≤ 42)
   size-of z =
       let n = accepted-size (a .sheet) in
-      let e : size ≡ length (acceptedLine (a .sheet)) = l .ends ∙ ap length (is-accepted a (sym (l .told) ∙ z)) in
+      let e : size ≡ length (acceptedLine (a .sheet)) = l .front .ends ∙ ap length (is-accepted a (sym (l .told) ∙ z)) in
       (omega (arith, e, n .0), omega (arith, e, n .1))
 
   pub some-line : code ≡ 0 → 1 ≤ size
   some-line z = size-of z .0
 
   pub sum-room : code ≡ 0 → 1152 ≤ length old → size - 1 + 19 ≤ length mid
-  sum-room z room = omega (arith, size-of z .0, size-of z .1, kept, room)
+  sum-room z room = omega (arith, size-of z .0, size-of z .1, l .front .long, room)
 
   pub fronted : (code ≡ 0 → ⊥) → Fronted (summedLine a) old mid size
-  fronted nz =
-      rw (not-summed a (λ e. nz (l .told ∙ e))) record { line = l .line; ends = l .ends; long = kept; inside = omega (arith, kept, l .inside) }
+  fronted nz = rw (not-summed a (λ e. nz (l .told ∙ e))) (l .front)
 
-  pub summed : {new : List ℕ} {r : ℕ} → code ≡ 0 → Wrote mid (size - 1) (checksum (take sheet s₁)) new r → Fronted (summedLine a) old new r
+  pub summed : {new : List ℕ} {r : ℕ} → code ≡ 0 → Wrote mid (size - 1) (checksum (take count s₁)) new r → Fronted (summedLine a) old new r
   summed {new} {r} z w =
       let c = checksum-size (a .sheet) in
       let n = size-of z in
       let first : length (lineOf a) - 1 ≤ length (lineOf a) = omega arith in
       let e : new ≡ putAt (overlaid (lineOf a) old) (length (lineOf a) - 1) (checksum (a .sheet)) =
-      rw (l .line, l .ends, l .sheet-is) at (w .same) in
-      let p : r ≡ length (lineOf a) - 1 + length (checksum (a .sheet)) = rw (l .ends, l .sheet-is) at (w .ends) in
+      rw (l .front .line, l .front .ends, sheet-is l) at (w .same) in
+      let p : r ≡ length (lineOf a) - 1 + length (checksum (a .sheet)) = rw (l .front .ends, sheet-is l) at (w .ends) in
       rw (is-summed a (sym (l .told) ∙ z)) record {
         line = e ∙ over old (lineOf a) (checksum (a .sheet)) (length (lineOf a) - 1) first (omega (arith, c));
         ends = p ∙ sym (length-append (take (length (lineOf a) - 1) (lineOf a)) (checksum (a .sheet)) ∙ rw (length-take-le (length (lineOf a) - 1) (lineOf a) first));
-        long = w .long ∙ kept;
+        long = w .long ∙ l .front .long;
         inside = w .inside;
       }
 
@@ -244,7 +242,7 @@ module _ (bs : List ℕ) {n : Numbers} (s s₁ : List ℕ) (r : Relaid (rewritte
       → length e ≡ length d → Fronted (rewrittenLine (rewritten bs (length s))) d e m
   refused-front {d} {e} {m} nz w k =
       let l : rewrittenLine (rewritten bs (length s)) ≡ lineOf (bare (n .code) 0) = not-read _ (λ z. nz (code-is ∙ z)) ∙ ap lineOf (refused-is nz) in
-      rw l record { line = w .0; ends = w .1; long = k; inside = omega (arith, k, within d (lineOf (bare (n .code) 0)) (w .0) (w .1) k) }
+      rw l (to-front d (lineOf (bare (n .code) 0)) (w .0) (w .1) k)
 
   pub read-fronted : {d e : List ℕ} {m : ℕ} → length s ≡ 42532 → n .code ≡ 0 → Wrote d 0 (readLine (take (n .sheet) s₁)) e m → Fronted (sheetLine bs) d e m
   unfolding sheetLine

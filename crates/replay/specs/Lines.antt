@@ -1,15 +1,14 @@
 -- The lines of the oracle's batch form: document 01's printed line, and behind it the checksum of the sheet, "since the line alone does
 -- not tell sheets of one size apart".
-use mathlib.Core.Path.{_≡_}
 use mathlib.Core.List.{List, [], _∷_, _++_}
-use Prim.Native.Nat.{ℕ, _+_, _-_, _*_, _%_, _^_, _≤_}
+use Prim.Native.Nat.{ℕ, _+_, _-_, _*_, _%_, _^_}
 use lib.Bits.{bitXor}
 use lib.Dec.{eqb}
 use lib.ListN.{length, take}
 use Rattle.io.specs.Digits.{digits}
 use Rattle.meaning.specs.Base.{if_then_else_, bytes, word}
 use Rattle.meaning.specs.Limits.{largestSheet, sheetBuffer, messageBuffer}
-use Rattle.meaning.specs.Answer.{Answer, answer, overlaid}
+use Rattle.meaning.specs.Answer.{Answer, answer}
 use Rattle.meaning.specs.Line.{spaced, lineOf}
 use Rattle.checker.specs.Answers.{rewritten}
 use Rattle.replay.specs.declared.Task.{Task}
@@ -69,10 +68,3 @@ lineFor Images image = checkedLine 0 image sheetBuffer messageBuffer
 lineFor Strict image = checkedLine 1 image sheetBuffer messageBuffer
 lineFor Tight image = checkedLine 0 image 98 69
 lineFor Sheets sheet = sheetLine sheet
-
--- a line stands at the front of a buffer that is as long as it was
-pub record Fronted (w old new : List ℕ) (size : ℕ) : Type 0 where
-  pub line : new ≡ overlaid w old
-  pub ends : size ≡ length w
-  pub long : length new ≡ length old
-  pub inside : size ≤ length new

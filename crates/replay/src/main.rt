@@ -6,10 +6,10 @@ ghost use mathlib.Core.Path.{_≡_};
 ghost use mathlib.Core.Bool.{true};
 ghost use Prim.Native.Nat.{_+_, _*_, _%_, _^_, _<_, _≤_, min};
 ghost use lib.ListN.{length};
-ghost use Rattle.line.specs.Printing.{Wrote};
+ghost use Rattle.line.specs.Printing.{Wrote, Fronted};
 ghost use Rattle.meaning.specs.Limits.{sheetBuffer, messageBuffer};
 ghost use Rattle.replay.specs.Lines.{lineRoom, fnvOf, hexOf, checksum, checkedLine};
-ghost use Rattle.replay.specs.Lines.{readLine, sheetLine, lineFor, Fronted};
+ghost use Rattle.replay.specs.Lines.{readLine, sheetLine, lineFor};
 use checker::PLAIN;
 use checker::STRICT;
 use checker::cablebirch_write_sheet;
@@ -244,9 +244,8 @@ fn signed(n: u32) -> isize {
     n as isize
 }
 
-// A record that is longer than the buffer is cut. The answer is the same, if the buffer has 59,937 bytes: 1 and 2 are
-// decided by the first 32 bytes, and where those stand "an image has at most 59,936 bytes", so that either length
-// gives 3; a sheet has at most 42,532, so that either length gives 12.
+// A record that is longer than the buffer is cut. Its line is the same, if the buffer has 59,937 bytes: `line-cut` in
+// proofs/Cutting.antt. That what stands in the buffer is the record's front is believed, as `io` promises no bytes.
 fn next(fd: i32, buf: &mut [u8]) -> Got
     ensures { λ r. ⌜ r .length ≤ length (now (buf .exit)) ⌝ }
 {

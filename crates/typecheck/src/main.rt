@@ -1,12 +1,8 @@
 // Reads a program image on standard input and prints the one line of its answer. The word behind the program's name is
 // the setting: none or `plain`, or `strict`; anything else gets code 13.
-ghost use mathlib.Core.Path.{_≡_};
-ghost use Prim.Native.Nat.{_+_, _≤_};
+ghost use Prim.Native.Nat.{_≤_};
 ghost use lib.ListN.{length};
-ghost use Rattle.meaning.specs.Answer.{answer, overlaid};
-ghost use Rattle.meaning.specs.Line.{lineOf};
-ghost use Rattle.meaning.specs.Limits.{sheetBuffer, messageBuffer};
-ghost use Rattle.typecheck.specs.Words.{Told};
+ghost use Rattle.typecheck.specs.Words.{Told, lineRoom, Shows};
 use checker::PLAIN;
 use checker::STRICT;
 use limits::MESSAGE_BUFFER;
@@ -44,27 +40,27 @@ fn setting_told(arguments: usize, word: &[u8]) -> u32
     NO_SETTING
 }
 
-// The line for an image, at the front of `out`: "Its message buffer has 1,024 bytes, its sheet buffer 42,532."
-fn print_line(setting: u32, image: &[u8], out: &mut [u8]) -> usize
-    requires { ⌜ 64 + messageBuffer ≤ length (now out) ⌝ }
-    ensures { λ _. ⌜ now (out .exit) ≡ overlaid
-        (lineOf (answer setting (now (image .entry)) sheetBuffer messageBuffer)) (now (out .entry)) ⌝ }
-    ensures { λ r. ⌜ r ≡ length (lineOf (answer setting (now (image .entry)) sheetBuffer messageBuffer)) ⌝ }
-    ensures { λ r. ⌜ r ≤ length (now (out .entry)) ⌝ }
+// The line for the program's arguments and what stands on standard input, at the front of `out`. "Its message buffer
+// has 1,024 bytes, its sheet buffer 42,532."
+fn print_line(arguments: usize, word: &[u8], input: &[u8], out: &mut [u8]) -> usize
+    requires { ⌜ lineRoom ≤ length (now out) ⌝ }
+    ensures { λ r. ⌜ Shows arguments (now (word .entry)) (now (input .entry))
+        (now (out .entry)) (now (out .exit)) r ⌝ }
+    ensures { λ r. ⌜ r ≤ length (now (out .exit)) ⌝ }
 {
+    let setting = setting_told(arguments, word);
     let mut sheet = [0u8; SHEET_BUFFER];
     let mut message = [0u8; MESSAGE_BUFFER];
-    let p = line::of_image(setting, image, &mut sheet, &mut message, out);
+    let p = line::of_image(setting, input, &mut sheet, &mut message, out);
     p.length
 }
 
 fn main() {
     let mut word = io::buffer();
     let w = os::arg(1, &mut word);
-    let setting = setting_told(os::arg_count(), &word[..w]);
     let mut input = [0u8; READ_AT_MOST];
     let n = io::read_full(STDIN, &mut input);
     let mut out = [0u8; LINE];
-    let length = print_line(setting, &input[..n], &mut out);
+    let length = print_line(os::arg_count(), &word[..w], &input[..n], &mut out);
     io::write_all(STDOUT, text(&out, 0, length));
 }

@@ -33,7 +33,7 @@ text-requires-2 c κs =
 -- src/lib.rt:127:9
 write-requires : tie.Need-write-requires
 write-requires c κs =
-    rw (c .before .before .before .text .ensures, c .before .text2 .ensures) (printable _ _ _ _ _ _ (c .before .before .before .before .before .before .before .before .before .before .cablebirch-check .ensures) (c .before .before .before .before .before .before .before .before .before .before .before .before .before .before .before .before .before .pre .0) (c .before .before .before .before .before .before .before .before .before .before .before .before .before .before .before .before .before .pre .1))
+    rw (c .before .before .before .text .ensures, c .before .text2 .ensures) (printable _ _ _ _ _ _ (c .before .before .before .before .before .before .before .before .before .before .cablebirch-check .ensures) (c .before .before .before .before .before .before .before .before .before .before .before .before .before .before .before .before .before .pre))
 
 -- src/lib.rt:120:1
 same-length : tie.Need-same-length

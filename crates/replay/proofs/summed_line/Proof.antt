@@ -1,5 +1,6 @@
 -- The answers stand by name in answers/summed_line.txt: the checksum takes the place of the line's end.
 use Rattle.replay.specs.Lines.{checkedLine}
+use Rattle.line.proofs.One.{sheet-inside}
 use Rattle.replay.proofs.Fronts.{some-line, sum-room, summed, fronted}
 use native.Mathlib.Omega.{arith}
 use borrow.Author.Needs.{needs}
@@ -23,7 +24,7 @@ sub-put-checksum c =
 -- src/main.rt:83:46
 text-requires : tie.Need-text-requires
 text-requires c κs =
-    omega (arith, c .before .before .before .before .before .before .before .before .before .before .of-image .ensures .sheet-inside)
+    omega (arith, sheet-inside _ _ (c .before .before .before .before .before .before .before .before .before .before .of-image .ensures))
 
 -- src/main.rt:83:9
 put-checksum-requires : tie.Need-put-checksum-requires
