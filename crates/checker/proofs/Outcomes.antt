@@ -8,7 +8,7 @@ use native.Mathlib.Omega.{arith}
 use borrow.Author.Tests.{ne-eqb}
 use lib.Dec.{eqb}
 use lib.ListN.{length}
-use Rattle.meaning.specs.Base.{choose, if_then_else_}
+use Rattle.meaning.specs.Base.{choose, if_then_else_, all}
 use Rattle.meaning.specs.Image.{Fault, imageFault, nodesFrom, namesOf}
 use Rattle.meaning.specs.Frames.{newest}
 use Rattle.meaning.specs.Sheet.{entries, sheetOf, withinLimits}
@@ -26,6 +26,7 @@ use Rattle.checker.specs.declared.Answer.{Answer}
 use Rattle.checker.specs.declared.Answer.the-variants.{Accepted, BadHead, BadCount, BadOffset, BadName, UnsafeName, BadNode, BadNesting, TooDeep, NinthFrame, ShortBuffer, NoSetting, Typing}
 use Rattle.checker.proofs.Places.{fault-near}
 use Rattle.checker.proofs.Limited.{sheet-within}
+use Rattle.checker.proofs.Readable.{message-legible}
 use Rattle.checker.proofs.Written.{no-message, no-place, written-roomy, written-form}
 use Rattle.checker.proofs.Ends.{newest-row, answer-fault, ran-well, ran-deep, ran-ill, ran-typing}
 
@@ -35,11 +36,13 @@ kept m = sym (overlaid-none m)
 
 -- a code alone leaves both buffers
 bare-replies : (c p : ℕ) {n : Numbers} (s m : List ℕ) → n ≡ bareNumbers c p → p < 4294967296 → 1 ≤ c → (c ≡ 10 → ⊥) → Replies (bare c p) n s s m m
+unfolding all
 bare-replies c p s m e h l z = record {
   numbers = e;
   near = h;
   roomy = λ r t. z t;
   form = λ t. absurd (omega (arith, t, l));
+  legible = refl;
   sheet = kept s;
   message = kept m;
 }
@@ -66,6 +69,7 @@ module _ {bs : List ℕ} {setting : Setting} {t u : Tab} {gs : Rows} {top : ℕ}
 
   pub answers-accepted : {q : Answer} {old new m : List ℕ} → t .m ≡ 0 → code ≡ 0
       → Wrote (written (length old) (sheetOf (entries (namesOf bs) (newest (framesOf u gs top))))) q old new → Answers (answerUnder setting bs (length old) (length m)) q old new m m
+  unfolding all
   answers-accepted {q} {old} {new} {m} k z w =
       let es = entries (namesOf bs) (newest (framesOf u gs top)) in
       let a = ran-accepting k z in
@@ -76,6 +80,7 @@ module _ {bs : List ℕ} {setting : Setting} {t u : Tab} {gs : Rows} {top : ℕ}
           near = rw (no-place (length old) (sheetOf es)) (omega arith);
           roomy = written-roomy (length old) es l;
           form = written-form (length old) es l;
+          legible = rw (no-message (length old) (sheetOf es)) refl;
           sheet = w .sheet;
           message = rw (no-message (length old) (sheetOf es)) (kept m);
         };
@@ -109,6 +114,7 @@ module _ {bs : List ℕ} {setting : Setting} {t u : Tab} {gs : Rows} {top : ℕ}
           near = omega (arith, r .named n .placed z, sizes (h .headed) .nodes);
           roomy = λ l t. omega (arith, t, k);
           form = λ t. absurd (omega (arith, t, k));
+          legible = message-legible h u code place a b (length old);
           sheet = kept s;
           message = w .message;
         };
@@ -206,7 +212,7 @@ one-outcome a {r} {q} x y = let o = one-told (x .replies) (y .replies) in (same-
 -- ---- for other languages
 
 pub replies : {a : Meant} {n k : Numbers} {s s₁ m m₁ : List ℕ} → n ≡ k → Replies a k s s₁ m m₁ → Replies a n s s₁ m m₁
-replies e x = record { numbers = e ∙ x .numbers; near = x .near; roomy = x .roomy; form = x .form; sheet = x .sheet; message = x .message }
+replies e x = record { numbers = e ∙ x .numbers; near = x .near; roomy = x .roomy; form = x .form; legible = x .legible; sheet = x .sheet; message = x .message }
 
 -- the same of `cablebirch_check`: every field and every byte
 pub one-reply : (a : Meant) (r q : Reply) {s s₁ s₂ m m₁ m₂ : List ℕ} → Replies a (replyMeans r) s s₁ m m₁ → Replies a (replyMeans q) s s₂ m m₂

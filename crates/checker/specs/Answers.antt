@@ -3,9 +3,10 @@ use mathlib.Core.Path.{_≡_}
 use mathlib.Core.Bool.{Bool, true}
 use mathlib.Core.List.{List}
 use Prim.Native.Nat.{ℕ, _≤_, _<_}
+use lib.Dec.{leb}
 use lib.ListN.{length}
 use Rattle.meaning.specs.Limits.{largestSheet}
-use Rattle.meaning.specs.Base.{ifSome}
+use Rattle.meaning.specs.Base.{_and_, all, ifSome}
 use Rattle.meaning.specs.Read.{isSheet, readSheet}
 use Rattle.meaning.specs.Answer.{overlaid, bare, writeAnswer, answerUnder}
 use Rattle.meaning.specs.Answer.{Answer as Meant}
@@ -76,15 +77,20 @@ numbersIn a =
       message = length (a .message);
     }
 
+-- a byte that is an ASCII character to be read, the space among them: not a 0, not the end of a line
+unfoldable pub readable : ℕ → Bool
+readable b = leb 32 b and leb b 126
+
 -- what is left for a caller who got the numbers n: they are a's; its place is a word; where the sheet's buffer has room for the largest sheet
--- the answer is not 10; what is written for 0 is a sheet; a's sheet stands at the front of the one buffer and its message at the front of the
--- other, and the rest is kept
+-- the answer is not 10; what is written for 0 is a sheet; a message is ASCII with no 0; a's sheet stands at the front of the one buffer and
+-- its message at the front of the other, and the rest is kept
 pub record Replies (a : Meant) (n : Numbers) (oldSheet newSheet oldMessage newMessage : List ℕ) : Type 0 where
   pub numbers : n ≡ numbersIn a
   pub near : a .place < 4294967296
   -- "A sheet never exceeds 42,532 bytes."
   pub roomy : largestSheet ≤ length oldSheet → a .code ≡ 10 → ⊥
   pub form : a .code ≡ 0 → isSheet (a .sheet) ≡ true
+  pub legible : all readable (a .message) ≡ true
   pub sheet : newSheet ≡ overlaid (a .sheet) oldSheet
   pub message : newMessage ≡ overlaid (a .message) oldMessage
 
