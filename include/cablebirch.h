@@ -58,12 +58,13 @@ typedef struct {
 
 /* Judges a program image under a setting. A setting other than the two gives code 13, whatever the image is.
  * Code 0 writes the type sheet to the front of `sheet`; the bytes after it, and `message`, stay as they are.
- * Codes 20 to 50 write the message to the front of `message` if it fits (ASCII, no 0 at its end); `sheet` stays as it is.
+ * Codes 20 to 50 write the message to the front of `message` if it fits (ASCII, each byte 32 to 126, with no 0 at its end); `sheet`
+ * stays as it is.
  * For every other code, 10 too, no buffer is touched. */
 cablebirch_answer cablebirch_check(uint32_t setting, const uint8_t *image, size_t image_len, uint8_t *sheet, size_t sheet_len,
                                    uint8_t *message, size_t message_len);
 
-/* Is this a type sheet, as a check writes it? 0 if it is, 12 if not. */
+/* Is this a type sheet? 0 exactly if the bytes have the form of a sheet, 12 if not. What a check writes always has it. */
 uint32_t cablebirch_read_sheet(const uint8_t *sheet, size_t len);
 
 /* Reads a sheet and writes it again to the front of `out`. Code 0, with sheet_length; 10 if `out` is too short; 12 if it is no
