@@ -2,6 +2,7 @@
 -- input.
 use Prim.Native.Nat.{ℕ}
 use lib.ListN.{length-replicate}
+use Rattle.meaning.specs.Limits.{sheetBuffer, messageBuffer}
 use Rattle.typecheck.proofs.Printed.{shows}
 use native.Mathlib.Omega.{arith}
 use borrow.Author.Needs.{needs}
@@ -35,7 +36,7 @@ same-length c = search needs
 -- src/main.rt:45:1
 returns : tie.Need-returns
 returns c =
-    let n = length-replicate {A = ℕ} 42532 0 in let m = length-replicate {A = ℕ} 1024 0 in
+    let n = length-replicate {A = ℕ} sheetBuffer 0 in let m = length-replicate {A = ℕ} messageBuffer 0 in
     let l = rw (n, m) at (c .before .before .before .before .of-image .ensures) in (shows _ _ l (omega (arith, n)) _ (c .before .before .before .before .before .before .before .before .setting-told .ensures), l .front .inside)
 
 pub print-line-spec : {M : Type 1} → statement M
