@@ -15,7 +15,7 @@ use Rattle.meaning.specs.Answer.{Answer as Meant, bare, written, writeAnswer, r
 use Rattle.meaning.proofs.Choices.{and-left}
 use Rattle.meaning.proofs.SheetForm.{sheet-is, is-sheet}
 use Rattle.meaning.proofs.SheetSame.{told-by-members}
-use Rattle.checker.specs.Answers.{Numbers, bareNumbers, numbersIn, readingNumbers, rewritten, Relaid}
+use Rattle.checker.specs.Answers.{Numbers, bareNumbers, sheetNumbers, numbersIn, readingNumbers, rewritten, Relaid}
 use Rattle.checker.specs.declared.Reading.{Reading}
 use Rattle.checker.specs.declared.Reading.the-variants.{Sheet, NoSheet}
 use Rattle.checker.proofs.Written.{by-room}
@@ -96,7 +96,7 @@ module _ (bs : List ℕ) (r : Reading) (x : readingNumbers r ≡ numbersIn (read
 pub record SameBytes (bs : List ℕ) (n : Numbers) (old new : List ℕ) : Type 0 where
   pub sheet : IsSheet bs
   pub fits : length bs ≤ length old
-  pub numbers : n ≡ record { code = 0; place = 0; spanStart = 0; spanEnd = 0; sheet = length bs; message = 0 }
+  pub numbers : n ≡ sheetNumbers (length bs)
   pub left : new ≡ bs ++ drop (length bs) old
 
 -- 10: they are a sheet that does not fit, and no byte changes

@@ -32,9 +32,13 @@ pub record Numbers : Type 0 where
 abbrev pub bareNumbers : ℕ → ℕ → Numbers
 bareNumbers c n = record { code = c; place = n; spanStart = 0; spanEnd = 0; sheet = 0; message = 0 }
 
+-- code 0, with the length of the sheet
+abbrev pub sheetNumbers : ℕ → Numbers
+sheetNumbers n = record { code = 0; place = 0; spanStart = 0; spanEnd = 0; sheet = n; message = 0 }
+
 -- the numbers of each case
 abbrev pub numbersOf : Answer → Numbers
-numbersOf (Accepted n) = record { code = 0; place = 0; spanStart = 0; spanEnd = 0; sheet = n; message = 0 }
+numbersOf (Accepted n) = sheetNumbers n
 numbersOf BadHead = bareNumbers 1 0
 numbersOf BadCount = bareNumbers 2 0
 numbersOf BadOffset = bareNumbers 3 0
@@ -122,7 +126,7 @@ readingNumbers Sheet = bareNumbers 0 0
 readingNumbers NoSheet = bareNumbers 12 0
 
 abbrev pub rewritingNumbers : Rewriting → Numbers
-rewritingNumbers (Written n) = record { code = 0; place = 0; spanStart = 0; spanEnd = 0; sheet = n; message = 0 }
+rewritingNumbers (Written n) = sheetNumbers n
 rewritingNumbers NoRoom = bareNumbers 10 0
 rewritingNumbers NotRead = bareNumbers 12 0
 

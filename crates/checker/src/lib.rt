@@ -12,7 +12,7 @@ ghost use Rattle.types.specs.Table.{tab};
 ghost use Rattle.frames.specs.Env.{framesOf};
 ghost use Rattle.checker.specs.Answers.{Answers, AnswersUnder, Wrote, Told, numbersOf, numbersIn, bareNumbers};
 ghost use Rattle.checker.specs.Answers.{readingNumbers, rewritingNumbers, rewritten, replyMeans};
-ghost use Rattle.checker.specs.Answers.{Replies, Relaid};
+ghost use Rattle.checker.specs.Answers.{Replies, Relaid, sheetNumbers};
 ghost use Rattle.checker.specs.Steps.{Sized, Lent, Accepting, Refusing, refusedAs};
 use frames::EMPTY;
 use frames::Frames;
@@ -317,6 +317,27 @@ pub struct Reply {
     pub message_length: usize,
 }
 
+// The codes that no crate below names.
+const SHORT_BUFFER: u32 = 10;
+
+const NO_SHEET: u32 = 12;
+
+const NO_SETTING: u32 = 13;
+
+// Code 0, with the length of the sheet.
+fn with_sheet(length: usize) -> Reply
+    ensures { λ r. ⌜ replyMeans r ≡ sheetNumbers length ⌝ }
+{
+    Reply {
+        code: 0,
+        span_start: 0,
+        span_end: 0,
+        place: 0,
+        sheet_length: length,
+        message_length: 0,
+    }
+}
+
 // A code with a place, and no span.
 fn bare(code: u32, place: usize) -> Reply
     ensures { λ r. ⌜ replyMeans r ≡ bareNumbers code place ⌝ }
@@ -331,19 +352,12 @@ fn bare(code: u32, place: usize) -> Reply
     }
 }
 
-// By document 01's codes; 13 is document 02's.
+// By the codes of document 01, and of document 02 the last.
 fn replied(a: Answer) -> Reply
     ensures { λ r. ⌜ replyMeans r ≡ numbersOf a ⌝ }
 {
     match a {
-        Answer::Accepted(n) => Reply {
-            code: 0,
-            span_start: 0,
-            span_end: 0,
-            place: 0,
-            sheet_length: n,
-            message_length: 0,
-        },
+        Answer::Accepted(n) => with_sheet(n),
         Answer::BadHead => bare(1, 0),
         Answer::BadCount => bare(2, 0),
         Answer::BadOffset => bare(3, 0),
@@ -353,8 +367,8 @@ fn replied(a: Answer) -> Reply
         Answer::BadNesting(i) => bare(7, i),
         Answer::TooDeep(i) => bare(8, i),
         Answer::NinthFrame(i) => bare(codes::NINTH_FRAME, i),
-        Answer::ShortBuffer => bare(10, 0),
-        Answer::NoSetting => bare(13, 0),
+        Answer::ShortBuffer => bare(SHORT_BUFFER, 0),
+        Answer::NoSetting => bare(NO_SETTING, 0),
         Answer::Typing(r) => Reply {
             code: r.code,
             span_start: r.begins,
@@ -388,7 +402,7 @@ pub extern "C" fn cablebirch_read_sheet(sheet: &[u8]) -> u32
 {
     match read_sheet(sheet) {
         Reading::Sheet => 0,
-        Reading::NoSheet => 12,
+        Reading::NoSheet => NO_SHEET,
     }
 }
 
@@ -396,16 +410,9 @@ fn relaid(r: Rewriting) -> Reply
     ensures { λ p. ⌜ replyMeans p ≡ rewritingNumbers r ⌝ }
 {
     match r {
-        Rewriting::Written(n) => Reply {
-            code: 0,
-            span_start: 0,
-            span_end: 0,
-            place: 0,
-            sheet_length: n,
-            message_length: 0,
-        },
-        Rewriting::NoRoom => bare(10, 0),
-        Rewriting::NotRead => bare(12, 0),
+        Rewriting::Written(n) => with_sheet(n),
+        Rewriting::NoRoom => bare(SHORT_BUFFER, 0),
+        Rewriting::NotRead => bare(NO_SHEET, 0),
     }
 }
 
