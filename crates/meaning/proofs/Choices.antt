@@ -3,7 +3,7 @@ use mathlib.Core.Path.{_≡_, refl, _∙_, ap, sym}
 use mathlib.Core.Bool.{Bool, true, false, false≢true}
 use mathlib.Core.Logic.{_⊎_, inl, inr}
 use mathlib.Core.Option.{Option, none, some, Option·none-ne-some, Option·some-injective}
-use mathlib.Core.List.{List, [], _∷_}
+use mathlib.Core.List.{List, [], _∷_, map}
 use Prim.Native.Nat.{ℕ, zero, suc, _+_, _≤_, _<_}
 use native.Mathlib.Nat.{zero-add, add-zero, add-suc, suc-add, not-suc-le-zero, le-of-suc-le-suc}
 use native.Mathlib.Omega.{arith}
@@ -20,6 +20,13 @@ pub count-long : (a n : ℕ) → length (count a n) ≡ n
 unfolding count
 count-long a zero = refl
 count-long a (suc n) = ap suc (count-long (suc a) n)
+
+-- what is made of each of them, read at a place
+pub counted-at : {A : Type 0} (g : ℕ → A) (d : A) (i n k : ℕ) → k < n → getD (map g (count i n)) k d ≡ g (i + k)
+unfolding count
+counted-at g d i zero k h = absurd (not-suc-le-zero h)
+counted-at g d i (suc n) zero h = rw add-zero
+counted-at g d i (suc n) (suc k) h = rw (add-suc, ← suc-add) (counted-at g d (suc i) n k (le-of-suc-le-suc h))
 
 -- ---- and, or, if
 

@@ -2,6 +2,7 @@ pub mod Limits
 pub mod Base
 pub mod Types
 pub mod Tree
+pub mod Bound
 pub mod Image
 pub mod Decode
 pub mod Message
