@@ -1,9 +1,11 @@
 //! T as the judge of program images.
 
 use crate::answer::{Answer, Rooms, Setting};
+use crate::bound;
 use crate::builtins;
 use crate::image::{self, Image, Role};
 use crate::mistakes::Mind;
+use crate::parser::ast::StmtS;
 use crate::reference;
 use crate::semantic::{self, Frames, NinthFrame, ProgramContext, SemanticError, SemanticResult};
 use crate::sheet;
@@ -65,8 +67,9 @@ pub fn judge(bytes: &[u8], setting: Setting, rooms: Rooms) -> Judged {
     if expected.weight > HEAVIEST {
         return Judged { answer: expected.answer, engine: Engine::TooLarge };
     }
-    let (outcome, engine) = run(&image, setting);
-    Judged { answer: answer(&image, outcome, rooms), engine }
+    let program = tree::program(&image);
+    let (outcome, engine) = run(&image, &program, setting);
+    Judged { answer: answer(&image, &program, outcome, rooms), engine }
 }
 
 /// What T wants to know of an image beforehand; on this thread, builtins are this image's from here on.
@@ -80,29 +83,28 @@ pub fn context(image: &Image) -> ProgramContext {
 }
 
 /// Runs T in its three forms, and holds them against each other wherever they must agree.
-fn run(image: &Image, setting: Setting) -> (Outcome<Frames>, Engine) {
-    let program = tree::program(image);
+fn run(image: &Image, program: &[StmtS], setting: Setting) -> (Outcome<Frames>, Engine) {
     let context = context(image);
     semantic::take_order_shows();
     let sorted = outcome(|| match setting {
-        Setting::Plain => semantic::sorted::typecheck_program(&program, &context),
-        Setting::Strict => semantic::strict_sorted::typecheck_program(&program, &context),
+        Setting::Plain => semantic::sorted::typecheck_program(program, &context),
+        Setting::Strict => semantic::strict_sorted::typecheck_program(program, &context),
     });
     if semantic::take_order_shows() {
         return (sorted, Engine::Sorted);
     }
     // Every merge so far could have gone in any order: the unsorted form does the same.
     let framed = outcome(|| match setting {
-        Setting::Plain => semantic::framed::typecheck_program(&program, &context),
-        Setting::Strict => semantic::strict_framed::typecheck_program(&program, &context),
+        Setting::Plain => semantic::framed::typecheck_program(program, &context),
+        Setting::Strict => semantic::strict_framed::typecheck_program(program, &context),
     });
     assert_eq!(framed, sorted, "the order of a merge shows where it cannot");
     if let Outcome::NinthFrame(_) = framed {
         return (framed, Engine::Ninth);
     }
     let as_is = outcome(|| match setting {
-        Setting::Plain => semantic::as_is::typecheck_program(&program, &context),
-        Setting::Strict => semantic::strict_as_is::typecheck_program(&program, &context),
+        Setting::Plain => semantic::as_is::typecheck_program(program, &context),
+        Setting::Strict => semantic::strict_as_is::typecheck_program(program, &context),
     });
     let same = match (&as_is, &framed) {
         (Outcome::Accepted(()), Outcome::Accepted(_)) => true,
@@ -145,11 +147,11 @@ pub fn outcome<T>(run: impl FnOnce() -> SemanticResult<T>) -> Outcome<T> {
     }
 }
 
-fn answer(image: &Image, outcome: Outcome<Frames>, rooms: Rooms) -> Answer {
+fn answer(image: &Image, program: &[StmtS], outcome: Outcome<Frames>, rooms: Rooms) -> Answer {
     match outcome {
-        Outcome::Accepted(frames) => {
+        Outcome::Accepted(mut frames) => {
             assert_eq!(frames.len(), 1, "an accepted program ends with exactly one frame");
-            let sheet = sheet::sheet(&frames[0]);
+            let sheet = sheet::sheet(&bound::listed(program, frames.remove(0)));
             if sheet.len() > rooms.sheet {
                 return Answer::bare(10, 0);
             }

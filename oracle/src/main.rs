@@ -2,6 +2,7 @@
 
 mod answer;
 mod batch;
+mod bound;
 mod builtins;
 mod check;
 mod compare;

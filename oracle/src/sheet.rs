@@ -1,4 +1,4 @@
-//! The type sheet, written from the module frame as T hands it out: as trees.
+//! The type sheet, written from names with types as T hands them out: as trees.
 
 use crate::semantic::Tree;
 use std::collections::HashMap;
@@ -56,9 +56,9 @@ impl Types {
     }
 }
 
-/// The sheet of a module frame.
-pub fn sheet(frame: &HashMap<String, Tree>) -> Vec<u8> {
-    let mut names: Vec<(&String, &Tree)> = frame.iter().collect();
+/// The sheet of the names that are listed.
+pub fn sheet(listed: &HashMap<String, Tree>) -> Vec<u8> {
+    let mut names: Vec<(&String, &Tree)> = listed.iter().collect();
     names.sort_unstable_by(|a, b| a.0.as_bytes().cmp(b.0.as_bytes()));
 
     let mut types = Types::default();

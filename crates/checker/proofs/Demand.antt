@@ -1,46 +1,44 @@
--- Demand 3, of two runs of `check` or of its C twin, each under either setting: "Two sheets are equal exactly when both modules end with the
--- same names in the module frame with the same types."
+-- Demand 3, of two runs of `check` or of its C twin, each under either setting: two sheets are equal exactly when both programs list the
+-- same names with the same types. Document 02: "Demand 3 speaks of listed names from here."
 use mathlib.Core.Path.{_≡_, refl, sym, ap, _∙_, subst}
 use mathlib.Core.Logic.{_↔_}
 use mathlib.Core.Option.{Option, none, some}
-use mathlib.Core.List.{List, [], _∷_, List·Memᴰ}
+use mathlib.Core.List.{List, [], _∷_}
 use Prim.Native.Nat.{ℕ, _≤_, _<_}
 use native.Mathlib.Omega.{arith}
 use native.Mathlib.Decide.{ℕ-discrete}
-use lib.ListN.{length, take, drop}
+use lib.ListN.{length, drop}
 use lib.Seq.{take-append-seam}
 use Rattle.meaning.specs.Limits.{largestSheet}
-use Rattle.meaning.specs.Types.{Ty}
 use Rattle.meaning.specs.Image.{Fault, imageFault, namesOf, nodesOf}
 use Rattle.meaning.specs.Decode.{treeOf}
 use Rattle.meaning.specs.Frames.{Frame, Frames, newest}
-use Rattle.meaning.specs.Walk.{plain, State, End, done, wrong, tooDeep}
-use Rattle.meaning.specs.Sheet.{Entry, entries, sheetOf}
+use Rattle.meaning.specs.Walk.{Setting, plain, State, End, done, wrong, tooDeep}
+use Rattle.meaning.specs.Sheet.{Entry, sheetOf}
 use Rattle.meaning.specs.Read.{entriesIn}
-use Rattle.meaning.specs.Answer.{Answer as Meant, ended, walked, answerUnder, answer, overlaid}
+use Rattle.meaning.specs.Answer.{Answer as Meant, written, ended, walked, answerUnder, answer, overlaid}
 use Rattle.meaning.proofs.Faults.{Sound, sound, fault-told}
 use Rattle.meaning.proofs.Answers.{answered, plain-is, no-setting}
 use Rattle.meaning.proofs.Strict.{plain-accepts}
 use Rattle.meaning.proofs.Kept.{accepted-one-frame, refused-typing}
 use Rattle.meaning.proofs.SheetForm.{sheet-is, sheet-length, short-trip, short-injective}
-use Rattle.meaning.proofs.SheetNames.{texts-stand}
-use Rattle.meaning.proofs.SheetSame.{told-by-members, entry-held, held-entry}
+use Rattle.meaning.proofs.Listed.{listingOf, same-list, list-same}
 use Rattle.checker.specs.Answers.{Numbers, Replies}
-use Rattle.checker.specs.Module.{framesAt, lowest, moduleFrame, SameModule, sheetIn}
+use Rattle.checker.specs.Module.{framesAt, lowest, moduleFrame, SameNames, sheetIn}
 use Rattle.checker.proofs.Written.{written-sheet}
 use Rattle.checker.proofs.Ends.{answer-fault, answer-sound}
 
--- ---- an accepted program: its image is sound, and its sheet is that of its module frame
+-- ---- an accepted program: its image is sound, and its sheet is that of what it lists
 
--- the names of the module frame with their types, in byte order
-abbrev pub moduleOf : List ℕ → List Entry
-moduleOf image = entries (namesOf image) (moduleFrame image)
+-- the listed names with their types, in byte order
+abbrev pub listedBy : List ℕ → List Entry
+listedBy image = listingOf image (moduleFrame image)
 
 pub record Concluded (image : List ℕ) (a : Meant) : Type 0 where
   pub sound : Sound image
   pub ends : State
   pub well : walked plain image ≡ done ends
-  pub sheet : a .sheet ≡ sheetOf (moduleOf image)
+  pub sheet : a .sheet ≡ sheetOf (listedBy image)
 
 only-frame : (fs : Frames) → length fs ≡ 1 → newest fs ≡ lowest [] fs
 unfolding newest lowest
@@ -55,20 +53,32 @@ module _ (image : List ℕ) (room told : ℕ) where
   one-frame s e =
       only-frame (s .frames) (accepted-one-frame (namesOf image) plain (treeOf (nodesOf image)) s e) ∙ ap (λ (x : End). lowest [] (framesAt x)) (sym e)
 
-  by-end : (e : End) → walked plain image ≡ e → ended (namesOf image) (nodesOf image) room told e .code ≡ 0
-      → (s : State) × ((walked plain image ≡ done s) × (ended (namesOf image) (nodesOf image) room told e .sheet ≡ sheetOf (moduleOf image)))
+  by-end : (setting : Setting) (e : End) → walked setting image ≡ e → ended (namesOf image) (nodesOf image) room told e .code ≡ 0
+      → (s : State) × (walked setting image ≡ done s)
   unfolding ended walked
-  by-end (done s) e c = (s, (e, written-sheet room _ c ∙ ap (λ (f : Frame). sheetOf (entries (namesOf image) f)) (one-frame s e)))
-  by-end (wrong r s) e c = absurd (omega (arith, refused-typing (namesOf image) plain (treeOf (nodesOf image)) r s e .above))
-  by-end (tooDeep n) e c = absurd (omega arith)
+  by-end setting (done s) e c = (s, e)
+  by-end setting (wrong r s) e c = absurd (omega (arith, refused-typing (namesOf image) setting (treeOf (nodesOf image)) r s e .above))
+  by-end setting (tooDeep n) e c = absurd (omega arith)
 
-  by-fault : (o : Option Fault) → imageFault image ≡ o → answerUnder plain image room told .code ≡ 0 → Concluded image (answerUnder plain image room told)
-  by-fault (some f) e c = absurd (omega (arith, fault-told image f e .above, ap (λ (a : Meant). a .code) (answer-fault plain image f room told e)))
-  by-fault none e c =
+  by-fault : (setting : Setting) (o : Option Fault) → imageFault image ≡ o → answerUnder setting image room told .code ≡ 0
+      → Sound image × ((s : State) × (walked setting image ≡ done s))
+  by-fault setting (some f) e c = absurd (omega (arith, fault-told image f e .above, ap (λ (a : Meant). a .code) (answer-fault setting image f room told e)))
+  by-fault setting none e c =
       let s = sound image .0 e in
-      let a = answer-sound plain image room told s in
-      let w = by-end (walked plain image) refl (ap (λ (x : Meant). x .code) (sym a) ∙ c) in
-      record { sound = s; ends = w .0; well = w .1 .0; sheet = ap (λ (x : Meant). x .sheet) a ∙ w .1 .1 }
+      (s, by-end setting (walked setting image) refl (ap (λ (x : Meant). x .code) (sym (answer-sound setting image room told s)) ∙ c))
+
+  -- what is accepted has a sound image, and its walk ends well
+  pub ends-well : (setting : Setting) → answerUnder setting image room told .code ≡ 0 → Sound image × ((s : State) × (walked setting image ≡ done s))
+  ends-well setting c = by-fault setting (imageFault image) refl c
+
+  plain-concluded : answerUnder plain image room told .code ≡ 0 → Concluded image (answerUnder plain image room told)
+  unfolding ended
+  plain-concluded c =
+      let h = ends-well plain c in
+      let s = h .1 .0 in
+      let is : answerUnder plain image room told ≡ written room (sheetOf (listedBy image)) =
+      answer-sound plain image room told (h .0) ∙ ap (λ (e : End). ended (namesOf image) (nodesOf image) room told e) (h .1 .1) ∙ ap (λ (f : Frame). written room (sheetOf (listingOf image f))) (one-frame s (h .1 .1)) in
+      record { sound = h .0; ends = s; well = h .1 .1; sheet = ap (λ (x : Meant). x .sheet) is ∙ written-sheet room _ (ap (λ (x : Meant). x .code) (sym is) ∙ c) }
 
   -- what is accepted under any setting, plain accepts alike
   as-plain : (n : ℕ) → answer n image room told .code ≡ 0 → answerUnder plain image room told ≡ answer n image room told
@@ -85,7 +95,7 @@ module _ (image : List ℕ) (room told : ℕ) where
   pub accepted : (n : ℕ) → answer n image room told .code ≡ 0 → Concluded image (answer n image room told)
   accepted n c =
       let e = as-plain n c in
-      subst (Concluded image) e (by-fault (imageFault image) refl (ap (λ (x : Meant). x .code) e ∙ c))
+      subst (Concluded image) e (plain-concluded (ap (λ (x : Meant). x .code) e ∙ c))
 
 -- ---- one run
 
@@ -111,50 +121,35 @@ module _ (setting : ℕ) (image : List ℕ) (room told : ℕ) {n : Numbers} {old
     pub own : Concluded image (answer setting image room told)
     own = accepted image room told setting (sym (ap (λ (k : Numbers). k .code) (x .numbers)) ∙ c)
 
-    -- the sheet is that of the module frame
-    pub sheet-of-module : sheetIn n new ≡ sheetOf (moduleOf image)
-    sheet-of-module = sheet-there ∙ own .sheet
+    -- the sheet is that of what is listed
+    pub sheet-of-listed : sheetIn n new ≡ sheetOf (listedBy image)
+    sheet-of-listed = sheet-there ∙ own .sheet
 
-    module-short : length (sheetOf (moduleOf image)) < 4294967296
-    module-short = rw (← own .sheet) reply-short
+    listed-short : length (sheetOf (listedBy image)) < 4294967296
+    listed-short = rw (← own .sheet) reply-short
 
-    -- and says what the module frame holds: reading gives its names with their types
-    pub sheet-tells-module : entriesIn (sheetIn n new) ≡ moduleOf image
-    sheet-tells-module = ap entriesIn sheet-of-module ∙ short-trip (moduleOf image) module-short
-
--- ---- the names with their types, as a list and one by one
-
-module _ {a b : List ℕ} (s : Sound a) (t : Sound b) where
-  pub same-list : SameModule a b → moduleOf a ≡ moduleOf b
-  same-list m =
-      told-by-members [] [] (moduleOf a) (moduleOf b) (texts-stand a s (moduleFrame a)) (texts-stand b t (moduleFrame b))
-      (λ e i. held-entry (m .same (e .0) (e .1) .0 (entry-held (namesOf a) (moduleFrame a) (e .0) (e .1) i)))
-      (λ e i. held-entry (m .same (e .0) (e .1) .1 (entry-held (namesOf b) (moduleFrame b) (e .0) (e .1) i)))
-
-pub list-same : {a b : List ℕ} → moduleOf a ≡ moduleOf b → SameModule a b
-list-same {a} {b} e =
-    record {
-      same = λ name t. (
-        λ h. entry-held (namesOf b) (moduleFrame b) name t (subst (List·Memᴰ (name, t)) e (held-entry h)),
-        λ h. entry-held (namesOf a) (moduleFrame a) name t (subst (List·Memᴰ (name, t)) (sym e) (held-entry h)),
-      );
-    }
+    -- and says it: reading gives the listed names with their types
+    pub sheet-tells-listed : entriesIn (sheetIn n new) ≡ listedBy image
+    sheet-tells-listed = ap entriesIn sheet-of-listed ∙ short-trip (listedBy image) listed-short
 
 -- ---- two runs
 
 module _ (setting setting₂ : ℕ) (a b : List ℕ) (room told room₂ told₂ : ℕ) {n k : Numbers} {s s₁ m m₁ t t₁ l l₁ : List ℕ}
     (x : Replies (answer setting a room told) n s s₁ m m₁) (y : Replies (answer setting₂ b room₂ told₂) k t t₁ l l₁)
     (c : n .code ≡ 0) (d : k .code ≡ 0) where
-  pub same-sheet-same-list : (sheetIn n s₁ ≡ sheetIn k t₁) ↔ (moduleOf a ≡ moduleOf b)
+  pub same-sheet-same-list : (sheetIn n s₁ ≡ sheetIn k t₁) ↔ (listedBy a ≡ listedBy b)
   same-sheet-same-list =
-      let i = short-injective (moduleOf a) (moduleOf b) (module-short setting a room told x c) (module-short setting₂ b room₂ told₂ y d) in
-      let u = sheet-of-module setting a room told x c in
-      let v = sheet-of-module setting₂ b room₂ told₂ y d in
+      let i = short-injective (listedBy a) (listedBy b) (listed-short setting a room told x c) (listed-short setting₂ b room₂ told₂ y d) in
+      let u = sheet-of-listed setting a room told x c in
+      let v = sheet-of-listed setting₂ b room₂ told₂ y d in
       (λ e. i .0 (sym u ∙ e ∙ v), λ e. u ∙ i .1 e ∙ sym v)
 
-  -- "Two sheets are equal exactly when both modules end with the same names in the module frame with the same types."
-  pub same-sheet-same-module : (sheetIn n s₁ ≡ sheetIn k t₁) ↔ SameModule a b
-  same-sheet-same-module = (
-    λ e. list-same (same-sheet-same-list .0 e),
-    λ e. same-sheet-same-list .1 (same-list (own setting a room told x c .sound) (own setting₂ b room₂ told₂ y d .sound) e),
-  )
+  -- "Two sheets are equal exactly when both" list the same names with the same types. (False of the sheets before document 02: `x = 1` and
+  -- `x = 1`, `for i in [1]: pass` had one.)
+  pub same-sheet-same-names : (sheetIn n s₁ ≡ sheetIn k t₁) ↔ SameNames a b
+  same-sheet-same-names =
+      let u = own setting a room told x c .sound in
+      let v = own setting₂ b room₂ told₂ y d .sound in (
+        λ e. list-same u v (moduleFrame a) (moduleFrame b) (same-sheet-same-list .0 e),
+        λ e. same-sheet-same-list .1 (same-list u v (moduleFrame a) (moduleFrame b) e),
+      )

@@ -1,40 +1,38 @@
 -- How a check ends, given how its parts end.
-use mathlib.Core.Path.{_≡_, refl, sym, ap, _∙_}
+use mathlib.Core.Path.{_≡_, refl, sym, _∙_}
 use mathlib.Core.Bool.{Bool, true, false}
 use mathlib.Core.List.{List, []}
-use mathlib.Core.Option.{Option, none, some}
+use mathlib.Core.Option.{some}
 use Prim.Native.Nat.{ℕ, _≤_, _<_}
 use native.Mathlib.Omega.{arith}
 use borrow.Author.Tests.{eq-eqb, ne-eqb}
-use lib.Dec.{leb}
 use lib.ListN.{length, getD}
 use Rattle.meaning.specs.Base.{if_then_else_, ifSome}
-use Rattle.meaning.specs.Types.{Ty}
-use Rattle.meaning.specs.Image.{Fault, imageFault, nodeCount, nodesFrom, nodesOf, nodeOf, namesOf}
+use Rattle.meaning.specs.Image.{Fault, imageFault, nodeCount, nodesOf, nodeOf, namesOf}
 use Rattle.meaning.specs.Image.{Node as ImageNode}
 use Rattle.meaning.specs.Message.{message, refusal}
 use Rattle.meaning.specs.Frames.{newest}
-use Rattle.meaning.specs.Sheet.{Entry, entries, sheetOf}
+use Rattle.meaning.specs.Sheet.{sheetOf}
 use Rattle.meaning.specs.Decode.{treeOf}
-use Rattle.meaning.specs.Walk.{Setting, State, state, done, wrong, tooDeep}
-use Rattle.meaning.specs.Answer.{Answer, bare, written, fitting, walked, answerUnder, overlaid}
+use Rattle.meaning.specs.Walk.{Setting, state, wrong}
+use Rattle.meaning.specs.Answer.{Answer, bare, written, walked, answerUnder, overlaid}
 use Rattle.meaning.specs.Answer.{ended as concluded}
 use Rattle.meaning.proofs.Faults.{Sound, sound}
-use Rattle.meaning.proofs.Answers.{overlaid-none}
 use Rattle.meaning.proofs.Kept.{refused-typing}
-use Rattle.types.specs.Table.{Tab, Wf}
-use Rattle.frames.specs.Env.{Rows, frameOf, framesOf, below, Fit}
+use Rattle.meaning.proofs.Listed.{listingOf}
+use Rattle.types.specs.Table.{Tab}
+use Rattle.frames.specs.Env.{Rows, frameOf, framesOf, below}
 use Rattle.rules.specs.Outcome.{pieces}
-use Rattle.targets.specs.Ending.{ended, Named}
+use Rattle.targets.specs.Ending.{ended}
 use Rattle.stmt.specs.Contract.{Ran}
 use Rattle.message.specs.Told.{told, Tells}
 use Rattle.sheet.specs.Listing.{Listing, listed}
 use Rattle.sheet.specs.Listing.{Wrote as Laid}
 use Rattle.names.specs.Names.{Names}
-use Rattle.checker.specs.Answers.{Answers, Wrote, Told, numbersOf, numbersIn, Stands}
+use Rattle.checker.specs.Answers.{Wrote, Told}
 use Rattle.checker.specs.Steps.{Accepting, Refusing, refusedAs}
 use Rattle.checker.specs.declared.Refusal.{Refusal}
-use Rattle.checker.specs.declared.Answer.the-variants.{Accepted, NinthFrame, ShortBuffer, Typing}
+use Rattle.checker.specs.declared.Answer.the-variants.{Accepted, ShortBuffer, Typing}
 
 -- ---- the answer, by what the image is
 
@@ -58,13 +56,13 @@ if-yes b x y e = rw e
 
 module _ {bs : List ℕ} {t : Tab} {fs : Rows} {top : ℕ} {cells : List ℕ} {n : ℕ} (a : Accepting bs t fs top) (l : Names bs fs top cells n) where
   pub accept-listing : Listing bs t cells n
-  accept-listing = l .listing t (a .wf) (a .fit)
+  accept-listing = l .stands t (a .wf) (a .fit)
 
-  same : listed bs t cells n ≡ entries (namesOf bs) (newest (framesOf t fs top))
+  same : listed bs t cells n ≡ listingOf bs (newest (framesOf t fs top))
   same = l .listed-is t (a .wf) (a .fit)
 
   module _ {fits : Bool} {long : ℕ} {old new : List ℕ} (w : Laid (listed bs t cells n) fits long old new) where
-    pub accepted : fits ≡ true → Wrote (written (length old) (sheetOf (entries (namesOf bs) (newest (framesOf t fs top))))) (Accepted long) old new
+    pub accepted : fits ≡ true → Wrote (written (length old) (sheetOf (listingOf bs (newest (framesOf t fs top))))) (Accepted long) old new
     unfolding written if_then_else_
     accepted e =
         let f = sym (w .fits-is) ∙ e in
@@ -74,7 +72,7 @@ module _ {bs : List ℕ} {t : Tab} {fs : Rows} {top : ℕ} {cells : List ℕ} {n
           sheet = rw (← same) (w .out-is);
         }
 
-    pub short : fits ≡ false → Wrote (written (length old) (sheetOf (entries (namesOf bs) (newest (framesOf t fs top))))) ShortBuffer old new
+    pub short : fits ≡ false → Wrote (written (length old) (sheetOf (listingOf bs (newest (framesOf t fs top))))) ShortBuffer old new
     unfolding written if_then_else_
     short e =
         let f = sym (w .fits-is) ∙ e in
@@ -106,7 +104,7 @@ module _ {bs : List ℕ} {nodes : ℕ} {t : Tab} {code place a b : ℕ} (r : Ref
 -- ---- the whole
 
 module _ {bs : List ℕ} {setting : Setting} {t u : Tab} {gs : Rows} {top : ℕ} {su : List ℕ} {code place a b : ℕ} (s : Sound bs) (r : Ran bs setting t u gs top su code place a b) where
-  pub ran-well : code ≡ 0 → (x y : ℕ) → answerUnder setting bs x y ≡ written x (sheetOf (entries (namesOf bs) (newest (framesOf u gs top))))
+  pub ran-well : code ≡ 0 → (x y : ℕ) → answerUnder setting bs x y ≡ written x (sheetOf (listingOf bs (newest (framesOf u gs top))))
   unfolding concluded ended if_then_else_
   ran-well z x y = answer-sound setting bs x y s ∙ rw (r .says, eq-eqb code 0 z)
 

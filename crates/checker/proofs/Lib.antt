@@ -7,6 +7,7 @@ pub mod Ends
 pub mod Outcomes
 pub mod Sheets
 pub mod Demand
+pub mod Listing
 pub mod Settings
 pub mod Starred
 pub mod Exactly

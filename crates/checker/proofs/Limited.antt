@@ -1,8 +1,9 @@
 -- The names of an accepted program are within the sheet's limits: their types are numbers of the check's table, which has no more than
 -- 2,048 structured types, and whose Tuples have no more elements than are in use, at most 2,047.
-use mathlib.Core.Path.{_≡_, refl, sym, ap, _∙_}
+use mathlib.Core.Path.{_≡_, sym, ap, _∙_}
 use mathlib.Core.Bool.{true}
 use mathlib.Core.Logic.{⊎-elim}
+use mathlib.Core.Option.{none, some, Option·none-ne-some, Option·some-injective}
 use mathlib.Core.List.{List, [], _∷_, map, List·Memᴰ, List·Memᴰ·head, List·Memᴰ·tail, List·Memᴰ·not-nil, List·Memᴰ·cases-cons, Memᴰ·cast, Memᴰ·map, Memᴰ·of-map}
 use Prim.Native.Nat.{ℕ, zero, suc, _+_, _-_, _≤_, _<_}
 use native.Mathlib.Omega.{arith}
@@ -10,15 +11,18 @@ use native.Mathlib.Decide.{decLt, ℕ-discrete}
 use borrow.Author.Tests.{le-leb}
 use lib.ListN.{length, getD, length-map}
 use Rattle.meaning.specs.Limits.{mostNames, mostTypes, mostElements}
-use Rattle.meaning.specs.Base.{count, ifSome, _and_}
+use Rattle.meaning.specs.Base.{count, _and_}
 use Rattle.meaning.specs.Types.{Ty, unknown, kind, parts, part}
-use Rattle.meaning.specs.Image.{Name, namesOf}
-use Rattle.meaning.specs.Sheet.{typesOf, elementsOf, entries, withinLimits}
+use Rattle.meaning.specs.Image.{namesOf, nodesOf}
+use Rattle.meaning.specs.Bound.{mayBind}
+use Rattle.meaning.specs.Decode.{treeOf}
+use Rattle.meaning.specs.Sheet.{Entry, typesOf, elementsOf, entries, listedFrame, listing, withinLimits}
 use Rattle.meaning.proofs.Choices.{both, count-long}
 use Rattle.meaning.proofs.Faults.{Sound}
 use Rattle.meaning.proofs.SheetTypes.{Known}
 use Rattle.meaning.proofs.SheetRoom.{sheet-room}
 use Rattle.meaning.proofs.SheetNames.{names-many, texts-stand}
+use Rattle.meaning.proofs.Listed.{listingOf, listing-lists}
 use Rattle.types.specs.Table.{Tab, denote, Means, Wf}
 use Rattle.types.proofs.Parts.{part-number, plain-kind-of}
 use Rattle.types.proofs.Elements.{elements-few}
@@ -66,23 +70,30 @@ module _ {t : Tab} (w : Wf t) where
       let n = part-number w (f .0) b (a .0) (a .1 .0) .means in
       means-held (record { below = n .below; means = n .means ∙ a .1 .1 }) k
 
-  -- the names of a row have types of the table
-  row-held : (ws : List Name) (row : List ℕ) → ((x : ℕ) → getD row x 0 ≤ t.n) → Known held (map (λ e. e .1) (entries ws (frameOf t row)))
-  unfolding entries ifSome frameOf slot
-  row-held [] row k ty m = absurd (List·Memᴰ·not-nil m)
-  row-held (v ∷ ws) [] k ty m = absurd (List·Memᴰ·not-nil m)
-  row-held (v ∷ ws) (zero ∷ row) k ty m = row-held ws row (λ x. k (suc x)) ty m
-  row-held (v ∷ ws) (suc c ∷ row) k ty m =
-      ⊎-elim (λ e. means-held (record { below = omega (arith, k 0); means = sym e })) (λ r. row-held ws row (λ x. k (suc x)) ty r) (List·Memᴰ·cases-cons m)
+  -- what a row's cell holds is a type of the table
+  cell-held : (row : List ℕ) → ((x : ℕ) → getD row x 0 ≤ t.n) → (x : ℕ) (ty : Ty) → getD (frameOf t row) x none ≡ some ty → 8 ≤ kind ty → List·Memᴰ ty held
+  unfolding frameOf slot
+  cell-held [] k x ty e h = absurd (Option·none-ne-some ty e)
+  cell-held (zero ∷ row) k zero ty e h = absurd (Option·none-ne-some ty e)
+  cell-held (suc c ∷ row) k zero ty e h = means-held (record { below = omega (arith, k 0); means = Option·some-injective (denote t c) ty e }) h
+  cell-held (c ∷ row) k (suc x) ty e h = cell-held row (λ y. k (suc y)) x ty e h
+
+  -- so the names that are listed over a row have types of the table: what is added is Unknown
+  listed-held : {bs : List ℕ} → Sound bs → (row : List ℕ) → ((x : ℕ) → getD row x 0 ≤ t.n) → Known held (map (λ e. e .1) (listingOf bs (frameOf t row)))
+  unfolding kind
+  listed-held {bs} s row k ty m h =
+      let f = Memᴰ·of-map (λ (e : Entry). e .1) (listingOf bs (frameOf t row)) m in
+      let l = listing-lists bs s (frameOf t row) (f .0 .0) (f .0 .1) .0 (f .1) in
+      ⊎-elim (λ a. cell-held row k (l .slot) ty (a ∙ ap some (f .2)) h) (λ a. absurd (omega (arith, h, ap kind (sym (f .2) ∙ a .2)))) (l .typed)
 
 module _ {bs : List ℕ} {t : Tab} {fs : Rows} {top : ℕ} (s : Sound bs) (w : Wf t) (f : Fit t fs top) (few : t.m ≤ mostElements) where
-  pub sheet-within : withinLimits (entries (namesOf bs) (frameOf t (getD fs top []))) ≡ true
-  unfolding withinLimits
+  pub sheet-within : withinLimits (listingOf bs (frameOf t (getD fs top []))) ≡ true
+  unfolding withinLimits listing
   sheet-within =
       let row = getD fs top [] in
-      let F = frameOf t row in
+      let F = listedFrame (mayBind (treeOf (nodesOf bs))) (frameOf t row) in
       let es = entries (namesOf bs) F in
-      let room = sheet-room es (held w) (row-held w (namesOf bs) row (λ x. f .known top x (f .high))) (closed w) in
+      let room = sheet-room es (held w) (listed-held w s row (λ x. f .known top x (f .high))) (closed w) in
       both _ _
       (both _ _ (both _ _ (texts-stand bs s F) (le-leb (length es) mostNames (names-many bs s F)))
       (le-leb (length (typesOf es [])) mostTypes (omega (arith, room .0, length-map (count 8 (t.n - 8)) (denote t), count-long 8 (t.n - 8), w .room, w .most))))

@@ -9,12 +9,13 @@ use borrow.Author.Tests.{ne-eqb}
 use lib.Dec.{eqb}
 use lib.ListN.{length}
 use Rattle.meaning.specs.Base.{choose, if_then_else_, all}
-use Rattle.meaning.specs.Image.{Fault, imageFault, nodesFrom, namesOf}
+use Rattle.meaning.specs.Image.{Fault, imageFault, nodesFrom}
 use Rattle.meaning.specs.Frames.{newest}
-use Rattle.meaning.specs.Sheet.{entries, sheetOf, withinLimits}
+use Rattle.meaning.specs.Sheet.{sheetOf, withinLimits}
 use Rattle.meaning.specs.Walk.{Setting}
 use Rattle.meaning.specs.Answer.{Answer as Meant, bare, written, answerUnder, answer, overlaid}
 use Rattle.meaning.proofs.Faults.{Sound, sizes, fault-told}
+use Rattle.meaning.proofs.Listed.{listingOf}
 use Rattle.meaning.proofs.Answers.{overlaid-none, plain-is, strict-is, no-setting}
 use Rattle.types.specs.Table.{Tab}
 use Rattle.frames.specs.Env.{Rows, framesOf}
@@ -68,10 +69,10 @@ module _ {bs : List ℕ} {setting : Setting} {t u : Tab} {gs : Rows} {top : ℕ}
       }
 
   pub answers-accepted : {q : Answer} {old new m : List ℕ} → t .m ≡ 0 → code ≡ 0
-      → Wrote (written (length old) (sheetOf (entries (namesOf bs) (newest (framesOf u gs top))))) q old new → Answers (answerUnder setting bs (length old) (length m)) q old new m m
+      → Wrote (written (length old) (sheetOf (listingOf bs (newest (framesOf u gs top))))) q old new → Answers (answerUnder setting bs (length old) (length m)) q old new m m
   unfolding all
   answers-accepted {q} {old} {new} {m} k z w =
-      let es = entries (namesOf bs) (newest (framesOf u gs top)) in
+      let es = listingOf bs (newest (framesOf u gs top)) in
       let a = ran-accepting k z in
       let l : withinLimits es ≡ true = rw (newest-row u gs top) (sheet-within (a .sound) (a .wf) (a .fit) (a .few)) in
       rw (ran-well h r z (length old) (length m)) record {

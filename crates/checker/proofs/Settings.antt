@@ -7,8 +7,9 @@ use lib.ListN.{length}
 use Rattle.meaning.specs.Image.{namesOf, nodesOf}
 use Rattle.meaning.specs.Frames.{Frame}
 use Rattle.meaning.specs.Walk.{plain, End}
-use Rattle.meaning.specs.Sheet.{entries, sheetOf}
+use Rattle.meaning.specs.Sheet.{sheetOf}
 use Rattle.meaning.specs.Answer.{Answer as Meant, written, ended, answer}
+use Rattle.meaning.proofs.Listed.{listingOf}
 use Rattle.meaning.proofs.Answers.{plain-is}
 use Rattle.meaning.proofs.Strict.{plain-answers}
 use Rattle.checker.specs.Answers.{Numbers, Replies}
@@ -16,7 +17,7 @@ use Rattle.checker.specs.Module.{sheetIn}
 use Rattle.checker.proofs.Written.{written-well}
 use Rattle.checker.proofs.Ends.{answer-sound}
 use Rattle.checker.proofs.Outcomes.{one-told}
-use Rattle.checker.proofs.Demand.{moduleOf, Concluded, one-frame, own, sheet-of-module}
+use Rattle.checker.proofs.Demand.{listedBy, Concluded, one-frame, own, sheet-of-listed}
 
 -- ---- with the same bytes lent: unless strict gives a typing code, plain's numbers and every byte that it leaves are strict's, and so is the
 -- answer itself (`same-answer`, `same-reply` in Outcomes). (False of a strict that counts the frames which a dropped Def leaves, and of a plain
@@ -32,7 +33,7 @@ module _ (image : List ℕ) (room told : ℕ) {n k : Numbers} {s s₁ s₂ m m�
 -- ---- with any other buffers: what strict accepted once, plain accepts wherever the sheet fits, and its sheet is the same
 
 -- plain's answer for an image whose program ends well, in so much room
-room-enough : {image : List ℕ} {a : Meant} (c : Concluded image a) (room told : ℕ) → length (sheetOf (moduleOf image)) ≤ room
+room-enough : {image : List ℕ} {a : Meant} (c : Concluded image a) (room told : ℕ) → length (sheetOf (listedBy image)) ≤ room
     → answer 0 image room told .code ≡ 0
 unfolding ended
 room-enough {image} c room told h =
@@ -40,14 +41,14 @@ room-enough {image} c room told h =
     ap (λ (a : Meant). a .code)
     (plain-is image room told ∙ answer-sound plain image room told (c .sound)
     ∙ ap (λ (e : End). ended (namesOf image) (nodesOf image) room told e) (c .well))
-    ∙ ap (λ (g : Frame). written room (sheetOf (entries (namesOf image) g)) .code) f
-    ∙ written-well room (sheetOf (moduleOf image)) h
+    ∙ ap (λ (g : Frame). written room (sheetOf (listingOf image g)) .code) f
+    ∙ written-well room (sheetOf (listedBy image)) h
 
 module _ (image : List ℕ) (room told room₂ told₂ : ℕ) {n k : Numbers} {s s₁ m m₁ t t₁ l l₁ : List ℕ}
     (x : Replies (answer 1 image room told) n s s₁ m m₁) (y : Replies (answer 0 image room₂ told₂) k t t₁ l l₁) (c : n .code ≡ 0) where
   pub plain-accepts-too : n .sheet ≤ room₂ → (k .code ≡ 0) × (sheetIn k t₁ ≡ sheetIn n s₁)
   plain-accepts-too h =
       let o = own 1 image room told x c in
-      let long : n .sheet ≡ length (sheetOf (moduleOf image)) = ap (λ (j : Numbers). j .sheet) (x .numbers) ∙ ap length (o .sheet) in
+      let long : n .sheet ≡ length (sheetOf (listedBy image)) = ap (λ (j : Numbers). j .sheet) (x .numbers) ∙ ap length (o .sheet) in
       let d = ap (λ (j : Numbers). j .code) (y .numbers) ∙ room-enough o room₂ told₂ (omega (arith, long, h)) in
-      (d, sheet-of-module 0 image room₂ told₂ y d ∙ sym (sheet-of-module 1 image room told x c))
+      (d, sheet-of-listed 0 image room₂ told₂ y d ∙ sym (sheet-of-listed 1 image room told x c))

@@ -1,14 +1,12 @@
--- What demand 3 speaks of: the module frame that a program ends with, and the sheet that an answer tells of.
-use mathlib.Core.Logic.{_↔_}
+-- What demand 3 speaks of: the module frame that a program ends with, the names that it lists, and the sheet that an answer tells of.
 use mathlib.Core.List.{List, [], _∷_}
 use Prim.Native.Nat.{ℕ}
 use lib.ListN.{take}
 use Rattle.meaning.specs.Types.{Ty}
-use Rattle.meaning.specs.Image.{namesOf}
 use Rattle.meaning.specs.Frames.{Frame, Frames}
 use Rattle.meaning.specs.Walk.{plain, End, done, wrong, tooDeep}
 use Rattle.meaning.specs.Answer.{walked}
-use Rattle.meaning.proofs.SheetSame.{Held}
+use Rattle.meaning.proofs.Listed.{ProgramLists, SameListed}
 use Rattle.checker.specs.Answers.{Numbers}
 
 -- the frames that a walk ends with, the newest first
@@ -26,13 +24,13 @@ lowest f (g ∷ fs) = lowest g fs
 unfoldable pub moduleFrame : List ℕ → Frame
 moduleFrame image = lowest [] (framesAt (walked plain image))
 
--- that frame has a name, spelled so, with this type. Names are numbered image by image; only their spellings can be compared.
-abbrev pub ModuleHas : List ℕ → List ℕ → Ty → Type 0
-ModuleHas image name t = Held (namesOf image) (moduleFrame image) name t
+-- the program lists a name, spelled so, with this type: that frame's, or Unknown where it lacks a name that the module may bind
+abbrev pub ModuleLists : List ℕ → List ℕ → Ty → Type 0
+ModuleLists image name t = ProgramLists image (moduleFrame image) name t
 
--- "both modules end with the same names in the module frame with the same types"
-pub record SameModule (a b : List ℕ) : Type 0 where
-  pub same : (name : List ℕ) (t : Ty) → ModuleHas a name t ↔ ModuleHas b name t
+-- "Demand 3 speaks of listed names from here": both list the same names with the same types
+abbrev pub SameNames : List ℕ → List ℕ → Type 0
+SameNames a b = SameListed a b (moduleFrame a) (moduleFrame b)
 
 -- the bytes of the sheet: so many as the answer's numbers tell, at the front of the buffer that was lent
 abbrev pub sheetIn : Numbers → List ℕ → List ℕ

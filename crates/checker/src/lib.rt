@@ -3,11 +3,11 @@
 ghost use mathlib.Core.Path.{_≡_};
 ghost use lib.ListN.{length};
 ghost use Rattle.meaning.specs.Limits.{mostNodes};
-ghost use Rattle.meaning.specs.Image.{namesOf};
 ghost use Rattle.meaning.specs.Frames.{newest};
-ghost use Rattle.meaning.specs.Sheet.{entries, sheetOf};
+ghost use Rattle.meaning.specs.Sheet.{sheetOf};
 ghost use Rattle.meaning.specs.Answer.{answer, written, readAnswer};
 ghost use Rattle.meaning.proofs.Faults.{Sound};
+ghost use Rattle.meaning.proofs.Listed.{listingOf};
 ghost use Rattle.types.specs.Table.{tab};
 ghost use Rattle.frames.specs.Env.{framesOf};
 ghost use Rattle.checker.specs.Answers.{Answers, AnswersUnder, Wrote, Told, numbersOf, numbersIn, bareNumbers};
@@ -68,7 +68,7 @@ pub enum Answer {
 
 // ---- an accepted program
 
-// Code 0 and the sheet of the names that the row `top` holds, or 10.
+// Code 0 and the sheet of what the program lists, its module frame being the row `top`, or 10.
 fn accept(
     image: &[u8],
     table: &[u16],
@@ -78,7 +78,7 @@ fn accept(
     sheet: &mut [u8],
 ) -> Answer
     requires { ⌜ Accepting (now image) (tab (now table) (counts .types) (counts .elements)) (now frames) top ⌝ }
-    ensures { λ r. ⌜ Wrote (written (length (now (sheet .entry))) (sheetOf (entries (namesOf (now (image .entry)))
+    ensures { λ r. ⌜ Wrote (written (length (now (sheet .entry))) (sheetOf (listingOf (now (image .entry))
         (newest (framesOf (tab (now (table .entry)) (counts .types) (counts .elements)) (now (frames .entry)) top)))))
         r (now (sheet .entry)) (now (sheet .exit)) ⌝ }
 {

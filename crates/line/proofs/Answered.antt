@@ -10,7 +10,8 @@ use lib.ListN.{length, take, drop, length-append}
 use lib.Seq.{length-take-le}
 use Rattle.meaning.specs.Base.{if_then_else_, ifSome}
 use Rattle.meaning.specs.Image.{Fault, Name, Node, imageFault, namesOf, nodesOf}
-use Rattle.meaning.specs.Sheet.{entries, sheetOf}
+use Rattle.meaning.specs.Decode.{treeOf}
+use Rattle.meaning.specs.Sheet.{listing, sheetOf}
 use Rattle.meaning.specs.Frames.{newest}
 use Rattle.meaning.specs.Message.{Refusal}
 use Rattle.meaning.specs.Walk.{Setting, State, End, done, wrong, tooDeep}
@@ -22,7 +23,7 @@ use Rattle.meaning.proofs.Answers.{overlaid-length, overlaid-front}
 use Rattle.meaning.proofs.Answers.{answered as bounds}
 use Rattle.meaning.proofs.SheetForm.{sheet-size}
 use Rattle.line.specs.Printing.{Printable, answered, Fronted, Lined}
-use Rattle.checker.specs.Answers.{Numbers, numbersIn, Replies}
+use Rattle.checker.specs.Answers.{Numbers, Replies}
 use Rattle.checker.proofs.Demand.{reply-short}
 
 -- ---- an accepted program's sheet has a header
@@ -43,7 +44,7 @@ written-header room bs h = by (leb (length bs) room)
 
 ended-header : (ws : List Name) (ds : List Node) (x y : ℕ) (e : End) → ((r : Refusal) (s : State) → e ≡ wrong r s → 20 ≤ r .code) → Header (ended ws ds x y e)
 unfolding ended
-ended-header ws ds x y (done s) h = let es = entries ws (newest (s .frames)) in written-header x (sheetOf es) (omega (arith, sheet-size es))
+ended-header ws ds x y (done s) h = let es = listing ws (treeOf ds) (newest (s .frames)) in written-header x (sheetOf es) (omega (arith, sheet-size es))
 ended-header ws ds x y (wrong r s) h = let k = h r s refl in record { forty = λ e. absurd (omega arith) }
 ended-header ws ds x y (tooDeep n) h = bare-header 9 n (omega arith)
 

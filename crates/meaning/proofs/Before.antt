@@ -1,6 +1,6 @@
 -- Document 02: "plain is unchanged". Here is document 01's walk as the definitions had it before there was a setting, word for word but for
--- the subscripts and the argument `ws`, and the answer made of it. Plain's answer to every image, for every pair of rooms, is that one. (False of a plain that returns an error of a
--- While's body, or that keeps an If's branch which was refused.)
+-- the subscripts and the argument `ws`, and the answer made of it, with the sheet of today. Plain's answer to every image, for every pair of
+-- rooms, is that one. (False of a plain that returns an error of a While's body, or that keeps an If's branch which was refused.)
 use mathlib.Core.Path.{_≡_, refl, _∙_, ap}
 use mathlib.Core.Bool.{Bool, true, false}
 use mathlib.Core.List.{List, [], _∷_, _++_}

@@ -1,7 +1,7 @@
 -- Entries whose texts stand, as those of a sheet do, are told by what is among them: the order leaves no choice, and no name comes twice.
 use mathlib.Core.Path.{_≡_, refl, _∙_, ap, sym, subst}
-use mathlib.Core.Bool.{Bool, true, false, false≢true}
-use mathlib.Core.Logic.{_⊎_, inl, inr, ⊎-elim, _↔_}
+use mathlib.Core.Bool.{true, false≢true}
+use mathlib.Core.Logic.{_⊎_, ⊎-elim}
 use mathlib.Core.Option.{Option, none, some, Option·none-ne-some, Option·some-injective}
 use mathlib.Core.List.{List, [], _∷_, List·Memᴰ, List·Memᴰ·head, List·Memᴰ·tail, List·Memᴰ·not-nil, List·Memᴰ·cases-cons}
 use Prim.Native.Nat.{ℕ, zero, suc, _<_}
@@ -10,7 +10,7 @@ use borrow.Author.Tests.{eq-eqb}
 use lib.ListN.{length, getD}
 use Rattle.meaning.specs.Base.{_and_, if_then_else_, ifSome, before}
 use Rattle.meaning.specs.Types.{Ty}
-use Rattle.meaning.specs.Image.{Name, nameOf, plain, textStands}
+use Rattle.meaning.specs.Image.{Name, nameOf, textStands}
 use Rattle.meaning.specs.Frames.{Frame}
 use Rattle.meaning.specs.Sheet.{Entry, textsStand, entries}
 use Rattle.meaning.proofs.Choices.{and-left, and-right}
@@ -18,7 +18,7 @@ use Rattle.meaning.proofs.SheetNames.{before-trans}
 
 -- ---- the order
 
-before-not : (s : List ℕ) → before s s ≡ true → ⊥
+pub before-not : (s : List ℕ) → before s s ≡ true → ⊥
 unfolding before if_then_else_
 before-not [] h = false≢true h
 before-not (x ∷ xs) h = before-not xs (rw (eq-eqb x x refl) at h)
@@ -28,7 +28,7 @@ unfolding textStands
 text-after last s h = and-right _ _ h
 
 -- every text comes after the one before the first
-all-after : (last : List ℕ) (es : List Entry) → textsStand last es ≡ true → (e : Entry) → List·Memᴰ e es → before last (e .0) ≡ true
+pub all-after : (last : List ℕ) (es : List Entry) → textsStand last es ≡ true → (e : Entry) → List·Memᴰ e es → before last (e .0) ≡ true
 unfolding textsStand
 all-after last [] h e m = absurd (List·Memᴰ·not-nil m)
 all-after last (d ∷ es) h e m =

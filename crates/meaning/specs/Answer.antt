@@ -8,6 +8,7 @@ use lib.ListN.{length, drop}
 use Rattle.meaning.specs.Base.{if_then_else_, choose, ifSome, base-open}
 use Rattle.meaning.specs.Types.{types-open}
 use Rattle.meaning.specs.Tree.{tree-open}
+use Rattle.meaning.specs.Bound.{bound-open}
 use Rattle.meaning.specs.Image.{imageFault, namesOf, nodesOf, Name, Node, nodeOf, image-open}
 use Rattle.meaning.specs.Decode.{treeOf, decode-open}
 use Rattle.meaning.specs.Message.{message, message-open}
@@ -15,7 +16,7 @@ use Rattle.meaning.specs.Frames.{newest, frames-open}
 use Rattle.meaning.specs.Operators.{operators-open}
 use Rattle.meaning.specs.Rules.{rules-open}
 use Rattle.meaning.specs.Walk.{Setting, plain, strict, End, done, wrong, tooDeep, program, start, walk-open}
-use Rattle.meaning.specs.Sheet.{Entry, sheetOf, entries, sheet-open}
+use Rattle.meaning.specs.Sheet.{Entry, sheetOf, listing, sheet-open}
 use Rattle.meaning.specs.Read.{readSheet, read-open}
 
 -- sheet and message are what is written at the front of the two buffers
@@ -44,7 +45,7 @@ fitting room bs = if leb (length bs) room then bs else []
 
 -- how the walk ended, over the image's names and nodes
 unfoldable pub ended : List Name → List Node → ℕ → ℕ → End → Answer
-ended ws ds sheetRoom messageRoom (done s) = written sheetRoom (sheetOf (entries ws (newest (s .frames))))
+ended ws ds sheetRoom messageRoom (done s) = written sheetRoom (sheetOf (listing ws (treeOf ds) (newest (s .frames))))
 ended ws ds sheetRoom messageRoom (wrong r s) =
     record {
       code = r .code;
@@ -88,5 +89,5 @@ overlaid bs old = bs ++ drop (length bs) old
 
 -- to unfold this is to unfold every definition
 unfoldable pub meaning-open : Unit {0}
-unfolding base-open types-open tree-open image-open decode-open message-open frames-open operators-open rules-open walk-open sheet-open read-open written fitting ended walked answerUnder settingOf answer readAnswer writeAnswer overlaid
+unfolding base-open types-open tree-open bound-open image-open decode-open message-open frames-open operators-open rules-open walk-open sheet-open read-open written fitting ended walked answerUnder settingOf answer readAnswer writeAnswer overlaid
 meaning-open = tt

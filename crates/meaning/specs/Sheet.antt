@@ -6,8 +6,10 @@ use Prim.Native.Nat.{ℕ, suc, _+_, _*_}
 use lib.Dec.{eqb, leb, ltb}
 use lib.ListN.{length, getD}
 use Rattle.meaning.specs.Limits.{mostNames, mostTypes, mostElements}
-use Rattle.meaning.specs.Base.{_and_, if_then_else_, ifSome, words}
+use Rattle.meaning.specs.Base.{_and_, if_then_else_, ifSome, orElse, isIn, count, words}
 use Rattle.meaning.specs.Types.{Ty, unknown, int, bool, string, float, nonetype, range, function, list, dict, tuple, mapIter, filterIter, Tys, no-types, _⊕_, same, kind, parts}
+use Rattle.meaning.specs.Tree.{Stmts}
+use Rattle.meaning.specs.Bound.{mayBind}
 use Rattle.meaning.specs.Image.{Name, textStands}
 use Rattle.meaning.specs.Frames.{Frame}
 
@@ -15,11 +17,25 @@ use Rattle.meaning.specs.Frames.{Frame}
 abbrev pub Entry : Type 0
 Entry = List ℕ × Ty
 
--- "The names are those in the module frame at the end, Unknown included", in byte order as the image's names are
+-- the names that a frame holds, Unknown included, in byte order as the image's names are
 unfoldable pub entries : List Name → Frame → List Entry
 entries [] f = []
 entries (w ∷ ws) [] = []
 entries (w ∷ ws) (slot ∷ f) = let later = entries ws f in ifSome slot (λ t. (w .spelling, t) ∷ later) later
+
+-- "A listed name that the frame lacks is Unknown": a slot, by whether the module may bind its name
+unfoldable pub listedSlot : Bool → Option Ty → Option Ty
+listedSlot true slot = some (orElse slot unknown)
+listedSlot false slot = slot
+
+-- the names xs, which the module may bind, "together with all names of the module frame" f
+unfoldable pub listedFrame : List ℕ → Frame → Frame
+listedFrame xs f = map (λ x. listedSlot (isIn x xs) (getD f x none)) (count 0 mostNames)
+
+-- "From now on the sheet lists each name that an Assign or a For at module level may bind .. together with all names of the module
+-- frame": of the module's statements as′, which end with the frame f
+unfoldable pub listing : List Name → Stmts → Frame → List Entry
+listing ws as′ f = entries ws (listedFrame (mayBind as′) f)
 
 -- a record of three words: a type's kind, p and q; a name's text start, length and type
 abbrev pub Triple : Type 0
@@ -128,5 +144,5 @@ withinLimits es =
     and leb (length (elementsOf (typesOf es []))) mostElements
 
 unfoldable pub sheet-open : Unit {0}
-unfolding entries laid addNew met typesOf position number elementsIn elementsOf typeRecord typeRecords spellings nameRecords sheetOf textsStand withinLimits
+unfolding listedSlot listedFrame entries listing laid addNew met typesOf position number elementsIn elementsOf typeRecord typeRecords spellings nameRecords sheetOf textsStand withinLimits
 sheet-open = tt

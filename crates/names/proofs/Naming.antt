@@ -1,32 +1,38 @@
--- The turns of the walk over the names: what is listed so far and what is left come to all entries. Assumes nothing.
+-- The turns of the walk over the names: what is listed so far and what is left come to all that the sheet lists. Assumes nothing.
 use mathlib.Core.Path.{_≡_, refl, sym, ap, _∙_, subst}
-use mathlib.Core.Bool.{true}
+use mathlib.Core.Bool.{Bool, true, false}
 use mathlib.Core.List.{List, [], _∷_, _++_, map, map-append, append-assoc, append-nil}
-use mathlib.Core.Option.{none, some}
-use Prim.Native.Nat.{ℕ, zero, suc, _+_, _-_, _*_, _≤_, _<_}
+use mathlib.Core.Option.{Option, none, some}
+use Prim.Native.Nat.{ℕ, zero, suc, _+_, _-_, _≤_, _<_}
 use native.Mathlib.Nat.{add-zero, zero-add, not-suc-le-zero, le-of-suc-le-suc}
 use native.Mathlib.Numerals.{add-one}
 use native.Mathlib.Omega.{arith}
-use lib.ListN.{length, getD, take, drop, length-map, drop-of-length-le}
+use lib.ListN.{length, getD, take, drop, drop-of-length-le}
 use lib.Seq.{drop-cons}
 use borrow.Author.Count.{below-more}
 use borrow.Author.Tests.{eqb-true, leb-true}
-use Rattle.meaning.specs.Base.{ifSome, count}
+use Rattle.meaning.specs.Base.{ifSome, orElse, isIn, count}
 use Rattle.meaning.specs.Limits.{mostNames, longestName}
 use Rattle.meaning.specs.Types.{Ty}
-use Rattle.meaning.specs.Image.{Name, NameRecord, nameRecords, nameCount, textsFrom, textsOf, namesOf, nameOf, plain, textStands, wrongName, brokenName}
+use Rattle.meaning.specs.Image.{Name, NameRecord, nameRecords, nameCount, textsFrom, textsOf, namesOf, nodesOf, nameOf, plain, textStands, wrongName, brokenName}
 use Rattle.meaning.specs.Frames.{Frame, newest, slotIn}
-use Rattle.meaning.specs.Sheet.{Entry, entries}
+use Rattle.meaning.specs.Bound.{mayBind}
+use Rattle.meaning.specs.Decode.{treeOf}
+use Rattle.meaning.specs.Sheet.{Entry, entries, listedSlot, listedFrame, listing}
 use Rattle.meaning.proofs.Choices.{and-left, and-right, if-none}
 use Rattle.meaning.proofs.Faults.{Sound, sizes}
+use Rattle.meaning.proofs.Listed.{frame-slot, frame-long}
 use Rattle.types.specs.Table.{Tab, Wf, denote}
-use Rattle.frames.specs.Env.{Rows, cellRoom, slot, frameOf, below, framesOf, HeldBelow, Fit, Holds}
+use Rattle.types.proofs.Laws.{unknown-number}
+use Rattle.frames.specs.Env.{Rows, cellRoom, framesOf, heldType, HeldBelow, Fit, Holds}
 use Rattle.frames.specs.declared.Held.{Held}
 use Rattle.frames.specs.declared.Held.the-variants.{Absent, OfType}
 use Rattle.image.specs.Parts.{recordOf, nameStands}
 use Rattle.image.proofs.Records.{records-count, names-many, text-inside, text-fits, text-of}
 use Rattle.sheet.specs.Listing.{nameCells, startAt, lengthAt, typeAt, SameName, PutName, entryAt, listedFrom, listed}
-use Rattle.names.specs.Names.{Names}
+use Rattle.bound.specs.Marks.{marksOf}
+use Rattle.bound.proofs.Marking.{marks-at}
+use Rattle.names.specs.Names.{ToldOf, Names}
 
 -- ---- a text that stands is no longer than a name may be
 
@@ -62,22 +68,56 @@ module _ (ws : List Name) (f : Frame) (k : ℕ) (hw : k < length ws) (hf : k < l
   unfolding entries ifSome nameOf
   entries-more y e = rw (drop-cons ws k (record { spelling = []; role = plain }) hw, drop-cons f k none hf, e, add-one)
 
--- ---- what the newest frame holds for name k
+-- ---- what the sheet tells of a name, by what the newest frame holds for it
 
-module _ {fs : Rows} {top k : ℕ} {h : Held} (m : Holds fs top k h) where
-  held-absent : h ≡ Absent → (t : Tab) → getD (newest (framesOf t fs top)) k none ≡ none
+module _ {fs : Rows} {top x : ℕ} {h : Held} (m : Holds fs top x h) (bound : Bool) where
+  pub told-held : {r : ℕ} → h ≡ OfType r → ToldOf fs top x bound (OfType r)
+  unfolding listedSlot orElse
+  told-held {r} e = record {
+    says = λ t w. by bound _ (rw e at (m .says t));
+    known = λ t w f. subst (HeldBelow (t.n)) e (m .known t f);
+    small = subst (HeldBelow cellRoom) e (m .small);
+  }
+    where
+      by : (b : Bool) (o : Option Ty) {y : Ty} → o ≡ some y → listedSlot b o ≡ some y
+      by true o p = rw p
+      by false o p = p
+
+  pub told-bound : h ≡ Absent → bound ≡ true → ToldOf fs top x bound (OfType 0)
+  unfolding listedSlot orElse
+  told-bound e b = record {
+    says = λ t w. rw (b, rw e at (m .says t), unknown-number w);
+    known = λ t w f. omega (arith, w .base);
+    small = omega arith;
+  }
+
+  pub told-absent : h ≡ Absent → bound ≡ false → ToldOf fs top x bound Absent
+  unfolding listedSlot
+  told-absent e b = record { says = λ t w. rw (b, rw e at (m .says t)); known = λ t w f. tt; small = tt }
+
+-- ---- the frame that the sheet lists, by the module's own and what the module may bind
+
+abbrev pub boundIn : List ℕ → List ℕ
+boundIn bs = mayBind (treeOf (nodesOf bs))
+
+abbrev shown : List ℕ → Tab → Rows → ℕ → Frame
+shown bs t fs top = listedFrame (boundIn bs) (newest (framesOf t fs top))
+
+-- what the sheet tells of name k
+module _ (bs : List ℕ) {fs : Rows} {top k : ℕ} {marks : List Bool} {h : Held} (l : k < mostNames) (b : marks ≡ marksOf (boundIn bs))
+    (m : ToldOf fs top k (getD marks k false) h) where
+  told-slot : (t : Tab) → Wf t → getD (shown bs t fs top) k none ≡ heldType t h
   unfolding slotIn
-  held-absent e t = rw e at (m .says t)
+  told-slot t w =
+      let e : isIn k (boundIn bs) ≡ getD marks k false = sym (marks-at (boundIn bs) k l) ∙ ap (λ (ms : List Bool). getD ms k false) (sym b) in
+      frame-slot (boundIn bs) (newest (framesOf t fs top)) k l ∙ rw e (m .says t w)
 
-  held-type : {r : ℕ} → h ≡ OfType r → (t : Tab) → getD (newest (framesOf t fs top)) k none ≡ some (denote t r)
-  unfolding slotIn
-  held-type e t = rw e at (m .says t)
+module _ {fs : Rows} {top k : ℕ} {bound : Bool} {h : Held} (m : ToldOf fs top k bound h) where
+  told-known : {r : ℕ} → h ≡ OfType r → (t : Tab) → Wf t → Fit t fs top → r < t.n
+  told-known e t w f = subst (HeldBelow (t.n)) e (m .known t w f)
 
-  held-known : {r : ℕ} → h ≡ OfType r → (t : Tab) → Fit t fs top → r < t.n
-  held-known e t f = subst (HeldBelow (t.n)) e (m .known t f)
-
-  pub held-small : {r : ℕ} → h ≡ OfType r → r < cellRoom
-  held-small e = subst (HeldBelow cellRoom) e (m .small)
+  pub told-small : {r : ℕ} → h ≡ OfType r → r < cellRoom
+  told-small e = subst (HeldBelow cellRoom) e (m .small)
 
 -- ---- the list of c names, and one more
 
@@ -119,8 +159,7 @@ pub record Naming (bs : List ℕ) (fs : Rows) (top : ℕ) (cells : List ℕ) (k 
   pub short : (j : ℕ) → j < c → lengthAt cells j ≤ longestName
   pub known : (t : Tab) → Wf t → Fit t fs top → (j : ℕ) → j < c → typeAt cells j < t.n
   pub answer : (t : Tab) → Wf t → Fit t fs top
-      → listed bs t cells c ++ entries (drop k (namesOf bs)) (drop k (newest (framesOf t fs top)))
-      ≡ entries (namesOf bs) (newest (framesOf t fs top))
+      → listed bs t cells c ++ entries (drop k (namesOf bs)) (drop k (shown bs t fs top)) ≡ entries (namesOf bs) (shown bs t fs top)
 
 pub naming-first : (bs : List ℕ) (fs : Rows) (top : ℕ) (cells : List ℕ) → length cells ≡ nameCells → Naming bs fs top cells 0 0
 naming-first bs fs top cells l = record {
@@ -133,21 +172,20 @@ naming-first bs fs top cells l = record {
   answer = λ t w f. rw (listed-none bs t cells);
 }
 
-row-long : (t : Tab) (fs : Rows) (top : ℕ) → Fit t fs top → length (newest (framesOf t fs top)) ≡ mostNames
-unfolding newest framesOf below frameOf
-row-long t fs top f = length-map (getD fs top []) (slot t) ∙ f .wide top (f .high)
-
 -- name k and its slot are within their lists
 module _ {bs : List ℕ} (s : Sound bs) (k : ℕ) (l : k < nameCount bs) where
+  pub name-low : k < mostNames
+  name-low = omega (arith, sizes (s .headed) .names)
+
   name-here : k < length (namesOf bs)
   name-here = rw (names-many bs) l
 
-  slot-here : (t : Tab) (fs : Rows) (top : ℕ) → Fit t fs top → k < length (newest (framesOf t fs top))
-  slot-here t fs top f = omega (arith, sizes (s .headed) .names, row-long t fs top f)
+  slot-here : (t : Tab) (fs : Rows) (top : ℕ) → k < length (shown bs t fs top)
+  slot-here t fs top = omega (arith, name-low, frame-long (boundIn bs) (newest (framesOf t fs top)))
 
 pub naming-skip : {bs : List ℕ} {fs : Rows} {top : ℕ} {cells : List ℕ} {k c : ℕ} → Sound bs → Naming bs fs top cells k c → k < nameCount bs
-    → {h : Held} → Holds fs top k h → h ≡ Absent → Naming bs fs top cells (k + 1) c
-naming-skip {bs} {fs} {top} {cells} {k} {c} s n l m a = record {
+    → {marks : List Bool} → marks ≡ marksOf (boundIn bs) → {h : Held} → ToldOf fs top k (getD marks k false) h → h ≡ Absent → Naming bs fs top cells (k + 1) c
+naming-skip {bs} {fs} {top} {cells} {k} {c} s n l b m a = record {
   here = omega arith;
   few = omega (arith, n .few);
   long = n .long;
@@ -155,22 +193,22 @@ naming-skip {bs} {fs} {top} {cells} {k} {c} s n l m a = record {
   short = n .short;
   known = n .known;
   answer = λ t w f.
-      rw (entries-skip (namesOf bs) (newest (framesOf t fs top)) k (name-here s k l) (slot-here s k l t fs top f) (held-absent m a t)) at (n .answer t w f);
+      let lacks : getD (shown bs t fs top) k none ≡ none = told-slot bs (name-low s k l) b m t w ∙ ap (heldType t) a in
+      rw (entries-skip (namesOf bs) (shown bs t fs top) k (name-here s k l) (slot-here s k l t fs top) lacks) at (n .answer t w f);
 }
 
-module _ {bs : List ℕ} (s : Sound bs) {fs : Rows} {top k c : ℕ} {cs ds : List ℕ} {from len ty : ℕ} {h : Held}
-    (n : Naming bs fs top cs k c) (l : k < nameCount bs) (m : Holds fs top k h) (a : h ≡ OfType ty) (p : PutName cs ds c from len ty)
+module _ {bs : List ℕ} (s : Sound bs) {fs : Rows} {top k c : ℕ} {cs ds : List ℕ} {from len ty : ℕ} {marks : List Bool} {h : Held}
+    (n : Naming bs fs top cs k c) (l : k < nameCount bs) (b : marks ≡ marksOf (boundIn bs)) (m : ToldOf fs top k (getD marks k false) h) (a : h ≡ OfType ty) (p : PutName cs ds c from len ty)
     (ef : from ≡ textsFrom bs + recordOf (nameRecords bs) k .start) (el : len ≡ recordOf (nameRecords bs) k .size) where
   entry-put : (t : Tab) → entryAt bs t ds c ≡ (nameOf (namesOf bs) k .spelling, denote t ty)
   unfolding entryAt
   entry-put t = rw (p .start-is, p .length-is, p .type-is, ef, el, text-of (s .headed) k)
 
   answer-put : (t : Tab) → Wf t → Fit t fs top
-      → listed bs t ds (c + 1) ++ entries (drop (k + 1) (namesOf bs)) (drop (k + 1) (newest (framesOf t fs top)))
-      ≡ entries (namesOf bs) (newest (framesOf t fs top))
+      → listed bs t ds (c + 1) ++ entries (drop (k + 1) (namesOf bs)) (drop (k + 1) (shown bs t fs top)) ≡ entries (namesOf bs) (shown bs t fs top)
   answer-put t w f =
-      let F = newest (framesOf t fs top) in
-      let more = entries-more (namesOf bs) F k (name-here s k l) (slot-here s k l t fs top f) (denote t ty) (held-type m a t) in
+      let has : getD (shown bs t fs top) k none ≡ some (denote t ty) = told-slot bs (name-low s k l) b m t w ∙ ap (heldType t) a in
+      let more = entries-more (namesOf bs) (shown bs t fs top) k (name-here s k l) (slot-here s k l t fs top) (denote t ty) has in
       let old : listed bs t ds c ≡ listed bs t cs c = listed-same bs t cs ds c (p .before) in
       let new : listed bs t ds (c + 1) ≡ listed bs t cs c ++ ((nameOf (namesOf bs) k .spelling, denote t ty) ∷ []) =
       rw (add-one c, ← old, ← entry-put t) (listed-more bs t ds c) in
@@ -189,7 +227,7 @@ module _ {bs : List ℕ} (s : Sound bs) {fs : Rows} {top k c : ℕ} {cs ds : Lis
         (omega (arith, p .length-is, text-short bs (s .names) k l));
     known = λ t w f. below-more (λ j. typeAt ds j < t.n) c
         (λ j h. omega (arith, p .before j h .type, n .known t w f j h))
-        (omega (arith, p .type-is, held-known m a t f));
+        (omega (arith, p .type-is, told-known m a t w f));
     answer = answer-put;
   }
 
@@ -199,11 +237,11 @@ listed-end ws f k l es h a = rw (drop-of-length-le ws h, append-nil) at a
 
 pub naming-end : {bs : List ℕ} {fs : Rows} {top : ℕ} {cells : List ℕ} {k c : ℕ} → Sound bs → Naming bs fs top cells k c → nameCount bs ≤ k
     → Names bs fs top cells c
+unfolding listing
 naming-end {bs} {fs} {top} {cells} {k} {c} s n l =
     let few : c ≤ mostNames = omega (arith, n .few, n .here, sizes (s .headed) .names) in
     let past : length (namesOf bs) ≤ k = rw (names-many bs) l in
     record {
-      listing = λ t w f. record { wf = w; few = few; inside = n .inside; short = n .short; known = n .known t w f };
-      listed-is = λ t w f.
-          listed-end (namesOf bs) (newest (framesOf t fs top)) k (listed bs t cells c) (entries (namesOf bs) (newest (framesOf t fs top))) past (n .answer t w f);
+      stands = λ t w f. record { wf = w; few = few; inside = n .inside; short = n .short; known = n .known t w f };
+      listed-is = λ t w f. listed-end (namesOf bs) (shown bs t fs top) k (listed bs t cells c) (entries (namesOf bs) (shown bs t fs top)) past (n .answer t w f);
     }

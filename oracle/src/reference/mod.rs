@@ -1,9 +1,10 @@
-//! The oracle's own second reading of document 01: reader, walk, messages and sheet over types that are
-//! numbers in a table, so that it can judge what T cannot hold. Written from document 01 and not from the
-//! modules beside it, which it is compared with.
+//! The oracle's own second reading of document 01, and of what document 02 changes in it: reader, walk, messages, the names
+//! of the sheet and the sheet, over types that are numbers in a table, so that it can judge what T cannot hold. Written from
+//! the documents and not from the modules beside it, which it is compared with.
 //!
 //! Each plausible mistake of `mistakes.rs` is a switch in here.
 
+pub mod bound;
 pub mod read;
 pub mod rules;
 pub mod types;

@@ -31,7 +31,7 @@ pub enum End {
 }
 
 /// A slot for each name of the image: absent, or a type. Unknown is not absent.
-type Frame = Vec<Option<Ty>>;
+pub type Frame = Vec<Option<Ty>>;
 /// The newest frame last.
 type Frames = Vec<Frame>;
 

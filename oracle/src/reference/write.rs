@@ -1,8 +1,9 @@
 //! What the reference's walk writes: messages and sheets.
 
+use super::bound;
 use super::read::Image;
 use super::types::*;
-use super::walk::{Piece, Refusal, Walk};
+use super::walk::{Frame, Piece, Refusal, Walk};
 use crate::answer::{Answer, Rooms};
 use crate::mistakes::{Mind, Mistake::*};
 
@@ -127,7 +128,7 @@ pub fn ninth_frame(image: &Image, node: usize, mind: Mind) -> Answer {
 }
 
 pub fn accepted(walk: &Walk, rooms: Rooms, mind: Mind) -> Answer {
-    let sheet = sheet(walk, mind);
+    let sheet = sheet(walk, &bound::listed(walk), mind);
     if sheet.len() > rooms.sheet || (sheet.len() == rooms.sheet && mind.slips(SheetExactRefused)) {
         return Answer::bare(10, 0);
     }
@@ -213,11 +214,11 @@ impl Numbers<'_> {
     }
 }
 
-/// The sheet of the walk's module frame.
-pub fn sheet(walk: &Walk, mind: Mind) -> Vec<u8> {
+/// The sheet of the names that are listed.
+pub fn sheet(walk: &Walk, listed: &Frame, mind: Mind) -> Vec<u8> {
     let types = &walk.types;
-    let module = walk.frames[0].iter().enumerate().filter_map(|(i, t)| t.map(|t| (i, t)));
-    let names: Vec<(usize, Ty)> = module.filter(|(_, t)| *t != UNKNOWN || !mind.slips(UnknownLeftOut)).collect();
+    let listed = listed.iter().enumerate().filter_map(|(i, t)| t.map(|t| (i, t)));
+    let names: Vec<(usize, Ty)> = listed.filter(|(_, t)| *t != UNKNOWN || !mind.slips(UnknownLeftOut)).collect();
 
     let formed = types.formed() as usize;
     let mut numbers = Numbers { types, given: vec![None; formed], count: 0, records: Vec::new(), mind };

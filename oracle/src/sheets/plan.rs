@@ -30,7 +30,7 @@ impl Plan {
     }
 
     /// Its sheet by the reference's writer, as far as `mind` gets it right. The writer takes a walk at its end, so
-    /// it is given one: no program, only a module frame.
+    /// it is given one: no program, only types and names.
     pub fn sheet(&self, mind: Mind) -> Vec<u8> {
         let record = |_| NameRecord { start: 0, length: 0, role: 0, p: 0, q: 0 };
         let image = Image {
@@ -40,8 +40,8 @@ impl Plan {
         };
         let mut walk = Walk::new(&image, Setting::Plain, mind);
         walk.types = self.types.clone();
-        walk.frames[0] = self.names.values().map(|t| Some(*t)).collect();
-        write::sheet(&walk, mind)
+        let listed = self.names.values().map(|t| Some(*t)).collect();
+        write::sheet(&walk, &listed, mind)
     }
 
     /// The module frame at the end of a program; none if it is refused.
