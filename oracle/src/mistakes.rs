@@ -322,4 +322,38 @@ mistakes! {
     TextStartInSheet "text-start-in-sheet" "a text start counts from the sheet's first byte";
     SheetExactRefused "sheet-exact-refused" "a sheet of exactly the room gives 10";
     ElementsShared "elements-shared" "Tuples with equal elements at the front of the area share them";
+
+    // ---- which names the sheet lists
+    FrameOnly "frame-only" "only the module frame's names are listed";
+    StrictFrameOnly "strict-frame-only" "strict lists only the module frame's names";
+    LoopNameMissed "loop-name-missed" "a For's name is not listed";
+    ForBodyMissed "for-body-missed" "a For's body is not looked into";
+    WhileMissed "while-missed" "a While's body is not looked into";
+    ThenMissed "then-missed" "an If's first body is not looked into";
+    ElifMissed "elif-missed" "an elif body is not looked into";
+    ElseMissed "else-missed" "an else body is not looked into";
+    OneDeep "one-deep" "a body inside a body is not looked into";
+    DeadCodeMissed "dead-code-missed" "what stands behind a break, continue or return is not looked at";
+    DefsTakenIn "defs-taken-in" "a Def's body is looked into";
+    InnerDefsTakenIn "inner-defs-taken-in" "the body of a Def that stands in a body is looked into";
+    DefNamesListed "def-names-listed" "a Def's name is listed";
+    ParamsListed "params-listed" "parameters are listed";
+    TuplesMissed "tuples-missed" "a Tuple target is not looked into";
+    NestedTuplesMissed "nested-tuples-missed" "a Tuple inside a Tuple target is not looked into";
+    RestOfTargetMissed "rest-of-target-missed" "a Tuple target is left at what can bind nothing";
+    ListTargetsTakenIn "list-targets-taken-in" "a List in a target is looked into";
+    IndexObjectListed "index-object-listed" "the object of an Index target is listed";
+    IndexListed "index-listed" "the index of an Index target is listed";
+    AttributeObjectListed "attribute-object-listed" "the object of an Attribute target is listed";
+    WholeTargetListed "whole-target-listed" "every Variable in a target is listed";
+    ReadNamesListed "read-names-listed" "names that are only read are listed";
+    AllNamesListed "all-names-listed" "all the image's names are listed";
+    RolesUnlisted "roles-unlisted" "names of builtins and functions are listed only if the frame has them";
+    BodyTypeListed "body-type-listed" "a listed name that the frame lacks has the type that a body gave it last";
+    BodyForgets "body-forgets" "a name of the frame is Unknown where a body may bind it";
+    FrameUnlisted "frame-unlisted" "a name that the frame has and no form binds is left out";
+    AsWalked "as-walked" "names are listed that the walk has bound, not those that the form may bind";
+    ListedAgain "listed-again" "a name stands in the sheet as often as something may bind it";
+    AddedBehind "added-behind" "names that the frame lacks stand behind those that it has";
+    RoomForFrame "room-for-frame" "10 is judged by the frame's names alone";
 }

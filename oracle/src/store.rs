@@ -17,9 +17,11 @@ pub const TIGHT: Rooms = Rooms { sheet: 98, message: 69 };
 /// Images with what they are about.
 pub type List = Vec<(String, Vec<u8>)>;
 
-/// How many images of each family are taken, and how large one may be: many small ones tell more than a few
-/// large ones, and a reader can follow them.
-const DRAWN: [(&str, usize, usize); 16] = [
+/// A family, how many of its images are taken, and how large one may be: many small ones tell more than a few large ones, and a
+/// reader can follow them.
+type Draw = (&'static str, usize, usize);
+
+const DRAWN: [Draw; 16] = [
     ("well", 40, 2_500),
     ("errors", 217, 900),
     ("small", 200, 700),
@@ -37,6 +39,9 @@ const DRAWN: [(&str, usize, usize); 16] = [
     ("damaged", 170, 900),
     ("large", 1, 60_000),
 ];
+
+/// Drawn behind all that stood before there was this family, so that each image keeps its number.
+const DRAWN_LAST: Draw = ("bound", 60, 700);
 
 /// The list that a seed makes, without duplicates.
 pub fn stored_list(seed: u64) -> List {
@@ -57,24 +62,23 @@ pub fn stored_list(seed: u64) -> List {
         let program = limits::doubled(*steps, 2, end % 4, *end);
         list.push((format!("doubling: {} steps, end {}", steps, end), program.image()));
     }
-    for (family, wanted, largest) in DRAWN.iter() {
-        let mut found = 0;
-        let mut number = 0;
-        while found < *wanted {
-            let image = generate::image(seed, family, number);
-            if image.len() <= *largest {
-                list.push((format!("{} {}", family, number), image));
-                found += 1;
-            }
-            number += 1;
-        }
-    }
+    DRAWN.iter().for_each(|draw| drawn(&mut list, seed, *draw));
     for (title, text) in generate::strict() {
         list.push((format!("strict: {}", title), generate::quirk(text).image()));
     }
+    for (title, text) in generate::listed() {
+        list.push((format!("bound: {}", title), generate::quirk(text).image()));
+    }
+    drawn(&mut list, seed, DRAWN_LAST);
     let mut seen: HashSet<Vec<u8>> = HashSet::new();
     list.retain(|(_, image)| seen.insert(image.clone()));
     list
+}
+
+fn drawn(list: &mut List, seed: u64, (family, wanted, largest): Draw) {
+    let images = (0..).map(|number| (number, generate::image(seed, family, number)));
+    let small = images.filter(|(_, image)| image.len() <= largest).take(wanted);
+    list.extend(small.map(|(number, image)| (format!("{} {}", family, number), image)));
 }
 
 /// Every operator on every pair of kinds, and everything that takes one operand on every operand.
@@ -363,6 +367,15 @@ pub fn tight_list() -> List {
     for length in 5..12 {
         let name = "n".repeat(length);
         texts.push(format!("if True: {} = 1\nelse: {} = \"a\"", name, name));
+    }
+    // The frame's names alone would have room in all of these.
+    for text in [
+        "for i in [1]: pass",
+        "a = 1\nb = 2\nc = 3\nfor abcdefg in u: pass",
+        "a = 1\nb = 2\nc = 3\nfor abcdefgh in u: pass",
+        "if True: (a, (b, c), d, e) = u",
+    ] {
+        texts.push(text.to_string());
     }
     texts.into_iter().map(|text| (text.clone(), source::parse(&text).expect("it is a program").image())).collect()
 }

@@ -1,5 +1,6 @@
 //! The generator: families of images, each image a function of the seed, the family and its number.
 
+pub mod bound;
 pub mod calls;
 pub mod damage;
 pub mod errors;
@@ -14,7 +15,7 @@ use crate::source;
 use grow::{Grower, Habits};
 
 /// The families, with what they are for.
-pub const FAMILIES: [(&str, &str); 18] = [
+pub const FAMILIES: [(&str, &str); 19] = [
     ("well", "mostly accepted, of all sizes up to 2,048 nodes and 128 names"),
     ("errors", "aimed at each code 20 to 50 in turn"),
     ("small", "a few nodes over a few names, anything in them"),
@@ -33,6 +34,7 @@ pub const FAMILIES: [(&str, &str); 18] = [
     ("limits", "every limit from both sides, round and round"),
     ("names", "name records right and wrong: codes 4 and 5"),
     ("damaged", "copies of good images with one thing wrong: codes 1 to 8"),
+    ("bound", "names that bodies alone bind, and targets of every form: what the sheet lists"),
 ];
 
 /// The written quirks: a title, and the program's text.
@@ -43,6 +45,11 @@ pub fn quirks() -> Vec<(&'static str, &'static str)> {
 /// What strict makes visible: the loop flag, and that a body's error comes at once.
 pub fn strict() -> Vec<(&'static str, &'static str)> {
     written(include_str!("strict.txt"))
+}
+
+/// What the sheet lists besides the module frame's names, and what it does not.
+pub fn listed() -> Vec<(&'static str, &'static str)> {
+    written(include_str!("bound.txt"))
 }
 
 fn written(texts: &'static str) -> Vec<(&'static str, &'static str)> {
@@ -95,6 +102,7 @@ pub fn image(seed: u64, family: &str, number: u64) -> Vec<u8> {
             random.next();
             damage::damaged(&good.image(), number, &mut random)
         }
+        "bound" => bound::program(random).image(),
         other => panic!("no family {}", other),
     }
 }

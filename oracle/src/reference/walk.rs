@@ -31,7 +31,7 @@ pub enum End {
 }
 
 /// A slot for each name of the image: absent, or a type. Unknown is not absent.
-pub type Frame = Vec<Option<Ty>>;
+type Frame = Vec<Option<Ty>>;
 /// The newest frame last.
 type Frames = Vec<Frame>;
 
@@ -44,11 +44,13 @@ pub struct Walk<'a> {
     pub image: &'a Image,
     pub types: Types,
     pub frames: Frames,
+    /// The type that each name was last given where the module's frame was the only one, copies of it too. Only mistakes ask for it.
+    pub(super) met: Frame,
     /// The return type of the Def, or of the module statement, that the walk is in.
     returns: Ty,
     /// Nodes of type trees that T would have copied by now. What it makes and prints is in proportion.
     pub weight: u64,
-    setting: Setting,
+    pub(super) setting: Setting,
     pub(super) mind: Mind,
 }
 
@@ -71,6 +73,7 @@ impl<'a> Walk<'a> {
         Walk {
             image,
             types: Types::new(mind.slips(TupleBare)),
+            met: module.clone(),
             frames: vec![module],
             returns: UNKNOWN,
             weight: 0,
@@ -160,6 +163,9 @@ impl<'a> Walk<'a> {
 
     fn bind(&mut self, name: usize, t: Ty) {
         self.spend(t);
+        if self.frames.len() == 1 {
+            self.met[name] = Some(t);
+        }
         self.frames.last_mut().expect("the module's frame is never popped")[name] = Some(t);
     }
 

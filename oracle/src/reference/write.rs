@@ -3,7 +3,7 @@
 use super::bound;
 use super::read::Image;
 use super::types::*;
-use super::walk::{Frame, Piece, Refusal, Walk};
+use super::walk::{Piece, Refusal, Walk};
 use crate::answer::{Answer, Rooms};
 use crate::mistakes::{Mind, Mistake::*};
 
@@ -128,11 +128,17 @@ pub fn ninth_frame(image: &Image, node: usize, mind: Mind) -> Answer {
 }
 
 pub fn accepted(walk: &Walk, rooms: Rooms, mind: Mind) -> Answer {
-    let sheet = sheet(walk, &bound::listed(walk), mind);
-    if sheet.len() > rooms.sheet || (sheet.len() == rooms.sheet && mind.slips(SheetExactRefused)) {
+    let sheet = sheet(walk, bound::listed(walk, mind), mind);
+    let measured = if mind.slips(RoomForFrame) { frame_sheet_length(walk) } else { sheet.len() };
+    if measured > rooms.sheet || (measured == rooms.sheet && mind.slips(SheetExactRefused)) {
         return Answer::bare(10, 0);
     }
     Answer { sheet, ..Answer::bare(0, 0) }
+}
+
+/// How long the sheet would be that lists the module frame alone, a mistake.
+fn frame_sheet_length(walk: &Walk) -> usize {
+    sheet(walk, bound::listed(walk, Mind(Some(FrameOnly))), Mind::SOUND).len()
 }
 
 // ---- the sheet
@@ -215,10 +221,10 @@ impl Numbers<'_> {
 }
 
 /// The sheet of the names that are listed.
-pub fn sheet(walk: &Walk, listed: &Frame, mind: Mind) -> Vec<u8> {
+pub fn sheet(walk: &Walk, listed: Vec<(usize, Ty)>, mind: Mind) -> Vec<u8> {
     let types = &walk.types;
-    let listed = listed.iter().enumerate().filter_map(|(i, t)| t.map(|t| (i, t)));
-    let names: Vec<(usize, Ty)> = listed.filter(|(_, t)| *t != UNKNOWN || !mind.slips(UnknownLeftOut)).collect();
+    let names: Vec<(usize, Ty)> =
+        listed.into_iter().filter(|(_, t)| *t != UNKNOWN || !mind.slips(UnknownLeftOut)).collect();
 
     let formed = types.formed() as usize;
     let mut numbers = Numbers { types, given: vec![None; formed], count: 0, records: Vec::new(), mind };

@@ -24,6 +24,9 @@ pub const ELEMENTS: usize = 2_047;
 pub const NAMES: usize = 128;
 pub const NAME_BYTES: usize = 64;
 
+/// The first so many of the generator's families take turns. One that is added behind them does not change the stored sheets.
+const FAMILIES: usize = 18;
+
 impl Plan {
     pub fn new() -> Plan {
         Plan { types: Types::new(false), names: BTreeMap::new() }
@@ -40,8 +43,7 @@ impl Plan {
         };
         let mut walk = Walk::new(&image, Setting::Plain, mind);
         walk.types = self.types.clone();
-        let listed = self.names.values().map(|t| Some(*t)).collect();
-        write::sheet(&walk, &listed, mind)
+        write::sheet(&walk, self.names.values().copied().enumerate().collect(), mind)
     }
 
     /// The module frame at the end of a program; none if it is refused.
@@ -58,7 +60,7 @@ impl Plan {
 
     /// An accepted program's; families take turns, and one that has none soon gives its turn to the next.
     pub fn drawn(seed: u64, number: u64) -> Plan {
-        let families = generate::FAMILIES.len() as u64;
+        let families = FAMILIES as u64;
         let mut family = number % families;
         loop {
             let first = (number / families) * 20;
