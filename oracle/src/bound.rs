@@ -10,41 +10,52 @@
 use crate::parser::ast::{Expr, ExprS, Stmt, StmtS};
 use crate::semantic::Tree;
 use std::collections::HashMap;
-use std::iter::once;
+
+/// Names with their types.
+type Listed = HashMap<String, Tree>;
 
 /// What the sheet lists for a module that T left with this frame.
-pub fn listed(module: &[StmtS], frame: HashMap<String, Tree>) -> HashMap<String, Tree> {
+pub fn listed(module: &[StmtS], frame: Listed) -> Listed {
     let mut listed = frame;
-    for name in by_block(module) {
-        listed.entry(name.clone()).or_insert(Tree::Unknown);
-    }
+    block(module, &mut listed);
     listed
 }
 
-/// The names that a module or a body may bind, each as often as something may.
-fn by_block(block: &[StmtS]) -> Vec<&String> {
-    block.iter().flat_map(|(statement, _)| by_statement(statement)).collect()
+/// What a module or a body may bind.
+fn block(statements: &[StmtS], listed: &mut Listed) {
+    statements.iter().for_each(|(stmt, _)| statement(stmt, listed));
 }
 
-fn by_statement(statement: &Stmt) -> Vec<&String> {
-    match statement {
-        Stmt::Assign { target, .. } => by_target(target),
+fn statement(stmt: &Stmt, listed: &mut Listed) {
+    match stmt {
+        Stmt::Assign { target, .. } => variables(target, listed),
         Stmt::If { then_block, elif_blocks, else_block, .. } => {
-            let elifs = elif_blocks.iter().map(|(_, block)| block);
-            once(then_block).chain(elifs).chain(else_block).flat_map(|block| by_block(block)).collect()
+            block(then_block, listed);
+            elif_blocks.iter().for_each(|(_, body)| block(body, listed));
+            else_block.iter().for_each(|body| block(body, listed));
         }
-        Stmt::While { body, .. } => by_block(body),
-        Stmt::For { var, body, .. } => once(var).chain(by_block(body)).collect(),
-        Stmt::Def { .. } | Stmt::Class { .. } => Vec::new(),
-        Stmt::Return(_) | Stmt::Expr(_) | Stmt::Break | Stmt::Continue | Stmt::Pass => Vec::new(),
+        Stmt::While { body, .. } => block(body, listed),
+        Stmt::For { var, body, .. } => {
+            bound(var, listed);
+            block(body, listed);
+        }
+        Stmt::Def { .. } | Stmt::Class { .. } => {}
+        Stmt::Return(_) | Stmt::Expr(_) | Stmt::Break | Stmt::Continue | Stmt::Pass => {}
     }
 }
 
 /// The Variable that a target is, or those within it through Tuples alone.
-fn by_target((target, _): &ExprS) -> Vec<&String> {
+fn variables((target, _): &ExprS, listed: &mut Listed) {
     match target {
-        Expr::Variable(name) => vec![name],
-        Expr::Tuple(parts) => parts.iter().flat_map(by_target).collect(),
-        _ => Vec::new(),
+        Expr::Variable(name) => bound(name, listed),
+        Expr::Tuple(parts) => parts.iter().for_each(|part| variables(part, listed)),
+        _ => {}
+    }
+}
+
+/// A name that the frame has keeps its type.
+fn bound(name: &str, listed: &mut Listed) {
+    if !listed.contains_key(name) {
+        listed.insert(name.to_string(), Tree::Unknown);
     }
 }
