@@ -5,6 +5,9 @@
 #[path = "../../oracle/src/answer.rs"]
 mod answer;
 #[allow(dead_code)]
+#[path = "../../oracle/src/bound.rs"]
+mod bound;
+#[allow(dead_code)]
 #[path = "../../oracle/src/builtins.rs"]
 mod builtins;
 #[allow(dead_code)]

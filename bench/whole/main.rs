@@ -1,12 +1,14 @@
 //! The whole job in Rust, on one image, so many times: `whole IMAGE N`. A check starts from the image's bytes, as
-//! ours does: the oracle's reader, its tree, T with its frames handed out, and the oracle's sheet writer. What the last
-//! check said is printed, in bench/t's form and then what T alone has no part in.
+//! ours does: the oracle's reader, its tree, T with its frames handed out, the names that the module may bind besides, and the
+//! oracle's sheet writer. What the last check said is printed, in bench/t's form and then what T alone has no part in.
 //!
 //! The process as a whole is counted. The difference between N = 11 and N = 1 is ten checks and nothing else.
 
 #[allow(dead_code)]
 #[path = "../../oracle/src/answer.rs"]
 mod answer;
+#[path = "../../oracle/src/bound.rs"]
+mod bound;
 #[path = "../../oracle/src/builtins.rs"]
 mod builtins;
 #[allow(dead_code)]
@@ -63,8 +65,8 @@ fn check(bytes: &[u8]) -> Answer {
     let program = tree::program(&image);
     let context = judge::context(&image);
     match judge::outcome(|| semantic::framed::typecheck_program(&program, &context)) {
-        Outcome::Accepted(frames) => {
-            let sheet = sheet::sheet(&frames[0]);
+        Outcome::Accepted(mut frames) => {
+            let sheet = sheet::sheet(&bound::listed(&program, frames.remove(0)));
             if sheet.len() > SHEET_ROOM {
                 return Answer::bare(10, 0);
             }
