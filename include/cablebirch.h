@@ -6,9 +6,9 @@
  * buffer that is written must not overlap another buffer. No pointer may be null, even where its length is 0.
  *
  * They allocate nothing and work on the caller's stack. The most that each was seen to need (measured on the deepest inputs known, by
- * bench/stack, and not proved): cablebirch_check 143 KB (142,776 bytes), cablebirch_read_sheet and cablebirch_write_sheet 90 KB (89,704
+ * bench/stack, and not proved): cablebirch_check 143 KB (142,824 bytes), cablebirch_read_sheet and cablebirch_write_sheet 90 KB (89,704
  * and 89,768). With a message buffer of more than CABLEBIRCH_MESSAGE_ROOM, cablebirch_check needs more where a message names a type that
- * is nested deeper than such a buffer can tell: 290,408 bytes for one of 1,891 levels.
+ * is nested deeper than such a buffer can tell: 290,456 bytes for one of 1,891 levels.
  *
  * A script loads unseen exactly when it is accepted and its sheet equals the last approved sheet, byte for byte:
  *
@@ -57,7 +57,8 @@ typedef struct {
 } cablebirch_answer;
 
 /* Judges a program image under a setting. A setting other than the two gives code 13, whatever the image is.
- * Code 0 writes the type sheet to the front of `sheet`; the bytes after it, and `message`, stay as they are.
+ * Code 0 writes the type sheet to the front of `sheet`; the bytes after it, and `message`, stay as they are. The sheet lists each name that
+ * the script may assign outside functions and classes, loop names too, with its type at the end, or Unknown where that is not known.
  * Codes 20 to 50 write the message to the front of `message` if it fits (ASCII, each byte 32 to 126, with no 0 at its end); `sheet`
  * stays as it is.
  * For every other code, 10 too, no buffer is touched. */

@@ -13,8 +13,8 @@
 //! ```
 //!
 //! The functions keep no state: any number of threads may call them at once. They work on the caller's stack: [`check`] was seen to
-//! need 142,776 bytes at most, [`read_sheet`] 89,704 and [`write_sheet`] 89,768; with a message buffer of more than [`MESSAGE_ROOM`], [`check`]
-//! up to 290,408, where a message names a type nested 1,891 deep (measured, not proved: `docs/BENCHMARKS.md`).
+//! need 142,824 bytes at most, [`read_sheet`] 89,704 and [`write_sheet`] 89,768; with a message buffer of more than [`MESSAGE_ROOM`], [`check`]
+//! up to 290,456, where a message names a type nested 1,891 deep (measured, not proved: `docs/BENCHMARKS.md`).
 
 #![warn(missing_docs)]
 
@@ -41,7 +41,8 @@ pub enum Setting {
 pub enum Answer<'a> {
     /// Code 0.
     Accepted {
-        /// The type sheet: the front of the buffer that was lent for it.
+        /// The type sheet: the front of the buffer that was lent for it. It lists each name that the script may assign outside functions and
+        /// classes, loop names too.
         sheet: &'a [u8],
     },
     /// Every other code.
