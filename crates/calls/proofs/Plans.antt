@@ -20,7 +20,8 @@ use Rattle.types.specs.Table.{Tab}
 use Rattle.rules.specs.Outcome.{typesNamed, taken, pieces}
 use Rattle.image.specs.Parts.{recordOf, nameMeans}
 use Rattle.image.specs.declared.NameAt.{NameAt}
-use Rattle.image.proofs.Records.{role-of, names-many}
+use Rattle.meaning.proofs.Nesting.{names-many}
+use Rattle.image.proofs.Records.{role-of}
 use Rattle.calls.specs.declared.Rule.{Rule}
 use Rattle.calls.specs.declared.Rule.the-variants.{Each}
 use Rattle.calls.specs.declared.Plan.{Plan}

@@ -10,7 +10,7 @@ use Rattle.meaning.specs.Base.{if_then_else_, ifSome}
 use Rattle.meaning.specs.Image.{Fault, NameRecord, nameRecords, namesOf, nodesOf, nameCount, nodeCount, textsOf, wrongName, firstNot, firstFound, unless, headStands, countsStand, offsetsStand, imageFault, headFault, bodyFault, brokenName, unsafeName, brokenNode, badlyNested, tooDeepNode}
 use Rattle.meaning.proofs.Faults.{Headed, sizes, fault-1, fault-2, fault-3}
 use Rattle.meaning.proofs.Nesting.{nodes-many}
-use Rattle.image.proofs.Records.{records-count, names-many}
+use Rattle.meaning.proofs.Nesting.{records-count, names-many}
 
 pick-near : (b : Bool) (o : Option ℕ) (i n j : ℕ) → (if b then o else some i) ≡ some j → (o ≡ some j → j ≤ suc i + n) → j ≤ i + suc n
 unfolding if_then_else_

@@ -1,19 +1,19 @@
 -- Where a record's words stand in the image. Assumes nothing.
-use mathlib.Core.Path.{_≡_, _∙_}
+use mathlib.Core.Path.{_≡_}
 use mathlib.Core.Bool.{true}
 use mathlib.Core.Option.{none}
 use mathlib.Core.List.{List, []}
-use Prim.Native.Nat.{ℕ, zero, suc, _+_, _-_, _*_, _<_, _≤_}
-use native.Mathlib.Nat.{add-zero}
+use Prim.Native.Nat.{ℕ, _+_, _-_, _*_, _<_, _≤_}
 use native.Mathlib.Omega.{arith}
-use lib.ListN.{length, getD, take, drop, List·getD-map, length-map, length-drop}
+use lib.ListN.{length, take, drop, List·getD-map, length-drop}
 use lib.Seq.{drop-drop, take-all}
 use borrow.Author.Tests.{leb-true}
 use Rattle.meaning.specs.Base.{_and_, choose, if_then_else_, word}
 use Rattle.meaning.specs.Image.{nameRecord, nameRecords, textsOf, nameFrom, roleOf, namesOf, nameOf, node, nodesOf, nodeOf, nameCount, nodeCount, textCount, namesFrom, nodesFrom, textsFrom, total, headStands, brokenName}
 use Rattle.meaning.specs.Image.{Name}
-use Rattle.meaning.proofs.Choices.{and-left, records-many}
+use Rattle.meaning.proofs.Choices.{and-left}
 use Rattle.meaning.proofs.Faults.{Headed, sizes}
+use Rattle.meaning.proofs.Nesting.{records-count}
 use Rattle.words.proofs.Laws.{word-drop, first-word, record-at}
 use Rattle.image.specs.declared.NameAt.{NameAt}
 use Rattle.image.specs.Parts.{recordOf, nameMeans}
@@ -39,10 +39,6 @@ node-at bs i h = record-at node 24 (nodeCount bs) (nodesFrom bs) bs i _ h
 
 -- ---- names
 
-pub records-count : (bs : List ℕ) → length (nameRecords bs) ≡ nameCount bs
-unfolding nameRecords
-records-count bs = records-many nameRecord 20 (nameCount bs) (drop namesFrom bs)
-
 pub name-words : (bs : List ℕ) (at : ℕ) → nameRecord (drop at bs) ≡ record {
   start = word bs at;
   size = word bs (at + 4);
@@ -62,10 +58,6 @@ record-of bs k h = record-at nameRecord 20 (nameCount bs) namesFrom bs k _ h
 pub name-of : (bs : List ℕ) (k : ℕ) → nameOf (namesOf bs) k ≡ nameFrom (textsOf bs) (recordOf (nameRecords bs) k)
 unfolding nameOf namesOf recordOf nameFrom roleOf choose if_then_else_
 name-of bs k = List·getD-map (nameFrom (textsOf bs)) (nameRecords bs) k _
-
-pub names-many : (bs : List ℕ) → length (namesOf bs) ≡ nameCount bs
-unfolding namesOf
-names-many bs = length-map (nameRecords bs) _ ∙ records-count bs
 
 -- ---- what the header gives
 

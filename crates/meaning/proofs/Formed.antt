@@ -2,7 +2,7 @@
 use mathlib.Core.Path.{_≡_, refl, _∙_, ap, sym, subst}
 use mathlib.Core.Bool.{Bool, true, false, false≢true}
 use mathlib.Core.Logic.{_⊎_, inl, inr, ⊎-elim}
-use mathlib.Core.List.{List, [], _∷_, _++_, tail, append-assoc, append-nil, List·Memᴰ, List·Memᴰ·head, List·Memᴰ·tail, List·Memᴰ·not-nil, List·Memᴰ·cases-cons}
+use mathlib.Core.List.{List, [], _∷_, _++_, tail, append-assoc, append-nil, Memᴰ·append-left, Memᴰ·append-right, List·Memᴰ, List·Memᴰ·head}
 use mathlib.Core.Option.{Option, none, some, Option·none-ne-some}
 use Prim.Native.Nat.{ℕ, zero, suc}
 use native.Mathlib.Omega.{arith}
@@ -32,27 +32,19 @@ record Only (xs : List ℕ) (Γ Δ : Frames) : Type 0 where
   older : tail Δ ≡ tail Γ
   slots : (x : ℕ) (t : Ty) → slotIn Δ x ≡ some t → held Γ x ⊎ List·Memᴰ x xs
 
-in-left : (x : ℕ) (xs ys : List ℕ) → List·Memᴰ x xs → List·Memᴰ x (xs ++ ys)
-in-left x [] ys m = absurd (List·Memᴰ·not-nil m)
-in-left x (z ∷ zs) ys m = ⊎-elim (λ e. List·Memᴰ·head e) (λ r. List·Memᴰ·tail (in-left x zs ys r)) (List·Memᴰ·cases-cons m)
-
-in-right : (x : ℕ) (xs ys : List ℕ) → List·Memᴰ x ys → List·Memᴰ x (xs ++ ys)
-in-right x [] ys m = m
-in-right x (z ∷ zs) ys m = List·Memᴰ·tail (in-right x zs ys m)
-
 only-same : (xs : List ℕ) (Γ : Frames) → Only xs Γ Γ
 unfolding held
 only-same xs Γ = record { older = refl; slots = λ x t e. inl (t, e) }
 
 only-more : {Γ Δ : Frames} (xs ys : List ℕ) → Only xs Γ Δ → Only (xs ++ ys) Γ Δ
-only-more xs ys h = record { older = h .older; slots = λ x t e. ⊎-elim (λ a. inl a) (λ m. inr (in-left x xs ys m)) (h .slots x t e) }
+only-more xs ys h = record { older = h .older; slots = λ x t e. ⊎-elim (λ a. inl a) (λ m. inr (Memᴰ·append-left ys m)) (h .slots x t e) }
 
 only-then : {Γ Δ Θ : Frames} (xs ys : List ℕ) → Only xs Γ Δ → Only ys Δ Θ → Only (xs ++ ys) Γ Θ
 unfolding held
 only-then xs ys h k =
     record {
       older = k .older ∙ h .older;
-      slots = λ x t e. ⊎-elim (λ a. ⊎-elim (λ b. inl b) (λ m. inr (in-left x xs ys m)) (h .slots x (a .0) (a .1))) (λ m. inr (in-right x xs ys m)) (k .slots x t e);
+      slots = λ x t e. ⊎-elim (λ a. ⊎-elim (λ b. inl b) (λ m. inr (Memᴰ·append-left ys m)) (h .slots x (a .0) (a .1))) (λ m. inr (Memᴰ·append-right xs m)) (k .slots x t e);
     }
 
 only-write : (xs : List ℕ) (x : ℕ) (u : Ty) (Γ Δ : Frames) → Only xs Γ Δ → held Γ x ⊎ List·Memᴰ x xs → Only xs Γ (write x u Δ)
@@ -213,7 +205,7 @@ no-branch xs Γ = tt
 all-more : (xs ys : List ℕ) (Γ : Frames) (Δs : List Frames) (Δ : Frames) → AllOnly xs Γ Δs → Only ys Γ Δ → AllOnly (xs ++ ys) Γ (Δs ++ (Δ ∷ []))
 unfolding AllOnly
 all-more xs ys Γ [] Δ h k =
-    (record { older = k .older; slots = λ x t e. ⊎-elim (λ a. inl a) (λ m. inr (in-right x xs ys m)) (k .slots x t e) }, tt)
+    (record { older = k .older; slots = λ x t e. ⊎-elim (λ a. inl a) (λ m. inr (Memᴰ·append-right xs m)) (k .slots x t e) }, tt)
 all-more xs ys Γ (Θ ∷ Δs) Δ h k = (only-more xs ys (h .0), all-more xs ys Γ Δs Δ (h .1) k)
 
 tells-some : (base o : Option Ty) → tells base o ≡ true → (t : Ty) × (o ≡ some t)

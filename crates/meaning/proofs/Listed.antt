@@ -10,17 +10,18 @@ use native.Mathlib.Nat.{zero-add}
 use native.Mathlib.Omega.{arith}
 use borrow.Author.Tests.{eqb-true, eq-eqb}
 use lib.Dec.{eqb}
-use lib.ListN.{length, getD, drop, length-map}
+use lib.ListN.{length, getD, length-map}
 use Rattle.meaning.specs.Limits.{mostNames}
 use Rattle.meaning.specs.Base.{_or_, ifSome, orElse, isIn, count, before}
 use Rattle.meaning.specs.Types.{Ty, unknown}
-use Rattle.meaning.specs.Image.{Name, nameOf, namesOf, nameCount, nameRecord, nameRecords, nameFrom, namesFrom, textsOf, nodesOf}
+use Rattle.meaning.specs.Image.{Name, nameOf, namesOf, nodesOf}
 use Rattle.meaning.specs.Bound.{mayBind}
 use Rattle.meaning.specs.Decode.{treeOf}
 use Rattle.meaning.specs.Frames.{Frame}
 use Rattle.meaning.specs.Sheet.{Entry, entries, listedSlot, listedFrame, listing, met, typesOf, textsStand}
-use Rattle.meaning.proofs.Choices.{and-right, or-either, records-many, count-long, counted-at}
+use Rattle.meaning.proofs.Choices.{and-right, or-either, count-long, counted-at}
 use Rattle.meaning.proofs.Faults.{Sound, sizes}
+use Rattle.meaning.proofs.Nesting.{names-many}
 use Rattle.meaning.proofs.SheetNames.{texts-stand}
 use Rattle.meaning.proofs.SheetSame.{before-not, all-after, told-by-members, Held, entry-held, held-entry}
 use Rattle.meaning.proofs.Scan.{bound-named}
@@ -35,12 +36,12 @@ pub frame-long : (xs : List ℕ) (f : Frame) → length (listedFrame xs f) ≡ m
 unfolding listedFrame
 frame-long xs f = length-map (count 0 mostNames) _ ∙ count-long 0 mostNames
 
-pub is-in : (x : ℕ) (xs : List ℕ) → isIn x xs ≡ true → List·Memᴰ x xs
+is-in : (x : ℕ) (xs : List ℕ) → isIn x xs ≡ true → List·Memᴰ x xs
 unfolding isIn
 is-in x [] e = absurd (false≢true e)
 is-in x (y ∷ ys) e = ⊎-elim (λ a. List·Memᴰ·head (eqb-true x y a)) (λ b. List·Memᴰ·tail (is-in x ys b)) (or-either _ _ e)
 
-pub in-is : (x : ℕ) (xs : List ℕ) → List·Memᴰ x xs → isIn x xs ≡ true
+in-is : (x : ℕ) (xs : List ℕ) → List·Memᴰ x xs → isIn x xs ≡ true
 unfolding isIn _or_
 in-is x [] m = absurd (List·Memᴰ·not-nil m)
 in-is x (y ∷ ys) m = ⊎-elim (λ a. rw (eq-eqb x y a)) (λ b. or-second (eqb x y) _ (in-is x ys b)) (List·Memᴰ·cases-cons m)
@@ -55,7 +56,7 @@ slot-tells true none t e = inr (refl, refl, sym (Option·some-injective unknown 
 slot-tells true (some u) t e = inl e
 slot-tells false o t e = inl e
 
-slot-has : (b : Bool) (o : Option Ty) (t : Ty) → o ≡ some t → listedSlot b o ≡ some t
+pub slot-has : (b : Bool) (o : Option Ty) (t : Ty) → o ≡ some t → listedSlot b o ≡ some t
 unfolding listedSlot orElse
 slot-has true o t e = rw e
 slot-has false o t e = e
@@ -77,7 +78,7 @@ pub record Lists (ws : List Name) (xs : List ℕ) (f : Frame) (s : List ℕ) (t 
   pub typed : (getD f slot none ≡ some t) ⊎ (List·Memᴰ slot xs × (getD f slot none ≡ none) × (t ≡ unknown))
 
 module _ (ws : List Name) (xs : List ℕ) (f : Frame) (few : length ws ≤ mostNames) where
-  pub entry-lists : (s : List ℕ) (t : Ty) → List·Memᴰ (s, t) (entries ws (listedFrame xs f)) → Lists ws xs f s t
+  entry-lists : (s : List ℕ) (t : Ty) → List·Memᴰ (s, t) (entries ws (listedFrame xs f)) → Lists ws xs f s t
   entry-lists s t m =
       let h = entry-held ws (listedFrame xs f) s t m in
       let e = sym (frame-slot xs f (h .slot) (omega (arith, h .named))) ∙ h .typed in
@@ -100,7 +101,7 @@ module _ (ws : List Name) (xs : List ℕ) (f : Frame) (few : length ws ≤ mostN
             ∙ ⊎-elim (λ a. slot-has _ _ t a) (λ a. slot-lacks _ _ t (in-is (h .slot) xs (a .0), a .1, a .2)) (h .typed);
       }
 
-  pub lists-entry : {s : List ℕ} {t : Ty} → Lists ws xs f s t → List·Memᴰ (s, t) (entries ws (listedFrame xs f))
+  lists-entry : {s : List ℕ} {t : Ty} → Lists ws xs f s t → List·Memᴰ (s, t) (entries ws (listedFrame xs f))
   lists-entry h = held-entry (lists-held h)
 
   -- what may be bound is listed, with the frame's type or as Unknown
@@ -118,7 +119,7 @@ module _ (ws : List Name) (xs : List ℕ) (f : Frame) (few : length ws ≤ mostN
 not-again : (e : Entry) (es : List Entry) → textsStand (e .0) es ≡ true → (s : List ℕ) (t : Ty) → s ≡ e .0 → List·Memᴰ (s, t) es → ⊥
 not-again e es h s t p m = before-not (e .0) (subst (λ (x : List ℕ). before (e .0) x ≡ true) p (all-after (e .0) es h (s, t) m))
 
-pub one-type : (last : List ℕ) (es : List Entry) → textsStand last es ≡ true → (s : List ℕ) (t u : Ty) → List·Memᴰ (s, t) es → List·Memᴰ (s, u) es
+one-type : (last : List ℕ) (es : List Entry) → textsStand last es ≡ true → (s : List ℕ) (t u : Ty) → List·Memᴰ (s, t) es → List·Memᴰ (s, u) es
     → t ≡ u
 unfolding textsStand
 one-type last [] h s t u m n = absurd (List·Memᴰ·not-nil m)
@@ -129,12 +130,12 @@ one-type last (e ∷ es) h s t u m n =
     (λ k. ⊎-elim (λ q. absurd (not-again e es later s t (ap (λ (x : Entry). x .0) q) k)) (λ l. one-type (e .0) es later s t u k l) (List·Memᴰ·cases-cons n))
     (List·Memᴰ·cases-cons m)
 
-pub entry-at : (es : List Entry) (j : ℕ) (d : Entry) → j < length es → List·Memᴰ (getD es j d) es
+entry-at : (es : List Entry) (j : ℕ) (d : Entry) → j < length es → List·Memᴰ (getD es j d) es
 entry-at [] j d h = absurd (omega arith)
 entry-at (e ∷ es) zero d h = List·Memᴰ·head refl
 entry-at (e ∷ es) (suc j) d h = List·Memᴰ·tail (entry-at es j d (omega arith))
 
-pub ascending : (last : List ℕ) (es : List Entry) → textsStand last es ≡ true → (i j : ℕ) (d : Entry) → i < j → j < length es
+ascending : (last : List ℕ) (es : List Entry) → textsStand last es ≡ true → (i j : ℕ) (d : Entry) → i < j → j < length es
     → before (getD es i d .0) (getD es j d .0) ≡ true
 unfolding textsStand
 ascending last [] h i j d l b = absurd (omega arith)
@@ -144,12 +145,8 @@ ascending last (e ∷ es) h (suc i) (suc j) d l b = ascending (e .0) es (and-rig
 
 -- ---- what the program in a sound image lists; f is the module frame
 
-names-all : (bs : List ℕ) → length (namesOf bs) ≡ nameCount bs
-unfolding namesOf nameRecords
-names-all bs = length-map (nameRecords bs) (nameFrom (textsOf bs)) ∙ records-many nameRecord 20 (nameCount bs) (drop namesFrom bs)
-
 names-few : (bs : List ℕ) → Sound bs → length (namesOf bs) ≤ mostNames
-names-few bs image = omega (arith, sizes (image .headed) .names, names-all bs)
+names-few bs image = omega (arith, sizes (image .headed) .names, names-many bs)
 
 -- the program lists a name, spelled so, with this type
 abbrev pub ProgramLists : List ℕ → Frame → List ℕ → Ty → Type 0
@@ -173,7 +170,7 @@ module _ (bs : List ℕ) (image : Sound bs) (f : Frame) where
   pub bound-listed : (x : ℕ) → List·Memᴰ x (mayBind (treeOf (nodesOf bs)))
       → List·Memᴰ (nameOf (namesOf bs) x .spelling, orElse (getD f x none) unknown) (listingOf bs f)
   unfolding listing
-  bound-listed x m = bound-held (namesOf bs) _ f (names-few bs image) x (omega (arith, bound-named image x m, names-all bs)) m
+  bound-listed x m = bound-held (namesOf bs) _ f (names-few bs image) x (omega (arith, bound-named image x m, names-many bs)) m
 
   -- "A listed name that the frame lacks is Unknown."
   pub lacking-unknown : (s : List ℕ) (t : Ty) → List·Memᴰ (s, t) (listingOf bs f) → ((u : Ty) → Held (namesOf bs) f s u → ⊥) → t ≡ unknown

@@ -10,10 +10,10 @@ use native.Mathlib.Decide.{ℕ-discrete, decLt}
 use borrow.Author.Tests.{leb-true, le-leb, lt-leb, ltb-true, lt-ltb, le-ltb, eqb-true}
 use lib.Arith.{lt-of-le-ne}
 use lib.Dec.{eqb, leb, ltb}
-use lib.ListN.{length, getD}
+use lib.ListN.{length, getD, drop, length-map}
 use Rattle.meaning.specs.Limits.{deepest}
 use Rattle.meaning.specs.Base.{_and_, _or_, if_then_else_}
-use Rattle.meaning.specs.Image.{Node, nodeOf, nodesOf, node, nameCount, nodeCount, nodesFrom, isStatement, isSpanless, isExpression, argBelow, countStands, nodeStands, belongs, lands, nests, depth, brokenNode, badlyNested, tooDeepNode}
+use Rattle.meaning.specs.Image.{Node, nodeOf, nodesOf, node, nameRecord, nameRecords, namesFrom, namesOf, nameCount, nodeCount, nodesFrom, isStatement, isSpanless, isExpression, argBelow, countStands, nodeStands, belongs, lands, nests, depth, brokenNode, badlyNested, tooDeepNode}
 use Rattle.meaning.specs.Decode.{stopOf, past}
 use Rattle.meaning.proofs.Choices.{and-left, and-right, both, all-pass, records-many}
 use Rattle.meaning.proofs.Faults.{Sound}
@@ -28,6 +28,14 @@ pub record Nested (N : ℕ) (ds : List Node) : Type 0 where
 pub nodes-many : (bs : List ℕ) → length (nodesOf bs) ≡ nodeCount bs
 unfolding nodesOf
 nodes-many bs = records-many node 24 (nodeCount bs) _
+
+pub records-count : (bs : List ℕ) → length (nameRecords bs) ≡ nameCount bs
+unfolding nameRecords
+records-count bs = records-many nameRecord 20 (nameCount bs) (drop namesFrom bs)
+
+pub names-many : (bs : List ℕ) → length (namesOf bs) ≡ nameCount bs
+unfolding namesOf
+names-many bs = length-map (nameRecords bs) _ ∙ records-count bs
 
 pub sound-nested : {bs : List ℕ} → Sound bs → Nested (nameCount bs) (nodesOf bs)
 unfolding nodeOf brokenNode badlyNested tooDeepNode

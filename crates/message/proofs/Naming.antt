@@ -1,20 +1,20 @@
 -- What the pieces of a message mean, by the name records of the image.
 use mathlib.Core.Path.{_≡_, refl, sym, ap, _∙_}
 use mathlib.Core.Option.{none}
-use mathlib.Core.List.{List, [], _∷_, _++_}
-use Prim.Native.Nat.{ℕ, zero, suc, _+_, _<_, _≤_}
+use mathlib.Core.List.{List}
+use Prim.Native.Nat.{ℕ, zero, suc, _+_, _≤_}
 use native.Mathlib.Omega.{arith}
 use native.Mathlib.Decide.{decLt}
-use native.Mathlib.Nat.{add-assoc}
 use borrow.Author.Tests.{eq-eqb, ne-eqb}
-use lib.ListN.{length, take, drop, List·getD-eq-default}
-use Rattle.meaning.specs.Base.{if_then_else_, choose, bytes, decimal}
+use lib.ListN.{length, List·getD-eq-default}
+use Rattle.meaning.specs.Base.{if_then_else_, choose, decimal}
 use Rattle.meaning.specs.Image.{NameRecord, nameCount, nameRecords, namesOf, nameOf, roleOf, textCount, textsFrom, brokenName}
 use Rattle.meaning.specs.Rules.{described}
 use Rattle.meaning.proofs.Faults.{Headed}
 use Rattle.image.specs.Parts.{recordOf, noRecord, nameMeans}
 use Rattle.image.specs.declared.NameAt.{NameAt}
-use Rattle.image.proofs.Records.{records-count, role-of, text-of, text-fits, text-inside}
+use Rattle.meaning.proofs.Nesting.{records-count}
+use Rattle.image.proofs.Records.{role-of, text-of, text-fits, text-inside}
 use Rattle.rules.specs.Outcome.{taken}
 use Rattle.message.specs.Pieces.{meant, Stands, Says, nth}
 use Rattle.message.specs.declared.Piece.the-variants.{Nothing, OfText, OfNumber, OfRange, OfAny}

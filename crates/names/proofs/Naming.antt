@@ -2,7 +2,7 @@
 use mathlib.Core.Path.{_≡_, refl, sym, ap, _∙_, subst}
 use mathlib.Core.Bool.{Bool, true, false}
 use mathlib.Core.List.{List, [], _∷_, _++_, map, map-append, append-assoc, append-nil}
-use mathlib.Core.Option.{Option, none, some}
+use mathlib.Core.Option.{none, some}
 use Prim.Native.Nat.{ℕ, zero, suc, _+_, _-_, _≤_, _<_}
 use native.Mathlib.Nat.{add-zero, zero-add, not-suc-le-zero, le-of-suc-le-suc}
 use native.Mathlib.Numerals.{add-one}
@@ -21,14 +21,15 @@ use Rattle.meaning.specs.Decode.{treeOf}
 use Rattle.meaning.specs.Sheet.{Entry, entries, listedSlot, listedFrame, listing}
 use Rattle.meaning.proofs.Choices.{and-left, and-right, if-none}
 use Rattle.meaning.proofs.Faults.{Sound, sizes}
-use Rattle.meaning.proofs.Listed.{frame-slot, frame-long}
+use Rattle.meaning.proofs.Listed.{frame-slot, frame-long, slot-has}
 use Rattle.types.specs.Table.{Tab, Wf, denote}
 use Rattle.types.proofs.Laws.{unknown-number}
 use Rattle.frames.specs.Env.{Rows, cellRoom, framesOf, heldType, HeldBelow, Fit, Holds}
 use Rattle.frames.specs.declared.Held.{Held}
 use Rattle.frames.specs.declared.Held.the-variants.{Absent, OfType}
 use Rattle.image.specs.Parts.{recordOf, nameStands}
-use Rattle.image.proofs.Records.{records-count, names-many, text-inside, text-fits, text-of}
+use Rattle.meaning.proofs.Nesting.{records-count, names-many}
+use Rattle.image.proofs.Records.{text-inside, text-fits, text-of}
 use Rattle.sheet.specs.Listing.{nameCells, startAt, lengthAt, typeAt, SameName, PutName, entryAt, listedFrom, listed}
 use Rattle.bound.specs.Marks.{marksOf}
 use Rattle.bound.proofs.Marking.{marks-at}
@@ -72,16 +73,11 @@ module _ (ws : List Name) (f : Frame) (k : ℕ) (hw : k < length ws) (hf : k < l
 
 module _ {fs : Rows} {top x : ℕ} {h : Held} (m : Holds fs top x h) (bound : Bool) where
   pub told-held : {r : ℕ} → h ≡ OfType r → ToldOf fs top x bound (OfType r)
-  unfolding listedSlot orElse
   told-held {r} e = record {
-    says = λ t w. by bound _ (rw e at (m .says t));
+    says = λ t w. slot-has bound _ _ (rw e at (m .says t));
     known = λ t w f. subst (HeldBelow (t.n)) e (m .known t f);
     small = subst (HeldBelow cellRoom) e (m .small);
   }
-    where
-      by : (b : Bool) (o : Option Ty) {y : Ty} → o ≡ some y → listedSlot b o ≡ some y
-      by true o p = rw p
-      by false o p = p
 
   pub told-bound : h ≡ Absent → bound ≡ true → ToldOf fs top x bound (OfType 0)
   unfolding listedSlot orElse

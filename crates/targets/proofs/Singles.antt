@@ -13,13 +13,14 @@ use lib.ListN.{length}
 use Rattle.meaning.specs.Base.{if_then_else_, choose, base-open}
 use Rattle.meaning.specs.Types.{Ty}
 use Rattle.meaning.specs.Tree.{Expr, at, Form, variable, attribute, tupleOf, index}
-use Rattle.meaning.specs.Image.{Name, Node, nodeOf, nodesOf, namesOf, nodeCount, nameCount, depth, argBelow}
+use Rattle.meaning.specs.Image.{Name, Node, nodeOf, nodesOf, namesOf, nodeCount, depth}
 use Rattle.meaning.specs.Decode.{stopOf, exprsFrom, formAt, exprAt}
 use Rattle.meaning.specs.Message.{refusal}
 use Rattle.meaning.specs.Rules.{check}
 use Rattle.meaning.specs.Walk.{State, state, End, done, wrong, refuse, typed, checked, assignName, assignTo, assignForm}
 use Rattle.meaning.proofs.Faults.{Sound, sizes}
 use Rattle.meaning.proofs.Nesting.{nodes-many, sound-nested, node-stands}
+use Rattle.meaning.proofs.Scan.{variable-named}
 use Rattle.meaning.proofs.Decoding.{variable-at, attribute-at, index-at}
 use Rattle.meaning.proofs.Codes.{fair-typing, check-fair}
 use Rattle.types.specs.Table.{Tab, denote}
@@ -162,12 +163,9 @@ module _ {bs : List ℕ} {nodes : ℕ} {fs : Rows} {top : ℕ} {t : Tab} {st : L
       left-wider (left-none i (r .wf) f (r .stack)) (omega arith) (omega (arith, k .above))
 
   pub small-name : m .kind ≡ 21 → m .arg < 128
-  unfolding argBelow choose if_then_else_
   small-name k =
       let e : nodeOf (nodesOf bs) i .kind ≡ 21 = ap (λ (x : Node). x .kind) (sym z) ∙ k in
-      let q = node-stands (sound-nested (r .sound)) i (here-now .listed) .arg in
-      let p : nodeOf (nodesOf bs) i .arg < nameCount bs = rw e at q in
-      rw z (omega (arith, p, sizes (r .sound .headed) .names))
+      rw z (omega (arith, variable-named (sound-nested (r .sound)) i (here-now .listed) e, sizes (r .sound .headed) .names))
 
   pub single-name : {gs : Rows} {code x y : ℕ} → m .kind ≡ 21 → Written fs gs top i (m .arg) ty code x y
       → Assigned (namesOf bs) (λ v. assignTo (namesOf bs) (exprAt (nodesOf bs) d i) (denote t ty) (state (framesOf t fs top) v)) t t gs top st i

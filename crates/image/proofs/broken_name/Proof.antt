@@ -1,6 +1,6 @@
 -- The answers stand by name in answers/broken_name.txt.
 use Rattle.image.proofs.Searches.{name-fits, wrong-here, wrong-next, wrong-short, wrong-end}
-use Rattle.image.proofs.Records.{records-count}
+use Rattle.meaning.proofs.Nesting.{records-count}
 use Rattle.image.specs.Parts.{nameMeans, nameStands}
 use Rattle.meaning.specs.Image.{NameRecord, nameRecords, wrongName, brokenName}
 use borrow.Author.Tests.{not-true, not-false}

@@ -1,6 +1,6 @@
 -- The answers stand by name in answers/unsafe_name.txt.
 use Rattle.image.proofs.Searches.{first-end, first-fails, first-next}
-use Rattle.image.proofs.Records.{names-many}
+use Rattle.meaning.proofs.Nesting.{names-many}
 use Rattle.meaning.specs.Image.{Name, nameOf, namesOf, safe, firstNot, unsafeName}
 use Prim.Native.Nat.{ℕ, _-_, _≤_, _<_}
 use lib.ListN.{length, drop}
