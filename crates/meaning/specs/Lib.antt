@@ -14,3 +14,5 @@ pub mod Sheet
 pub mod Read
 pub mod Answer
 pub mod Line
+pub mod Show
+pub mod Load

@@ -51,3 +51,15 @@ sheetBuffer = largestSheet
 
 abbrev pub readAtMost : ℕ
 readAtMost = suc largestImage
+
+-- ---- of a sheet in words: a longer type's text is cut short; and how much room is enough for a sheet's names, `step: Int` and the line's end,
+-- and for what changed, `+ mode: String`, a line for each name of both
+
+abbrev pub longestShown : ℕ
+longestShown = 200
+
+abbrev pub largestShow : ℕ
+largestShow = mostNames * (longestName + 2 + longestShown + 1)
+
+abbrev pub largestChanges : ℕ
+largestChanges = 2 * mostNames * (2 + longestName + 2 + longestShown + 1)
