@@ -4,32 +4,14 @@ use mathlib.Core.List.{List, [], _∷_, _++_, append-nil}
 use Prim.Native.Nat.{ℕ, _+_, _≤_}
 use native.Mathlib.Nat.{zero-add}
 use native.Mathlib.Omega.{arith}
-use lib.Dec.{eqb}
-use lib.ListN.{length, length-append}
+use lib.ListN.{length}
 use borrow.Author.Tests.{eq-eqb, ne-eqb}
 use Rattle.meaning.specs.Answer.{overlaid}
 use Rattle.meaning.specs.Base.{if_then_else_, bytes, decimal, word}
 use Rattle.meaning.specs.Line.{spaced, acceptedLine, refusedLine, lineOf}
-use Rattle.words.specs.Words.{putAt}
-use Rattle.words.proofs.Laws.{put-put, put-length, put-overlaid, decimal-length}
-use Rattle.line.specs.Printing.{answered, orDash, Wrote}
-
--- ---- one piece, and two
-
-pub wrote : {d e : List ℕ} {at end : ℕ} (s : List ℕ) → at + length s ≤ length d → e ≡ putAt d at s → end ≡ at + length s → Wrote d at s e end
-wrote {d} {e} {at} {end} s fits w p =
-    let kept : length e ≡ length d = ap length w ∙ put-length d at s fits in
-    record { same = w; ends = p; long = kept; inside = omega (arith, p) }
-
-pub and-then : {d e f : List ℕ} {at m n : ℕ} {s t : List ℕ} → Wrote d at s e m → Wrote e m t f n → Wrote d at (s ++ t) f n
-and-then {d} {e} {f} {at} {m} {n} {s} {t} a b =
-    let within : at ≤ length d = omega (arith, a .ends, a .long, a .inside) in
-    record {
-      same = b .same ∙ rw (a .same, a .ends) (put-put d at s within t);
-      ends = rw length-append (omega (arith, a .ends, b .ends));
-      long = b .long ∙ a .long;
-      inside = b .inside;
-    }
+use Rattle.words.specs.Words.{putAt, Wrote}
+use Rattle.words.proofs.Laws.{put-overlaid, decimal-length, wrote, and-then}
+use Rattle.line.specs.Printing.{answered, orDash}
 
 -- ---- numbers, each after a space
 

@@ -8,7 +8,6 @@ use Rattle.meaning.specs.Limits.{largestSheet}
 use Rattle.meaning.specs.Answer.{Answer, overlaid}
 use Rattle.meaning.specs.Base.{if_then_else_, bytes}
 use Rattle.meaning.specs.Line.{lineOf}
-use Rattle.words.specs.Words.{putAt}
 
 -- an accepted image has a sheet with a header, whose length is a word; the line finds room whatever its numbers are
 pub record Printable (code : ℕ) (sheet message out : List ℕ) : Type 0 where
@@ -24,13 +23,6 @@ answered code place begins ends sheet message =
 -- "message or `-`"
 unfoldable pub orDash : List ℕ → List ℕ
 orDash message = if eqb (length message) 0 then bytes "-" else message
-
--- s was written into d at a place, and ends at another: e is what is there then
-pub record Wrote (d : List ℕ) (at : ℕ) (s e : List ℕ) (end : ℕ) : Type 0 where
-  pub same : e ≡ putAt d at s
-  pub ends : end ≡ at + length s
-  pub long : length e ≡ length d
-  pub inside : end ≤ length e
 
 -- a line stands at the front of a buffer that is as long as it was, and the rest is kept
 pub record Fronted (w old new : List ℕ) (size : ℕ) : Type 0 where

@@ -5,7 +5,8 @@ ghost use Prim.Native.Nat.{_+_, _<_, _≤_};
 ghost use lib.ListN.{length};
 ghost use Rattle.meaning.specs.Answer.{answer, overlaid};
 ghost use Rattle.meaning.specs.Line.{spaced, acceptedLine, refusedLine, lineOf};
-ghost use Rattle.line.specs.Printing.{Printable, answered, orDash, Wrote, Lined};
+ghost use Rattle.line.specs.Printing.{Printable, answered, orDash, Lined};
+ghost use Rattle.words.specs.Words.{Wrote};
 use checker::cablebirch_check;
 use sheet::header;
 use words::get_word;
@@ -112,7 +113,7 @@ pub struct Printed {
 }
 
 // As a call of its own, a place that is a word asks its proof here alone.
-fn word(n: usize) -> u32
+pub fn word(n: usize) -> u32
     requires { ⌜ n < 4294967296 ⌝ }
     ensures { λ r. ⌜ r ≡ n ⌝ }
 {

@@ -19,11 +19,11 @@ use Rattle.meaning.specs.Answer.{Answer, answer, bare, written, writeAnswer, ov
 use Rattle.meaning.specs.Line.{spaced, acceptedLine, lineOf}
 use Rattle.meaning.proofs.Answers.{overlaid-length, written-answered, overlaid-front}
 use Rattle.meaning.proofs.SheetForm.{sheet-size}
-use Rattle.words.specs.Words.{putAt}
-use Rattle.words.proofs.Laws.{decimal-length, put-overlaid}
+use Rattle.words.specs.Words.{putAt, Wrote}
+use Rattle.words.proofs.Laws.{decimal-length, put-overlaid, wrote, and-then}
 use Rattle.checker.specs.Answers.{Numbers, rewritten, Relaid}
-use Rattle.line.specs.Printing.{Printable, Wrote, Fronted, Lined, answered}
-use Rattle.line.proofs.Pieces.{wrote, and-then, spaced-next}
+use Rattle.line.specs.Printing.{Printable, Fronted, Lined, answered}
+use Rattle.line.proofs.Pieces.{spaced-next}
 use Rattle.line.proofs.Answered.{Header, bare-header, written-header}
 use Rattle.line.proofs.Answered.{fronted as to-front}
 use Rattle.line.proofs.One.{sheet-is}

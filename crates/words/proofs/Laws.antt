@@ -13,7 +13,7 @@ use borrow.Author.Tests.{lt-ltb, le-ltb}
 use Rattle.meaning.specs.Base.{if_then_else_, bytes, sameText, digits, decimal, word, words, records}
 use Rattle.meaning.specs.Answer.{overlaid}
 use Rattle.meaning.proofs.SheetWords.{Small, four-bytes, words-length}
-use Rattle.words.specs.Words.{putAt}
+use Rattle.words.specs.Words.{putAt, Wrote}
 
 -- ---- what was written
 
@@ -65,6 +65,23 @@ unfolding putAt
 put-length d at s fits =
     let within : at ≤ length d = omega arith in
     simp (length-append, length-take-le, length-drop) (omega arith)
+
+-- one piece, and two one after the other
+
+pub wrote : {d e : List ℕ} {at end : ℕ} (s : List ℕ) → at + length s ≤ length d → e ≡ putAt d at s → end ≡ at + length s → Wrote d at s e end
+wrote {d} {e} {at} {end} s fits w p =
+    let kept : length e ≡ length d = ap length w ∙ put-length d at s fits in
+    record { same = w; ends = p; long = kept; inside = omega (arith, p) }
+
+pub and-then : {d e f : List ℕ} {at m n : ℕ} {s t : List ℕ} → Wrote d at s e m → Wrote e m t f n → Wrote d at (s ++ t) f n
+and-then {d} {e} {f} {at} {m} {n} {s} {t} a b =
+    let within : at ≤ length d = omega (arith, a .ends, a .long, a .inside) in
+    record {
+      same = b .same ∙ rw (a .same, a .ends) (put-put d at s within t);
+      ends = rw length-append (omega (arith, a .ends, b .ends));
+      long = b .long ∙ a .long;
+      inside = b .inside;
+    }
 
 -- ---- what lies around it
 

@@ -1,7 +1,8 @@
 -- The answers stand by name in answers/accepted_line.txt: its three pieces are the line.
 use mathlib.Core.Path.{_∙_}
 use Rattle.meaning.specs.Base.{bytes}
-use Rattle.line.proofs.Pieces.{wrote, accepted-wrote}
+use Rattle.words.proofs.Laws.{wrote}
+use Rattle.line.proofs.Pieces.{accepted-wrote}
 use native.Mathlib.Omega.{arith}
 use borrow.Author.Needs.{needs}
 use Rattle.line.proofs.accepted_line.Statement.{statement}

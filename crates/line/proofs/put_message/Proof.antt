@@ -1,6 +1,7 @@
 -- The answers stand by name in answers/put_message.txt.
 use Rattle.meaning.specs.Base.{bytes}
-use Rattle.line.proofs.Pieces.{wrote, dash, no-dash}
+use Rattle.words.proofs.Laws.{wrote}
+use Rattle.line.proofs.Pieces.{dash, no-dash}
 use native.Mathlib.Omega.{arith}
 use borrow.Author.Needs.{needs}
 use Rattle.line.proofs.put_message.Statement.{statement}

@@ -1,7 +1,8 @@
 -- The answers stand by name in answers/refused_line.txt: its six pieces are the line.
 use mathlib.Core.Path.{_∙_}
 use Rattle.meaning.specs.Base.{bytes}
-use Rattle.line.proofs.Pieces.{wrote, refused-wrote}
+use Rattle.words.proofs.Laws.{wrote}
+use Rattle.line.proofs.Pieces.{refused-wrote}
 use native.Mathlib.Omega.{arith}
 use borrow.Author.Needs.{needs}
 use Rattle.line.proofs.refused_line.Statement.{statement}

@@ -1,6 +1,6 @@
 -- The answers stand by name in answers/put_checksum.txt.
 use Rattle.meaning.specs.Base.{bytes}
-use Rattle.line.proofs.Pieces.{wrote}
+use Rattle.words.proofs.Laws.{wrote}
 use Rattle.replay.proofs.Fronts.{checksum-wrote}
 use native.Mathlib.Omega.{arith}
 use borrow.Author.Needs.{needs}

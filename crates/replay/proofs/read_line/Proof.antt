@@ -1,6 +1,6 @@
 -- The answers stand by name in answers/read_line.txt.
 use Rattle.meaning.specs.Base.{bytes}
-use Rattle.line.proofs.Pieces.{wrote}
+use Rattle.words.proofs.Laws.{wrote}
 use Rattle.replay.proofs.Fronts.{read-wrote}
 use native.Mathlib.Omega.{arith}
 use borrow.Author.Needs.{needs}
