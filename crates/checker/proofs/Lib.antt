@@ -2,7 +2,7 @@ mod Places
 mod Limited
 mod Written
 mod Lending
-mod Readable
+pub mod Readable
 pub mod Ends
 pub mod Outcomes
 pub mod Sheets

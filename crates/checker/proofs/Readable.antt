@@ -30,12 +30,12 @@ all-get f [] k d z h = z
 all-get f (x ∷ xs) zero d z h = and-left _ _ h
 all-get f (x ∷ xs) (suc k) d z h = all-get f xs k d z (and-right _ _ h)
 
-if-passes : {A : Type 0} (f : A → Bool) (b : Bool) (x y : A) → f x ≡ true → f y ≡ true → f (if b then x else y) ≡ true
+pub if-passes : {A : Type 0} (f : A → Bool) (b : Bool) (x y : A) → f x ≡ true → f y ≡ true → f (if b then x else y) ≡ true
 unfolding if_then_else_
 if-passes f true x y p q = p
 if-passes f false x y p q = q
 
-choose-passes : {A : Type 0} (f : A → Bool) (k : ℕ) (d : A) (rs : List (ℕ × A)) → f d ≡ true → all (λ (r : ℕ × A). f (r .1)) rs ≡ true
+pub choose-passes : {A : Type 0} (f : A → Bool) (k : ℕ) (d : A) (rs : List (ℕ × A)) → f d ≡ true → all (λ (r : ℕ × A). f (r .1)) rs ≡ true
     → f (choose k d rs) ≡ true
 unfolding choose all
 choose-passes f k d [] z h = z
@@ -43,15 +43,15 @@ choose-passes f k d (r ∷ rs) z h = if-passes f (eqb k (r .0)) (r .1) (choose k
 
 -- ---- texts
 
-abbrev Legible : List ℕ → Type 0
+abbrev pub Legible : List ℕ → Type 0
 Legible s = all readable s ≡ true
 
-join : (xs ys : List ℕ) → Legible xs → Legible ys → Legible (xs ++ ys)
+pub join : (xs ys : List ℕ) → Legible xs → Legible ys → Legible (xs ++ ys)
 unfolding all
 join [] ys p q = q
 join (x ∷ xs) ys p q = both _ _ (and-left _ _ p) (join xs ys (and-right _ _ p) q)
 
-amid : (xs ys zs : List ℕ) → Legible xs → Legible ys → Legible zs → Legible (xs ++ ys ++ zs)
+pub amid : (xs ys zs : List ℕ) → Legible xs → Legible ys → Legible zs → Legible (xs ++ ys ++ zs)
 amid xs ys zs p q r = join (xs ++ ys) zs (join xs ys p q) r
 
 readable-in : (b : ℕ) → 32 ≤ b → b ≤ 126 → readable b ≡ true
@@ -65,7 +65,7 @@ one b l h = both _ _ (readable-in b l h) refl
 mutual
   unfolding text texts others bytes all readable _and_
 
-  text-legible : (t : Ty) → Legible (text t)
+  pub text-legible : (t : Ty) → Legible (text t)
   text-legible unknown = refl
   text-legible int = refl
   text-legible bool = refl
@@ -115,7 +115,7 @@ described-legible (takes p) = decimal-legible p
 
 -- ---- names: each byte of theirs is 33 to 126
 
-printable-legible : (s : List ℕ) → all printable s ≡ true → Legible s
+pub printable-legible : (s : List ℕ) → all printable s ≡ true → Legible s
 unfolding all printable
 printable-legible [] h = refl
 printable-legible (b ∷ s) h =

@@ -23,6 +23,7 @@ use image::node_at;
 use limits::MOST_NODES;
 use names::list_names;
 use rules::codes;
+use sheet::TABLE_CELLS;
 use sheet::list::NO_ENTRIES;
 use sheet::read;
 use stmt::End;
@@ -270,7 +271,7 @@ pub enum Reading {
 pub fn read_sheet(sheet: &[u8]) -> Reading
     ensures { λ r. ⌜ readingNumbers r ≡ numbersIn (readAnswer (now (sheet .entry))) ⌝ }
 {
-    let mut table = [FRESH; MANY_CELLS];
+    let mut table = [FRESH; TABLE_CELLS];
     let mut names = NO_ENTRIES;
     let r = read(sheet, &mut table, &mut names);
     if r.stands {
@@ -291,7 +292,7 @@ pub fn write_sheet(sheet: &[u8], out: &mut [u8]) -> Rewriting
     ensures { λ r. ⌜ Relaid (rewritten (now (sheet .entry)) (length (now (out .entry))))
         (rewritingNumbers r) (now (out .entry)) (now (out .exit)) ⌝ }
 {
-    let mut table = [FRESH; MANY_CELLS];
+    let mut table = [FRESH; TABLE_CELLS];
     let mut names = NO_ENTRIES;
     let r = read(sheet, &mut table, &mut names);
     if !r.stands {
@@ -318,9 +319,9 @@ pub struct Reply {
 }
 
 // The codes that no crate below names.
-const SHORT_BUFFER: u32 = 10;
+pub const SHORT_BUFFER: u32 = 10;
 
-const NO_SHEET: u32 = 12;
+pub const NO_SHEET: u32 = 12;
 
 const NO_SETTING: u32 = 13;
 
@@ -353,7 +354,7 @@ fn bare(code: u32, place: usize) -> Reply
 }
 
 // By the codes of document 01, and of document 02 the last.
-fn replied(a: Answer) -> Reply
+pub fn replied(a: Answer) -> Reply
     ensures { λ r. ⌜ replyMeans r ≡ numbersOf a ⌝ }
 {
     match a {

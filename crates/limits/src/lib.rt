@@ -39,6 +39,17 @@ pub const MOST_ELEMENTS: usize = 2047;
 pub const LARGEST_SHEET: usize = WORD * (10 + 3 * MOST_TYPES + MOST_ELEMENTS + 3 * MOST_NAMES)
     + LONGEST_NAME * MOST_NAMES;
 
+// ---- of a sheet in words
+
+// "One whose text is longer than 200 bytes as its outermost kind with dots".
+pub const LONGEST_SHOWN: usize = 200;
+
+// Enough for a sheet's names, `step: Int` and the line's end.
+pub const LARGEST_SHOW: usize = MOST_NAMES * (LONGEST_NAME + 2 + LONGEST_SHOWN + 1);
+
+// Enough for what changed, `+ mode: String`, a line for each name of both sheets.
+pub const LARGEST_CHANGES: usize = 2 * MOST_NAMES * (2 + LONGEST_NAME + 2 + LONGEST_SHOWN + 1);
+
 // ---- of the program `typecheck`
 
 // "Its message buffer has 1,024 bytes, its sheet buffer 42,532; it reads at most 59,937 bytes".

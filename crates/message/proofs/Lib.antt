@@ -1,6 +1,6 @@
-mod Types
+pub mod Types
 mod Texts
-mod Writing
+pub mod Writing
 mod Naming
 mod Filling
 pub mod Telling

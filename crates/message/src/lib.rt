@@ -189,7 +189,7 @@ fn size_of(table: &[u16], i: usize, lens: &[usize], cap: usize) -> usize
 }
 
 // The lengths of the texts of the first `types` numbers, each worked out once.
-fn measure(table: &[u16], types: usize, cap: usize, lens: &mut [usize])
+pub fn measure(table: &[u16], types: usize, cap: usize, lens: &mut [usize])
     requires { ⌜ AllKnown (now table) types ⌝ }
     requires { ⌜ types ≤ length (now lens) ⌝ }
     ensures { λ _. ⌜ Sized (now (table .entry)) cap (now (lens .exit)) types ⌝ }
@@ -204,7 +204,7 @@ fn measure(table: &[u16], types: usize, cap: usize, lens: &mut [usize])
 // ---- a type's text
 
 // Recurs by the type's number, which falls; one frame for each type that lies around another.
-fn put_type(table: &[u16], i: usize, out: &mut [u8], at: usize) -> usize
+pub fn put_type(table: &[u16], i: usize, out: &mut [u8], at: usize) -> usize
     requires { ⌜ Known (now table) i ⌝ }
     requires { ⌜ at + length (text (typeAt (now table) i)) ≤ length (now out) ⌝ }
     ensures { λ _. ⌜ now (out .exit) ≡ putAt (now (out .entry)) at (text (typeAt (now (table .entry)) i)) ⌝ }

@@ -2,10 +2,11 @@
 pub mod header;
 pub mod list;
 mod reader;
-mod records;
+pub mod records;
 mod writer;
 
 pub use reader::ReadSheet;
+pub use reader::TABLE_CELLS;
 pub use reader::read;
 pub use writer::Written;
 pub use writer::write;

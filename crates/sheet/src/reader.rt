@@ -29,6 +29,7 @@ use limits::LONGEST_NAME;
 use limits::MOST_ELEMENTS;
 use limits::MOST_NAMES;
 use limits::MOST_TYPES;
+use types::CELLS;
 use types::Counts;
 use types::DICT;
 use types::FILTER_ITER;
@@ -55,6 +56,9 @@ const FIRST_KIND: usize = header::LENGTH;
 const FIRST_P: usize = header::LENGTH + SECOND_WORD;
 
 const FIRST_Q: usize = header::LENGTH + THIRD_WORD;
+
+// A table with room for whatever a sheet may hold.
+pub const TABLE_CELLS: usize = CELLS * (STRUCTURED + MOST_TYPES);
 
 // The table's numbers of the types that were read, and those of one Tuple's elements.
 type Numbers = [u16; MOST_TYPES];
@@ -398,7 +402,7 @@ fn begin_table(table: &mut [u16])
 }
 
 // Reads a sheet into a table of its types and a list of its names: whatever the bytes, it says whether they are one.
-// The table has room for whatever a sheet may hold.
+// The table is one of TABLE_CELLS.
 pub fn read(sheet: &[u8], table: &mut [u16], names: &mut NameList) -> ReadSheet
     requires { ⌜ (capacity (now table) ≡ mostNumbers) × (length (now names) ≡ nameCells) × Fresh (now table) ⌝ }
     ensures { λ r. ⌜ Reads (now (sheet .entry)) (r .stands)

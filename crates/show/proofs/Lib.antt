@@ -1,0 +1,6 @@
+mod Names
+mod Lines
+mod Merging
+mod Turning
+pub mod Whole
+pub mod Runs
