@@ -1,0 +1,812 @@
+// The program: an image checked, its sheet written, a sheet shown, two compared, and the load rule, over files. Its
+// status goes to descriptor 3 as one digit, since `main` returns nothing.
+ghost use mathlib.Core.Path.{_≡_};
+ghost use mathlib.Core.Bool.{true};
+ghost use Prim.Native.Nat.{_+_, _<_, _≤_};
+ghost use lib.ListN.{length};
+ghost use Rattle.meaning.specs.Limits.{sheetBuffer, messageBuffer, largestShow, largestChanges};
+ghost use Rattle.meaning.specs.Read.{isSheet};
+ghost use Rattle.meaning.specs.Answer.{answer};
+ghost use Rattle.meaning.specs.Show.{changesText, changes as changesOf};
+ghost use Rattle.line.specs.Printing.{Fronted};
+ghost use Rattle.cablebirch.specs.Words.{verbOf, withFile, withWord, settingIf};
+ghost use Rattle.cablebirch.specs.Words.{kindOf as kindTold, commandOf as commandAsked};
+ghost use Rattle.cablebirch.specs.Said.{statusNumber, statusOf, Says, checkSaid, lineRoom, Writes};
+ghost use Rattle.cablebirch.specs.Said.{showSaid, comparedAs, changesSaid, namesIn, lookText};
+ghost use Rattle.cablebirch.specs.Said.{loadSaid, loadRoom};
+use checker::PLAIN;
+use checker::STRICT;
+use checker::cablebirch_read_sheet;
+use libc::EACCES;
+use libc::EISDIR;
+use libc::ENOENT;
+use libc::ENOTDIR;
+use libc::STDERR_FILENO;
+use libc::STDIN_FILENO;
+use libc::STDOUT_FILENO;
+use limits::LARGEST_CHANGES;
+use limits::LARGEST_SHOW;
+use limits::MESSAGE_BUFFER;
+use limits::READ_AT_MOST;
+use limits::SHEET_BUFFER;
+use load::LOADS;
+use load::LOOK;
+use load::cablebirch_changes;
+use load::cablebirch_load;
+use load::cablebirch_show;
+use words::put;
+use words::same;
+use words::text;
+
+// ---- the words
+
+pub enum Verb {
+    Check,
+    Sheet,
+    Show,
+    Changes,
+    Load,
+    Help,
+    Nothing,
+}
+
+fn verb_told(word: &[u8]) -> Verb
+    ensures { λ r. ⌜ r ≡ verbOf (now (word .entry)) ⌝ }
+{
+    if same(word, b"check") {
+        return Verb::Check;
+    }
+    if same(word, b"sheet") {
+        return Verb::Sheet;
+    }
+    if same(word, b"show") {
+        return Verb::Show;
+    }
+    if same(word, b"changes") {
+        return Verb::Changes;
+    }
+    if same(word, b"load") {
+        return Verb::Load;
+    }
+    if same(word, b"help") {
+        return Verb::Help;
+    }
+    Verb::Nothing
+}
+
+// What a word behind the verb is.
+pub enum Kind {
+    Strict,
+    Input,
+    Name,
+    Unknown,
+}
+
+// `-` alone is standard input. No name begins with a `-`, so that a misspelt `--strict` is not taken for a file.
+fn kind_of(word: &[u8]) -> Kind
+    ensures { λ r. ⌜ r ≡ kindTold (now (word .entry)) ⌝ }
+{
+    if same(word, b"--strict") {
+        return Kind::Strict;
+    }
+    if same(word, b"-") {
+        return Kind::Input;
+    }
+    if word.len() == 0 {
+        return Kind::Name;
+    }
+    if word[0] == b'-' {
+        return Kind::Unknown;
+    }
+    Kind::Name
+}
+
+// The numbers of the arguments that name files; no verb takes three.
+pub enum Files {
+    None,
+    One(usize),
+    Two(usize, usize),
+    Wrong,
+}
+
+fn with_file(files: Files, a: usize) -> Files
+    ensures { λ r. ⌜ r ≡ withFile files a ⌝ }
+{
+    match files {
+        Files::None => Files::One(a),
+        Files::One(i) => Files::Two(i, a),
+        Files::Two(_, _) => Files::Wrong,
+        Files::Wrong => Files::Wrong,
+    }
+}
+
+// What the words behind the verb say so far: strict, a file that is standard input, and the files.
+pub struct Asked {
+    strict: bool,
+    input: bool,
+    files: Files,
+}
+
+// `--strict` may stand once, and so may `-`.
+fn with_word(w: Asked, a: usize, kind: Kind) -> Asked
+    ensures { λ r. ⌜ r ≡ withWord w a kind ⌝ }
+{
+    let files = w.files;
+    match kind {
+        Kind::Strict => Asked {
+            strict: true,
+            input: w.input,
+            files: if w.strict { Files::Wrong } else { files },
+        },
+        Kind::Input => Asked {
+            strict: w.strict,
+            input: true,
+            files: if w.input {
+                Files::Wrong
+            } else {
+                with_file(files, a)
+            },
+        },
+        Kind::Name => Asked {
+            strict: w.strict,
+            input: w.input,
+            files: with_file(files, a),
+        },
+        Kind::Unknown => Asked {
+            strict: w.strict,
+            input: w.input,
+            files: Files::Wrong,
+        },
+    }
+}
+
+// What is to be done: settings, and the numbers of the arguments that name the files.
+pub enum Command {
+    CheckImage(u32, usize),
+    WriteSheet(u32, usize),
+    ShowSheet(usize),
+    TellChanges(usize, usize),
+    LoadImage(u32, usize, usize),
+    Usage,
+    NoVerb,
+    BadWords,
+}
+
+fn setting_of(strict: bool) -> u32
+    ensures { λ r. ⌜ r ≡ settingIf strict ⌝ }
+{
+    if strict { STRICT } else { PLAIN }
+}
+
+// A verb and the number of its files must fit, and only what reads an image may be strict.
+fn command_of(verb: Verb, w: Asked) -> Command
+    ensures { λ r. ⌜ r ≡ commandAsked verb w ⌝ }
+{
+    let files = w.files;
+    let setting = setting_of(w.strict);
+    match verb {
+        Verb::Check => {
+            let Files::One(i) = files else {
+                return Command::BadWords;
+            };
+            Command::CheckImage(setting, i)
+        }
+        Verb::Sheet => {
+            let Files::One(i) = files else {
+                return Command::BadWords;
+            };
+            Command::WriteSheet(setting, i)
+        }
+        Verb::Load => {
+            let Files::Two(i, j) = files else {
+                return Command::BadWords;
+            };
+            Command::LoadImage(setting, i, j)
+        }
+        Verb::Show => {
+            if w.strict {
+                return Command::BadWords;
+            }
+            let Files::One(i) = files else {
+                return Command::BadWords;
+            };
+            Command::ShowSheet(i)
+        }
+        Verb::Changes => {
+            if w.strict {
+                return Command::BadWords;
+            }
+            let Files::Two(i, j) = files else {
+                return Command::BadWords;
+            };
+            Command::TellChanges(i, j)
+        }
+        Verb::Help => {
+            if w.strict {
+                return Command::BadWords;
+            }
+            let Files::None = files else {
+                return Command::BadWords;
+            };
+            Command::Usage
+        }
+        Verb::Nothing => Command::NoVerb,
+    }
+}
+
+// ---- what is said
+
+// Accepted, equal or loaded; changed; refused; and what could not be done.
+pub enum Status {
+    Fine,
+    Changed,
+    Refused,
+    Misused,
+}
+
+fn digit_of(status: Status) -> u8
+    ensures { λ r. ⌜ r ≡ 48 + statusNumber status ⌝ }
+{
+    match status {
+        Status::Fine => b'0',
+        Status::Changed => b'1',
+        Status::Refused => b'2',
+        Status::Misused => b'3',
+    }
+}
+
+fn status_of(code: u32) -> Status
+    ensures { λ r. ⌜ r ≡ statusOf code ⌝ }
+{
+    if code == 0 {
+        return Status::Fine;
+    }
+    Status::Refused
+}
+
+// How many bytes for standard output stand at the front of the buffer that was lent.
+pub struct Done {
+    length: usize,
+    status: Status,
+}
+
+// Room for the line of an image: what stands around its message has fewer than 64 bytes.
+const LINE: usize = 64 + MESSAGE_BUFFER;
+
+// Room for `look` and what changed.
+const LOAD: usize = 5 + LARGEST_CHANGES;
+
+fn say_check(setting: u32, image: &[u8], out: &mut [u8]) -> Done
+    requires { ⌜ lineRoom ≤ length (now out) ⌝ }
+    ensures { λ r. ⌜ Says (checkSaid (answer setting (now (image .entry)) sheetBuffer messageBuffer))
+        (now (out .entry)) (now (out .exit)) r ⌝ }
+    ensures { λ r. ⌜ r .length ≤ length (now (out .exit)) ⌝ }
+{
+    let mut sheet = [0u8; SHEET_BUFFER];
+    let mut message = [0u8; MESSAGE_BUFFER];
+    let p = line::of_image(setting, image, &mut sheet, &mut message, out);
+    let status = status_of(p.code);
+    Done {
+        length: p.length,
+        status,
+    }
+}
+
+// How many bytes of the sheet go to standard output, and how many of the line to standard error.
+pub struct Written {
+    sheet: usize,
+    line: usize,
+    status: Status,
+}
+
+fn write_sheet(setting: u32, image: &[u8], sheet: &mut [u8], out: &mut [u8]) -> Written
+    requires { ⌜ lineRoom ≤ length (now out) ⌝ }
+    ensures { λ r. ⌜ Writes (answer setting (now (image .entry)) (length (now (sheet .entry))) messageBuffer)
+        (now (sheet .entry)) (now (sheet .exit)) (now (out .exit)) r ⌝ }
+    ensures { λ r. ⌜ (r .sheet ≤ length (now (sheet .exit))) × (r .line ≤ length (now (out .exit))) ⌝ }
+{
+    let mut message = [0u8; MESSAGE_BUFFER];
+    let p = line::of_image(setting, image, sheet, &mut message, out);
+    if p.code == 0 {
+        return Written {
+            sheet: p.sheet,
+            line: 0,
+            status: Status::Fine,
+        };
+    }
+    Written {
+        sheet: p.sheet,
+        line: p.length,
+        status: Status::Refused,
+    }
+}
+
+fn say_show(sheet: &[u8], out: &mut [u8]) -> Done
+    requires { ⌜ largestShow ≤ length (now out) ⌝ }
+    ensures { λ r. ⌜ Says (showSaid (now (sheet .entry))) (now (out .entry)) (now (out .exit)) r ⌝ }
+    ensures { λ r. ⌜ r .length ≤ length (now (out .exit)) ⌝ }
+{
+    let w = cablebirch_show(sheet, out);
+    let status = status_of(w.code);
+    Done {
+        length: w.length,
+        status,
+    }
+}
+
+fn compared_as(code: u32, length: usize) -> Status
+    ensures { λ r. ⌜ r ≡ comparedAs code length ⌝ }
+{
+    if code != 0 {
+        return Status::Refused;
+    }
+    if length == 0 {
+        return Status::Fine;
+    }
+    Status::Changed
+}
+
+fn say_changes(old: &[u8], new: &[u8], out: &mut [u8]) -> Done
+    requires { ⌜ largestChanges ≤ length (now out) ⌝ }
+    ensures { λ r. ⌜ Says (changesSaid (now (old .entry)) (now (new .entry)))
+        (now (out .entry)) (now (out .exit)) r ⌝ }
+    ensures { λ r. ⌜ r .length ≤ length (now (out .exit)) ⌝ }
+{
+    let w = cablebirch_changes(old, new, out);
+    let length = w.length;
+    let status = compared_as(w.code, length);
+    Done { length, status }
+}
+
+// ---- the load rule
+
+// What changed from the approved sheet. Where that is none, every name is new.
+fn put_changed(approved: &[u8], sheet: &[u8], out: &mut [u8]) -> usize
+    requires { ⌜ isSheet (now sheet) ≡ true ⌝ }
+    requires { ⌜ largestChanges ≤ length (now out) ⌝ }
+    ensures { λ r. ⌜ Fronted
+        (changesText (changesOf (namesIn (now (approved .entry))) (namesIn (now (sheet .entry)))))
+        (now (out .entry)) (now (out .exit)) r ⌝ }
+{
+    if cablebirch_read_sheet(approved) == 0 {
+        let w = cablebirch_changes(approved, sheet, out);
+        return w.length;
+    }
+    // The sheet of no names is a header alone: version 1, no types, elements, names and texts, and all areas behind 40
+    // bytes, which is the byte `(`.
+    let w = cablebirch_changes(
+        b"\x01\0\0\0\0\0\0\0(\0\0\0\0\0\0\0(\0\0\0\0\0\0\0(\0\0\0\0\0\0\0(\0\0\0(\0\0\0",
+        sheet,
+        out,
+    );
+    w.length
+}
+
+fn put_look(approved: &[u8], sheet: &[u8], out: &mut [u8]) -> usize
+    requires { ⌜ isSheet (now sheet) ≡ true ⌝ }
+    requires { ⌜ loadRoom ≤ length (now out) ⌝ }
+    ensures { λ r. ⌜ Fronted (lookText (now (approved .entry)) (now (sheet .entry)))
+        (now (out .entry)) (now (out .exit)) r ⌝ }
+{
+    let mut told = [0u8; LARGEST_CHANGES];
+    let n = put_changed(approved, sheet, &mut told);
+    let at = put(out, 0, b"look\n");
+    put(out, at, text(&told, 0, n))
+}
+
+fn say_load(setting: u32, image: &[u8], approved: &[u8], out: &mut [u8]) -> Done
+    requires { ⌜ loadRoom ≤ length (now out) ⌝ }
+    ensures { λ r. ⌜ Says
+        (loadSaid (answer setting (now (image .entry)) sheetBuffer messageBuffer) (now (approved .entry)))
+        (now (out .entry)) (now (out .exit)) r ⌝ }
+    ensures { λ r. ⌜ r .length ≤ length (now (out .exit)) ⌝ }
+{
+    let mut sheet = [0u8; SHEET_BUFFER];
+    let mut message = [0u8; MESSAGE_BUFFER];
+    let v = cablebirch_load(setting, image, approved, &mut sheet, &mut message);
+    let written = text(&sheet, 0, v.sheet_length);
+    if v.loading == LOADS {
+        return Done {
+            length: put(out, 0, b"loads\n"),
+            status: Status::Fine,
+        };
+    }
+    if v.loading == LOOK {
+        return Done {
+            length: put_look(approved, written, out),
+            status: Status::Changed,
+        };
+    }
+    let length = line::write(
+        v.code,
+        line::word(v.place),
+        v.span_start,
+        v.span_end,
+        written,
+        text(&message, 0, v.message_length),
+        out,
+    );
+    Done {
+        length,
+        status: Status::Refused,
+    }
+}
+
+// ---- files: from here on proved safe and ending, and no more, since no contract can say what is read or written
+
+fn say(text: &[u8]) {
+    io::write_all(STDERR_FILENO, text);
+}
+
+// Why a file could not be read, in the system's words. An error of 0 is a file that grew behind the end that was read.
+fn say_unread(name: &[u8], error: i32) {
+    say(b"cablebirch: ");
+    if error == 0 {
+        say(name);
+        say(b": it grew while it was read\n");
+    } else {
+        os::fail(name);
+    }
+}
+
+// Whether a file was read, how much of it stands in the buffer, and the system's error if it was not.
+struct Got {
+    is_read: bool,
+    length: usize,
+    error: i32,
+}
+
+// `read_full` stops short at the end and at a read that fails: one more read tells them apart.
+fn read_from(fd: i32, buf: &mut [u8]) -> Got
+    ensures { λ r. ⌜ r .length ≤ length (now (buf .exit)) ⌝ }
+{
+    let length = io::read_full(fd, buf);
+    if length == buf.len() {
+        return Got {
+            is_read: true,
+            length,
+            error: 0,
+        };
+    }
+    let mut more = [0u8; 1];
+    let got = libc::read(fd, &mut more);
+    if got == 0 {
+        return Got {
+            is_read: true,
+            length,
+            error: 0,
+        };
+    }
+    Got {
+        is_read: false,
+        length: 0,
+        error: if got < 0 { os::errno() } else { 0 },
+    }
+}
+
+// Reads the file that an argument names. If it cannot be read, `tells` asks to say why at once, while the system knows.
+fn read_file(a: usize, buf: &mut [u8], tells: bool) -> Got
+    ensures { λ r. ⌜ r .length ≤ length (now (buf .exit)) ⌝ }
+{
+    let mut name = io::buffer();
+    let n = os::arg(a, &mut name);
+    if same(&name[..n], b"-") {
+        let got = read_from(STDIN_FILENO, buf);
+        if tells && !got.is_read {
+            say_unread(b"standard input", got.error);
+        }
+        return got;
+    }
+    let fd = os::open_read(&name[..n]);
+    if fd < 0 {
+        let error = os::errno();
+        if tells {
+            say_unread(&name[..n], error);
+        }
+        return Got {
+            is_read: false,
+            length: 0,
+            error,
+        };
+    }
+    let got = read_from(fd, buf);
+    if tells && !got.is_read {
+        say_unread(&name[..n], got.error);
+    }
+    libc::close(fd);
+    got
+}
+
+// The name of a file as it was given, for standard error.
+fn say_name(a: usize) {
+    let mut name = io::buffer();
+    let n = os::arg(a, &mut name);
+    say(b"cablebirch: ");
+    if same(&name[..n], b"-") {
+        say(b"standard input");
+    } else {
+        say(&name[..n]);
+    }
+}
+
+// Output that cannot be written in full counts as nothing done.
+fn print(text: &[u8], status: Status) -> Status {
+    if io::write_all(STDOUT_FILENO, text) {
+        return status;
+    }
+    os::fail(b"cablebirch: standard output");
+    Status::Misused
+}
+
+// ---- the verbs
+
+fn run_check(setting: u32, a: usize) -> Status {
+    let mut image = [0u8; READ_AT_MOST];
+    let got = read_file(a, &mut image, true);
+    if !got.is_read {
+        return Status::Misused;
+    }
+    let mut out = [0u8; LINE];
+    let done = say_check(setting, text(&image, 0, got.length), &mut out);
+    let status = done.status;
+    print(text(&out, 0, done.length), status)
+}
+
+fn run_sheet(setting: u32, a: usize) -> Status {
+    let mut image = [0u8; READ_AT_MOST];
+    let got = read_file(a, &mut image, true);
+    if !got.is_read {
+        return Status::Misused;
+    }
+    let mut sheet = [0u8; SHEET_BUFFER];
+    let mut out = [0u8; LINE];
+    let w = write_sheet(setting, text(&image, 0, got.length), &mut sheet, &mut out);
+    say(text(&out, 0, w.line));
+    let status = w.status;
+    print(text(&sheet, 0, w.sheet), status)
+}
+
+fn is_sheet(bytes: &[u8]) -> bool {
+    cablebirch_read_sheet(bytes) == 0
+}
+
+fn say_no_sheet(a: usize) {
+    say_name(a);
+    say(b" is no type sheet (12)\n");
+}
+
+fn run_show(a: usize) -> Status {
+    let mut sheet = [0u8; READ_AT_MOST];
+    let got = read_file(a, &mut sheet, true);
+    if !got.is_read {
+        return Status::Misused;
+    }
+    let shown = text(&sheet, 0, got.length);
+    if !is_sheet(shown) {
+        say_no_sheet(a);
+    }
+    let mut out = [0u8; LARGEST_SHOW];
+    let done = say_show(shown, &mut out);
+    let status = done.status;
+    print(text(&out, 0, done.length), status)
+}
+
+// The first of the two that is no sheet is told.
+fn say_if_no_sheet(a: usize, old: &[u8], b: usize, new: &[u8]) {
+    if !is_sheet(old) {
+        say_no_sheet(a);
+    } else if !is_sheet(new) {
+        say_no_sheet(b);
+    }
+}
+
+fn run_changes(a: usize, b: usize) -> Status {
+    let mut old = [0u8; READ_AT_MOST];
+    let was = read_file(a, &mut old, true);
+    if !was.is_read {
+        return Status::Misused;
+    }
+    let mut new = [0u8; READ_AT_MOST];
+    let is = read_file(b, &mut new, true);
+    if !is.is_read {
+        return Status::Misused;
+    }
+    let before = text(&old, 0, was.length);
+    let after = text(&new, 0, is.length);
+    say_if_no_sheet(a, before, b, after);
+    let mut out = [0u8; LARGEST_CHANGES];
+    let done = say_changes(before, after, &mut out);
+    let status = done.status;
+    print(text(&out, 0, done.length), status)
+}
+
+// The system's words for what keeps an approved sheet from being read, of which `os` has no text to go on behind.
+fn say_reason(error: i32) {
+    match error {
+        ENOENT => say(b"No such file or directory"),
+        EACCES => say(b"Permission denied"),
+        EISDIR => say(b"Is a directory"),
+        ENOTDIR => say(b"Not a directory"),
+        _ => say(b"it cannot be read"),
+    }
+}
+
+// Why every name counts as new: nothing was approved yet, or what was is no sheet.
+fn say_all_new(a: usize, is_read: bool, error: i32) {
+    say_name(a);
+    if is_read {
+        say(b" is no type sheet (12)");
+    } else {
+        say(b": ");
+        say_reason(error);
+    }
+    say(b": every name is new\n");
+}
+
+fn run_load(setting: u32, a: usize, b: usize) -> Status {
+    let mut image = [0u8; READ_AT_MOST];
+    let got = read_file(b, &mut image, true);
+    if !got.is_read {
+        return Status::Misused;
+    }
+    let mut sheet = [0u8; READ_AT_MOST];
+    let was = read_file(a, &mut sheet, false);
+    let approved = text(&sheet, 0, was.length);
+    let mut out = [0u8; LOAD];
+    let done = say_load(setting, text(&image, 0, got.length), approved, &mut out);
+    let status = done.status;
+    if is_changed(status) && !is_sheet(approved) {
+        say_all_new(a, was.is_read, was.error);
+    }
+    print(text(&out, 0, done.length), status)
+}
+
+fn is_changed(status: Status) -> bool {
+    match status {
+        Status::Changed => true,
+        _ => false,
+    }
+}
+
+fn run_help() -> Status {
+    let mut good = io::write_all(
+        STDOUT_FILENO,
+        b"usage: cablebirch VERB ..   (a file `-` is standard input)\n",
+    );
+    good = good
+        && io::write_all(
+            STDOUT_FILENO,
+            b"  check [--strict] IMAGE          the answer to a script's image, one line\n",
+        );
+    good = good
+        && io::write_all(
+            STDOUT_FILENO,
+            b"  sheet [--strict] IMAGE          the type sheet of an accepted script\n",
+        );
+    good = good
+        && io::write_all(
+            STDOUT_FILENO,
+            b"  show SHEET                      a sheet's names and types\n",
+        );
+    good = good
+        && io::write_all(
+            STDOUT_FILENO,
+            b"  changes OLD NEW                 what changed between two sheets\n",
+        );
+    good = good
+        && io::write_all(
+            STDOUT_FILENO,
+            b"  load [--strict] APPROVED IMAGE  loads, or look and what changed, or why it is refused\n",
+        );
+    good = good
+        && io::write_all(
+            STDOUT_FILENO,
+            b"  help                            these lines\n",
+        );
+    good = good
+        && io::write_all(
+            STDOUT_FILENO,
+            b"status: 0 accepted, equal or loads; 1 changed or look; 2 refused or no sheet; 3 nothing done\n",
+        );
+    if good {
+        return Status::Fine;
+    }
+    os::fail(b"cablebirch: standard output");
+    Status::Misused
+}
+
+// ---- the words of the program
+
+// What the word at this place adds, if there is one.
+fn asked_at(w: Asked, a: usize) -> Asked {
+    if os::arg_count() <= a {
+        return w;
+    }
+    let mut word = io::buffer();
+    let n = os::arg(a, &mut word);
+    with_word(w, a, kind_of(&word[..n]))
+}
+
+// The words behind the verb. No verb takes more than three, so that a fourth settles it.
+fn words_asked() -> Asked {
+    let none = Asked {
+        strict: false,
+        input: false,
+        files: Files::None,
+    };
+    asked_at(asked_at(asked_at(asked_at(none, 2), 3), 4), 5)
+}
+
+fn is_too_long(a: usize) -> bool {
+    if os::arg_count() <= a {
+        return false;
+    }
+    let mut word = io::buffer();
+    os::arg(a, &mut word);
+    os::errno() != 0
+}
+
+fn verb_given() -> Verb {
+    let mut word = io::buffer();
+    let n = os::arg(1, &mut word);
+    verb_told(&word[..n])
+}
+
+fn say_no_verb() {
+    if os::arg_count() < 2 {
+        say(b"cablebirch: a verb is missing; try cablebirch help\n");
+    } else {
+        say_name(1);
+        say(b" is no verb; try cablebirch help\n");
+    }
+}
+
+fn say_bad_words(verb: Verb) {
+    match verb {
+        Verb::Check => say(b"cablebirch: it must be check [--strict] IMAGE; try cablebirch help\n"),
+        Verb::Sheet => say(b"cablebirch: it must be sheet [--strict] IMAGE; try cablebirch help\n"),
+        Verb::Show => say(b"cablebirch: it must be show SHEET; try cablebirch help\n"),
+        Verb::Changes => say(
+            b"cablebirch: it must be changes OLD NEW, one of them - at most; try cablebirch help\n",
+        ),
+        Verb::Load => say(
+            b"cablebirch: it must be load [--strict] APPROVED IMAGE, one of them - at most; try cablebirch help\n",
+        ),
+        _ => say(b"cablebirch: it must be help alone; try cablebirch help\n"),
+    }
+}
+
+fn run(verb: Verb) -> Status {
+    match command_of(verb, words_asked()) {
+        Command::CheckImage(setting, a) => run_check(setting, a),
+        Command::WriteSheet(setting, a) => run_sheet(setting, a),
+        Command::ShowSheet(a) => run_show(a),
+        Command::TellChanges(a, b) => run_changes(a, b),
+        Command::LoadImage(setting, a, b) => run_load(setting, a, b),
+        Command::Usage => run_help(),
+        Command::NoVerb => {
+            say_no_verb();
+            Status::Misused
+        }
+        Command::BadWords => {
+            say_bad_words(verb);
+            Status::Misused
+        }
+    }
+}
+
+fn status_told() -> Status {
+    if is_too_long(1) || is_too_long(2) || is_too_long(3) || is_too_long(4) {
+        say(b"cablebirch: a word is longer than 4,096 bytes; try cablebirch help\n");
+        return Status::Misused;
+    }
+    run(verb_given())
+}
+
+// Where the status goes.
+const STATUS_FD: i32 = 3;
+
+fn main() {
+    let digit = [digit_of(status_told())];
+    io::write_all(STATUS_FD, &digit);
+}
