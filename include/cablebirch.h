@@ -1,22 +1,33 @@
 /* Cablebirch: a proved script checker. MIT licence.
  *
- * Link target/staticlib/libchecker.a (x86-64 Linux), which `rt staticlib checker` proves and writes.
+ * Two archives for x86-64 Linux, in target/staticlib; `rt staticlib checker` and `rt staticlib load` prove and write them:
+ *
+ *     libchecker.a    cablebirch_check, cablebirch_read_sheet, cablebirch_write_sheet
+ *     libload.a       cablebirch_load, cablebirch_show, cablebirch_changes
+ *
+ * Link the one whose functions you call, or both, in any order: neither needs the other.
  *
  * The functions keep no state: any number of threads may call them at once, each with buffers of its own. Within one call, a
  * buffer that is written must not overlap another buffer. No pointer may be null, even where its length is 0.
  *
  * They allocate nothing and work on the caller's stack. The most that each was seen to need (measured on the deepest inputs known, by
- * bench/stack, and not proved): cablebirch_check 143 KB (142,824 bytes), cablebirch_read_sheet and cablebirch_write_sheet 90 KB (89,704
- * and 89,768). With a message buffer of more than CABLEBIRCH_MESSAGE_ROOM, cablebirch_check needs more where a message names a type that
- * is nested deeper than such a buffer can tell: 290,456 bytes for one of 1,891 levels.
+ * bench/stack, and not proved): cablebirch_check and cablebirch_load 143 KB (142,824 and 143,000 bytes), cablebirch_read_sheet and
+ * cablebirch_write_sheet 90 KB (89,704 and 89,768), cablebirch_show 124 KB (123,944), cablebirch_changes 253 KB (252,472). With a message
+ * buffer of more than CABLEBIRCH_MESSAGE_ROOM, cablebirch_check and cablebirch_load need more where a message names a type that is
+ * nested deeper than such a buffer can tell: 290,456 and 290,632 bytes for one of 1,891 levels.
  *
  * A script loads unseen exactly when it is accepted and its sheet equals the last approved sheet, byte for byte:
  *
- *     static uint8_t sheet[CABLEBIRCH_SHEET_MAX], message[CABLEBIRCH_MESSAGE_ROOM];
- *     cablebirch_answer a = cablebirch_check(CABLEBIRCH_STRICT, image, image_len, sheet, sizeof sheet, message, sizeof message);
- *     if (a.code != CABLEBIRCH_ACCEPTED) printf("refused %u: %.*s\n", a.code, (int)a.message_length, (char *)message);
- *     else if (a.sheet_length == approved_len && memcmp(sheet, approved, approved_len) == 0) puts("loads unseen");
- *     else puts("someone must look at the new sheet");
+ *     static uint8_t sheet[CABLEBIRCH_SHEET_MAX], message[CABLEBIRCH_MESSAGE_ROOM], text[CABLEBIRCH_CHANGES_MAX];
+ *     cablebirch_verdict v = cablebirch_load(CABLEBIRCH_STRICT, image, image_len, approved, approved_len, sheet, sizeof sheet,
+ *                                            message, sizeof message);
+ *     if (v.loading == CABLEBIRCH_LOADS) puts("loads unseen");
+ *     else if (v.loading == CABLEBIRCH_REFUSED) printf("refused %u: %.*s\n", v.code, (int)v.message_length, (char *)message);
+ *     else {
+ *         cablebirch_words w = cablebirch_changes(approved, approved_len, sheet, v.sheet_length, text, sizeof text);
+ *         if (w.code == CABLEBIRCH_NO_SHEET) w = cablebirch_show(sheet, v.sheet_length, text, sizeof text);
+ *         printf("someone must look at the new sheet:\n%.*s", (int)w.length, (char *)text);
+ *     }
  */
 #ifndef CABLEBIRCH_H
 #define CABLEBIRCH_H
@@ -32,6 +43,9 @@ extern "C" {
 #define CABLEBIRCH_SHEET_MAX 42532
 /* No program image is longer. */
 #define CABLEBIRCH_IMAGE_MAX 59936
+/* No text of cablebirch_show is longer, and none of cablebirch_changes: with this much room, code 10 cannot come. */
+#define CABLEBIRCH_SHOW_MAX 34176
+#define CABLEBIRCH_CHANGES_MAX 68864
 /* The room for a message that the program `typecheck` has. Messages have no longest: one that does not fit is left out whole. */
 #define CABLEBIRCH_MESSAGE_ROOM 1024
 
@@ -46,6 +60,8 @@ extern "C" {
 #define CABLEBIRCH_SHEET_TOO_LONG 10
 #define CABLEBIRCH_NO_SHEET 12
 #define CABLEBIRCH_NO_SETTING 13
+
+/* ---- libchecker.a */
 
 typedef struct {
     uint32_t code;         /* 0 accepted, else why not */
@@ -71,6 +87,49 @@ uint32_t cablebirch_read_sheet(const uint8_t *sheet, size_t len);
 /* Reads a sheet and writes it again to the front of `out`. Code 0, with sheet_length; 10 if `out` is too short; 12 if it is no
  * sheet. On a refusal `out` is not touched. Place, span and message length are 0. */
 cablebirch_answer cablebirch_write_sheet(const uint8_t *sheet, size_t len, uint8_t *out, size_t out_len);
+
+/* ---- libload.a */
+
+/* The load rule's three cases. */
+#define CABLEBIRCH_LOADS 0
+#define CABLEBIRCH_LOOK 1
+#define CABLEBIRCH_REFUSED 2
+
+typedef struct {
+    uint32_t loading;      /* one of the three cases */
+    uint32_t code;         /* this and the rest: the answer that cablebirch_check gives */
+    uint32_t span_start;
+    uint32_t span_end;
+    size_t place;
+    size_t sheet_length;
+    size_t message_length;
+} cablebirch_verdict;
+
+/* The load rule. CABLEBIRCH_LOADS exactly if the check accepts the image and its sheet equals `approved`, whatever bytes these are;
+ * CABLEBIRCH_LOOK if it accepts with another sheet; else CABLEBIRCH_REFUSED. Everything else is as cablebirch_check has it, the two
+ * buffers too: in the first two cases the sheet stands at the front of `sheet`. While nothing is approved, hand in 0 bytes: no sheet
+ * equals them. */
+cablebirch_verdict cablebirch_load(uint32_t setting, const uint8_t *image, size_t image_len, const uint8_t *approved,
+                                   size_t approved_len, uint8_t *sheet, size_t sheet_len, uint8_t *message, size_t message_len);
+
+typedef struct {
+    uint32_t code; /* 0, 10 if the text does not fit, or 12 for what is no sheet */
+    size_t length; /* code 0: how many bytes of the text were written, at the front of `out`; else 0 */
+} cablebirch_words;
+
+/* The next two write a text to the front of `out` (ASCII, each line with a byte 10 at its end, and with no 0 at the text's end); the bytes
+ * after it stay as they are. On a refusal `out` is not touched. Types are in Rust's Debug form, `List(Int)`, `Tuple([String, Int])`; one
+ * whose text is longer than 200 bytes is its outermost kind with dots, `Tuple(..)`. */
+
+/* The names of a sheet with their types, one line a name in byte order: `step: Int`. Code 0; 10 if `out` is too short; 12 if it is no
+ * sheet. */
+cablebirch_words cablebirch_show(const uint8_t *sheet, size_t len, uint8_t *out, size_t out_len);
+
+/* What changed from one sheet to another, one line a name that differs, in byte order: `+ mode: String`, `- laps: List(Int)`,
+ * `~ step: Int -> Float`. Two types that differ may both be shown with dots. Code 0, with length 0 exactly if the two sheets are equal
+ * byte for byte; 10 if `out` is too short; 12 if one of them is no sheet. */
+cablebirch_words cablebirch_changes(const uint8_t *old, size_t old_len, const uint8_t *new_, size_t new_len, uint8_t *out,
+                                    size_t out_len);
 
 #ifdef __cplusplus
 }

@@ -1,43 +1,73 @@
-/* The stack that one call needs: stack [--strict | --told | --read | --sheet] FILE...
+/* The stack that one call needs: stack [--MODE] FILE...
    The call runs on a stack of its own that was painted before. The lowest byte that is no longer paint, counted from
    the stack pointer at the call, is how deep it went. Done with two paints, since a byte may be written with the very
    value of the paint; the deeper one counts. A byte that a frame reserves and never writes is seen only if something
    below it is written. There are 16 MiB; a call that needs more runs into a page that may not be touched, and dies.
 
    Prints for each file: bytes, the call's code, what was called, and the file. A file is an image, checked in plain, or
-   with --strict in strict, or with --told in plain and a message buffer in which every message fits; with --read it is a
-   sheet that is read, with --sheet one that is read and written again. */
+   with --strict in strict, or with --told in plain and a message buffer in which every message fits. The same by the load
+   rule, with the image's own sheet approved: --load, --load-strict and --load-told. With --read a file is a sheet that is
+   read, with --sheet one that is read and written again, with --show one whose names are shown; with --changes each two
+   files are an old sheet and a new one. Ends with 3 if the archives do not have the function. */
 #define _GNU_SOURCE
 #include "cablebirch.h"
 #include <stdio.h>
+#include <stdlib.h>
 #include <string.h>
 #include <sys/mman.h>
 #include <ucontext.h>
 
+/* Functions that the archives do not have are not called. */
+#ifdef SHEETS
+enum { HAS_SHEETS = 1 };
+#else
+enum { HAS_SHEETS = 0 };
+#define cablebirch_read_sheet(...) 0
+#define cablebirch_write_sheet(...) (cablebirch_answer){0}
+#endif
+#ifdef LOAD
+enum { HAS_LOAD = 1 };
+#else
+enum { HAS_LOAD = 0 };
+#define cablebirch_load(...) (cablebirch_verdict){0}
+#define cablebirch_show(...) (cablebirch_words){0}
+#define cablebirch_changes(...) (cablebirch_words){0}
+#endif
+
 enum { ROOM = 16 << 20, GUARD = 1 << 16 };
 
-static uint8_t image[CABLEBIRCH_IMAGE_MAX + 1], sheet[CABLEBIRCH_SHEET_MAX + 1], message[1 << 20];
-static size_t length;
-static const char *mode = "";
-static cablebirch_answer answer;
+/* An image or a sheet, and of two sheets the new one. */
+static uint8_t input[CABLEBIRCH_IMAGE_MAX + 1], other[CABLEBIRCH_SHEET_MAX + 1];
+static uint8_t approved[CABLEBIRCH_SHEET_MAX], sheet[CABLEBIRCH_SHEET_MAX], text[1 << 20];
+static size_t length, other_length, approved_length;
+static const char *mode = "plain";
+static uint32_t code;
 static uint8_t *entered;
 static ucontext_t here, there;
+
+static int is(const char *word) { return !strcmp(mode, word); }
+
+static int is_load(void) { return is("load") || is("load-strict") || is("load-told"); }
+
+static int is_check(void) { return is("plain") || is("strict") || is("told"); }
 
 static void call(void) {
     /* Pushing its return address is the first thing that a call writes. */
     __asm__ volatile("mov %%rsp, %0" : "=m"(entered));
-    uint32_t setting = strcmp(mode, "--strict") ? CABLEBIRCH_PLAIN : CABLEBIRCH_STRICT;
-    size_t room = strcmp(mode, "--told") ? CABLEBIRCH_MESSAGE_ROOM : sizeof message;
-    if (!strcmp(mode, "--read")) {
-#ifdef SHEETS
-        answer.code = cablebirch_read_sheet(image, length);
-#endif
-    } else if (!strcmp(mode, "--sheet")) {
-#ifdef SHEETS
-        answer = cablebirch_write_sheet(image, length, sheet, CABLEBIRCH_SHEET_MAX);
-#endif
+    uint32_t setting = is("strict") || is("load-strict") ? CABLEBIRCH_STRICT : CABLEBIRCH_PLAIN;
+    size_t room = is("told") || is("load-told") ? sizeof text : CABLEBIRCH_MESSAGE_ROOM;
+    if (is_check()) {
+        code = cablebirch_check(setting, input, length, sheet, sizeof sheet, text, room).code;
+    } else if (is_load()) {
+        code = cablebirch_load(setting, input, length, approved, approved_length, sheet, sizeof sheet, text, room).code;
+    } else if (is("read")) {
+        code = cablebirch_read_sheet(input, length);
+    } else if (is("sheet")) {
+        code = cablebirch_write_sheet(input, length, sheet, sizeof sheet).code;
+    } else if (is("show")) {
+        code = cablebirch_show(input, length, text, CABLEBIRCH_SHOW_MAX).code;
     } else {
-        answer = cablebirch_check(setting, image, length, sheet, CABLEBIRCH_SHEET_MAX, message, room);
+        code = cablebirch_changes(input, length, other, other_length, text, CABLEBIRCH_CHANGES_MAX).code;
     }
 }
 
@@ -60,37 +90,49 @@ static size_t depth(uint8_t *stack, uint8_t paint) {
     return (size_t)(entered - at);
 }
 
+/* Reads a file, or ends the program. */
+static size_t bytes_of(const char *name, uint8_t *room, size_t size) {
+    FILE *file = fopen(name, "rb");
+    if (!file) {
+        perror(name);
+        exit(2);
+    }
+    size_t count = fread(room, 1, size, file);
+    fclose(file);
+    return count;
+}
+
 int main(int argc, char **argv) {
     int first = 1;
     if (argc > 1 && !strncmp(argv[1], "--", 2)) {
-        mode = argv[1];
+        mode = argv[1] + 2;
         first = 2;
-#ifndef SHEETS
-        if (!strcmp(mode, "--read") || !strcmp(mode, "--sheet")) {
-            fprintf(stderr, "stack: the archive has no cablebirch_write_sheet\n");
-            return 3;
-        }
-#endif
     }
-    if (first >= argc) {
-        fprintf(stderr, "usage: stack [--strict | --told | --read | --sheet] FILE...\n");
+    int on_sheet = is("read") || is("sheet"), in_words = is("show") || is("changes");
+    int each = is("changes") ? 2 : 1;
+    if (first >= argc || (argc - first) % each || !(is_check() || is_load() || on_sheet || in_words)) {
+        fprintf(stderr, "usage: stack [--plain | --strict | --told | --load | --load-strict | --load-told] IMAGE...\n"
+                        "       stack --read | --sheet | --show SHEET...\n"
+                        "       stack --changes OLD NEW...\n");
         return 2;
+    }
+    if ((on_sheet && !HAS_SHEETS) || ((is_load() || in_words) && !HAS_LOAD)) {
+        fprintf(stderr, "stack: no archive has the function for --%s\n", mode);
+        return 3;
     }
     uint8_t *mapped = mmap(NULL, GUARD + ROOM, PROT_NONE, MAP_PRIVATE | MAP_ANONYMOUS, -1, 0);
     if (mapped == MAP_FAILED || mprotect(mapped + GUARD, ROOM, PROT_READ | PROT_WRITE)) {
         perror("stack");
         return 2;
     }
-    for (int i = first; i < argc; i++) {
-        FILE *file = fopen(argv[i], "rb");
-        if (!file) {
-            perror(argv[i]);
-            return 2;
-        }
-        length = fread(image, 1, sizeof image, file);
-        fclose(file);
-        size_t one = depth(mapped + GUARD, 0xa5), other = depth(mapped + GUARD, 0x5a);
-        printf("%zu %u %s %s\n", one > other ? one : other, answer.code, *mode ? mode + 2 : "plain", argv[i]);
+    for (int i = first; i < argc; i += each) {
+        length = bytes_of(argv[i], input, sizeof input);
+        if (each == 2) other_length = bytes_of(argv[i + 1], other, sizeof other);
+        if (is_load())
+            approved_length = cablebirch_check(CABLEBIRCH_PLAIN, input, length, approved, sizeof approved, text, 0).sheet_length;
+        size_t one = depth(mapped + GUARD, 0xa5), another = depth(mapped + GUARD, 0x5a);
+        printf("%zu %u %s %s", one > another ? one : another, code, mode, argv[i]);
+        printf("%s%s\n", each == 2 ? " " : "", each == 2 ? argv[i + 1] : "");
     }
     return 0;
 }

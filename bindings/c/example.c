@@ -1,12 +1,14 @@
 /* usage: example [plain | strict] IMAGE [SHEET]
  * Prints the checker's line for a program image, in plain if no setting is named, and, given the last approved sheet, whether the
- * script loads unseen. */
+ * script loads unseen; if someone must look, the names that changed too, or all names if the approved file is no type sheet. */
 #include "cablebirch.h"
 #include <stdio.h>
 #include <string.h>
 
 static uint8_t image[CABLEBIRCH_IMAGE_MAX + 1], approved[CABLEBIRCH_SHEET_MAX + 1];
 static uint8_t sheet[CABLEBIRCH_SHEET_MAX], again[CABLEBIRCH_SHEET_MAX], message[CABLEBIRCH_MESSAGE_ROOM];
+/* For the names of a sheet too: CABLEBIRCH_SHOW_MAX is less. */
+static uint8_t text[CABLEBIRCH_CHANGES_MAX];
 
 static int read_file(const char *name, uint8_t *room, size_t size, size_t *length)
 {
@@ -34,6 +36,17 @@ static uint32_t word(unsigned at)
     return b[0] | (uint32_t)b[1] << 8 | (uint32_t)b[2] << 16 | (uint32_t)b[3] << 24;
 }
 
+/* The lines that say what changed since the approved sheet. */
+static void print_changes(size_t approved_length, size_t sheet_length)
+{
+    cablebirch_words w = cablebirch_changes(approved, approved_length, sheet, sheet_length, text, sizeof text);
+    if (w.code == CABLEBIRCH_NO_SHEET) {
+        puts("the approved file is no type sheet; the names of the new one:");
+        w = cablebirch_show(sheet, sheet_length, text, sizeof text);
+    }
+    fwrite(text, 1, w.length, stdout);
+}
+
 int main(int count, char **words)
 {
     uint32_t setting = CABLEBIRCH_PLAIN;
@@ -49,7 +62,16 @@ int main(int count, char **words)
     if (count == 3 && !read_file(words[2], approved, sizeof approved, &approved_length))
         return 2;
 
-    cablebirch_answer a = cablebirch_check(setting, image, image_length, sheet, sizeof sheet, message, sizeof message);
+    cablebirch_answer a;
+    uint32_t loading = CABLEBIRCH_LOOK;
+    if (count == 2) {
+        a = cablebirch_check(setting, image, image_length, sheet, sizeof sheet, message, sizeof message);
+    } else {
+        cablebirch_verdict v = cablebirch_load(setting, image, image_length, approved, approved_length, sheet, sizeof sheet,
+                                               message, sizeof message);
+        a = (cablebirch_answer){v.code, v.span_start, v.span_end, v.place, v.sheet_length, v.message_length};
+        loading = v.loading;
+    }
     if (a.code != CABLEBIRCH_ACCEPTED) {
         printf("refused %u %zu %u %u ", a.code, a.place, a.span_start, a.span_end);
         printf("%.*s\n", a.message_length ? (int)a.message_length : 1, a.message_length ? (char *)message : "-");
@@ -64,9 +86,13 @@ int main(int count, char **words)
         fprintf(stderr, "example: the sheet is not read and written again as it was\n");
         return 1;
     }
-    if (count == 3) {
-        int same = a.sheet_length == approved_length && memcmp(sheet, approved, approved_length) == 0;
-        puts(same ? "loads unseen" : "someone must look at the new sheet");
+    if (count == 2)
+        return 0;
+    if (loading == CABLEBIRCH_LOADS) {
+        puts("loads unseen");
+    } else {
+        puts("someone must look at the new sheet");
+        print_changes(approved_length, a.sheet_length);
     }
     return 0;
 }

@@ -1,4 +1,4 @@
-//! Links libchecker.a from the folder CABLEBIRCH_LIB, or else from target/staticlib of the repository that this crate stands in.
+//! Links libchecker.a and libload.a from the folder CABLEBIRCH_LIB, or else from target/staticlib of the repository that this crate stands in.
 
 use std::env;
 use std::path::PathBuf;
@@ -9,11 +9,13 @@ fn main() {
         let here = env::var_os("CARGO_MANIFEST_DIR").expect("cargo gives the crate's folder");
         PathBuf::from(here).join("../../target/staticlib")
     });
-    let library = folder.join("libchecker.a");
-    println!("cargo:rerun-if-changed={}", library.display());
-    if !library.is_file() {
-        println!("cargo:warning=no {}: `rt staticlib checker` writes it", library.display());
-    }
     println!("cargo:rustc-link-search=native={}", folder.display());
-    println!("cargo:rustc-link-lib=static=checker");
+    for name in ["checker", "load"] {
+        let library = folder.join(format!("lib{}.a", name));
+        println!("cargo:rerun-if-changed={}", library.display());
+        if !library.is_file() {
+            println!("cargo:warning=no {}: `rt staticlib {}` writes it", library.display(), name);
+        }
+        println!("cargo:rustc-link-lib=static={}", name);
+    }
 }

@@ -1,20 +1,25 @@
-//! Safe calls of Cablebirch, a proved script checker. What is proved is the library that is linked; of this crate nothing is.
+//! Safe calls of Cablebirch, a proved script checker. What is proved is the two libraries that are linked; of this crate nothing is.
 //!
 //! A script loads unseen exactly when it is accepted and its type sheet equals the last approved sheet, byte for byte:
 //!
 //! ```no_run
 //! # let (image, approved): (Vec<u8>, Vec<u8>) = (vec![], vec![]);
-//! let (mut sheet, mut message) = (vec![0; cablebirch::SHEET_MAX], [0; cablebirch::MESSAGE_ROOM]);
-//! match cablebirch::check(cablebirch::Setting::Strict, &image, &mut sheet, &mut message) {
-//!     cablebirch::Answer::Accepted { sheet } if sheet == approved => println!("loads unseen"),
-//!     cablebirch::Answer::Accepted { .. } => println!("someone must look at the new sheet"),
-//!     cablebirch::Answer::Refused(refusal) => println!("{}", refusal),
+//! use cablebirch::{changes, load, show, Loading, Setting, CHANGES_MAX, MESSAGE_ROOM, SHEET_MAX, SHOW_MAX};
+//! let (mut sheet, mut message) = (vec![0; SHEET_MAX], [0; MESSAGE_ROOM]);
+//! match load(Setting::Strict, &image, &approved, &mut sheet, &mut message) {
+//!     Loading::Loads { .. } => println!("loads unseen"),
+//!     Loading::Look { sheet } => match changes(&approved, sheet, &mut vec![0; CHANGES_MAX]) {
+//!         Ok(lines) => print!("someone must look at what changed:\n{}", lines),
+//!         Err(_) => print!("no sheet is approved; the names:\n{}", show(sheet, &mut vec![0; SHOW_MAX]).unwrap()),
+//!     },
+//!     Loading::Refused(refusal) => println!("{}", refusal),
 //! }
 //! ```
 //!
 //! The functions keep no state: any number of threads may call them at once. They work on the caller's stack: [`check`] was seen to
-//! need 142,824 bytes at most, [`read_sheet`] 89,704 and [`write_sheet`] 89,768; with a message buffer of more than [`MESSAGE_ROOM`], [`check`]
-//! up to 290,456, where a message names a type nested 1,891 deep (measured, not proved: `docs/BENCHMARKS.md`).
+//! need 142,824 bytes at most, [`load`] 143,000, [`read_sheet`] 89,704, [`write_sheet`] 89,768, [`show`] 123,944 and [`changes`] 252,472; with a
+//! message buffer of more than [`MESSAGE_ROOM`], [`check`] up to 290,456 and [`load`] up to 290,632, where a message names a type nested 1,891
+//! deep (measured, not proved: `bench/stack`).
 
 #![warn(missing_docs)]
 
@@ -24,6 +29,10 @@ use std::fmt;
 pub const SHEET_MAX: usize = 42_532;
 /// No program image is longer.
 pub const IMAGE_MAX: usize = 59_936;
+/// No text of [`show`] is longer: with this much room, code 10 cannot come.
+pub const SHOW_MAX: usize = 34_176;
+/// No text of [`changes`] is longer: with this much room, code 10 cannot come.
+pub const CHANGES_MAX: usize = 68_864;
 /// The room for a message that the program `typecheck` has. A message that does not fit is left out whole.
 pub const MESSAGE_ROOM: usize = 1_024;
 
@@ -62,7 +71,24 @@ pub struct Refusal<'a> {
     pub message: &'a [u8],
 }
 
-/// Why a sheet was not written again.
+/// What the load rule says of a script.
+#[derive(Debug, Clone, Copy, PartialEq, Eq)]
+pub enum Loading<'a> {
+    /// It is accepted and its sheet equals the approved one, byte for byte: it loads unseen.
+    Loads {
+        /// As [`Answer::Accepted`] has it.
+        sheet: &'a [u8],
+    },
+    /// It is accepted with another sheet: someone must look at it.
+    Look {
+        /// As [`Answer::Accepted`] has it.
+        sheet: &'a [u8],
+    },
+    /// It is not accepted.
+    Refused(Refusal<'a>),
+}
+
+/// Why a sheet was not written again, or not told in words.
 #[derive(Debug, Clone, Copy, PartialEq, Eq)]
 pub enum SheetError {
     /// Code 10: the buffer is too short.
@@ -117,6 +143,70 @@ pub fn write_sheet<'a>(sheet: &[u8], out: &'a mut [u8]) -> Result<&'a [u8], Shee
     }
 }
 
+/// The load rule: judges an image as [`check`] does, with the same two buffers, and compares the sheet of an accepted one with the last
+/// approved sheet. `approved` may be any bytes; what is no sheet equals none.
+pub fn load<'a>(
+    setting: Setting,
+    image: &[u8],
+    approved: &[u8],
+    sheet: &'a mut [u8],
+    message: &'a mut [u8],
+) -> Loading<'a> {
+    // Safety: the pointers and lengths are those of slices, and the two that are written are borrowed by this call alone.
+    let raw = unsafe {
+        raw::cablebirch_load(
+            setting as u32,
+            image.as_ptr(),
+            image.len(),
+            approved.as_ptr(),
+            approved.len(),
+            sheet.as_mut_ptr(),
+            sheet.len(),
+            message.as_mut_ptr(),
+            message.len(),
+        )
+    };
+    match raw.loading {
+        0 => Loading::Loads { sheet: &sheet[..raw.sheet_length] },
+        1 => Loading::Look { sheet: &sheet[..raw.sheet_length] },
+        _ => Loading::Refused(Refusal {
+            code: raw.code,
+            place: raw.place,
+            span: (raw.span_start, raw.span_end),
+            message: &message[..raw.message_length],
+        }),
+    }
+}
+
+/// The names of a sheet with their types, one line a name in byte order: `step: Int`. Types are in Rust's Debug form, `List(Int)`,
+/// `Tuple([String, Int])`; one whose text is longer than 200 bytes is its outermost kind with dots, `Tuple(..)`. The text is the front of
+/// `out`; on a refusal `out` is not touched.
+pub fn show<'a>(sheet: &[u8], out: &'a mut [u8]) -> Result<&'a str, SheetError> {
+    // Safety: the pointers and lengths are those of slices, and the one that is written is borrowed by this call alone.
+    let raw = unsafe { raw::cablebirch_show(sheet.as_ptr(), sheet.len(), out.as_mut_ptr(), out.len()) };
+    told(raw, out)
+}
+
+/// What changed from one sheet to another, one line a name that differs, in byte order: `+ mode: String`, `- laps: List(Int)`,
+/// `~ step: Int -> Float`, with types as [`show`] has them. Empty exactly if the two sheets are equal byte for byte. The text is the front of
+/// `out`; on a refusal `out` is not touched.
+pub fn changes<'a>(old: &[u8], new: &[u8], out: &'a mut [u8]) -> Result<&'a str, SheetError> {
+    // Safety: the pointers and lengths are those of slices, and the one that is written is borrowed by this call alone.
+    let raw = unsafe {
+        raw::cablebirch_changes(old.as_ptr(), old.len(), new.as_ptr(), new.len(), out.as_mut_ptr(), out.len())
+    };
+    told(raw, out)
+}
+
+/// The text that was written to the front of `out`, or why none was.
+fn told(raw: raw::RawWords, out: &[u8]) -> Result<&str, SheetError> {
+    match raw.code {
+        0 => Ok(std::str::from_utf8(&out[..raw.length]).expect("names and types are ASCII")),
+        10 => Err(SheetError::TooShort),
+        _ => Err(SheetError::NoSheet),
+    }
+}
+
 /// The line that the program `typecheck` prints.
 impl fmt::Display for Answer<'_> {
     fn fmt(&self, f: &mut fmt::Formatter<'_>) -> fmt::Result {
@@ -141,7 +231,7 @@ impl fmt::Display for Refusal<'_> {
 impl fmt::Display for SheetError {
     fn fmt(&self, f: &mut fmt::Formatter<'_>) -> fmt::Result {
         f.write_str(match self {
-            SheetError::TooShort => "the buffer is too short for the sheet",
+            SheetError::TooShort => "the buffer is too short",
             SheetError::NoSheet => "not a type sheet",
         })
     }
@@ -149,7 +239,7 @@ impl fmt::Display for SheetError {
 
 impl std::error::Error for SheetError {}
 
-/// The library's own functions, as `include/cablebirch.h` has them.
+/// The libraries' own functions, as `include/cablebirch.h` has them.
 mod raw {
     #[repr(C)]
     pub struct RawAnswer {
@@ -159,6 +249,23 @@ mod raw {
         pub place: usize,
         pub sheet_length: usize,
         pub message_length: usize,
+    }
+
+    #[repr(C)]
+    pub struct RawVerdict {
+        pub loading: u32,
+        pub code: u32,
+        pub span_start: u32,
+        pub span_end: u32,
+        pub place: usize,
+        pub sheet_length: usize,
+        pub message_length: usize,
+    }
+
+    #[repr(C)]
+    pub struct RawWords {
+        pub code: u32,
+        pub length: usize,
     }
 
     extern "C" {
@@ -173,5 +280,25 @@ mod raw {
         ) -> RawAnswer;
         pub fn cablebirch_read_sheet(sheet: *const u8, len: usize) -> u32;
         pub fn cablebirch_write_sheet(sheet: *const u8, len: usize, out: *mut u8, out_len: usize) -> RawAnswer;
+        pub fn cablebirch_load(
+            setting: u32,
+            image: *const u8,
+            image_len: usize,
+            approved: *const u8,
+            approved_len: usize,
+            sheet: *mut u8,
+            sheet_len: usize,
+            message: *mut u8,
+            message_len: usize,
+        ) -> RawVerdict;
+        pub fn cablebirch_show(sheet: *const u8, len: usize, out: *mut u8, out_len: usize) -> RawWords;
+        pub fn cablebirch_changes(
+            old: *const u8,
+            old_len: usize,
+            new: *const u8,
+            new_len: usize,
+            out: *mut u8,
+            out_len: usize,
+        ) -> RawWords;
     }
 }
