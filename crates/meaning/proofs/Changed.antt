@@ -10,14 +10,14 @@ use native.Mathlib.Omega.{arith}
 use native.Mathlib.Decide.{ℕ-discrete}
 use borrow.Author.Tests.{eq-eqb, ne-eqb, ltb-false}
 use lib.ListN.{length}
-use Rattle.meaning.specs.Base.{_and_, if_then_else_, ifSome, sameText, before, bytes}
+use Rattle.meaning.specs.Base.{_and_, if_then_else_, sameText, before, bytes}
 use Rattle.meaning.specs.Types.{Ty, Ty-discrete, same}
 use Rattle.meaning.specs.Image.{textStands}
 use Rattle.meaning.specs.Sheet.{Entry, textsStand, withinLimits}
 use Rattle.meaning.specs.Read.{SheetOf}
-use Rattle.meaning.specs.Show.{Change, came, went, turned, changeText, changesText, retyped, against, allCame, changes, compared}
+use Rattle.meaning.specs.Show.{Change, came, went, turned, changeText, changesText, retyped, against, allCame, changes}
 use Rattle.meaning.proofs.Choices.{and-left, and-right, both, not-so, same-text, text-same, same-yes, same-no}
-use Rattle.meaning.proofs.SheetForm.{sheet-injective, read-some}
+use Rattle.meaning.proofs.SheetForm.{sheet-injective}
 use Rattle.meaning.proofs.SheetNames.{before-trans}
 use Rattle.meaning.proofs.SheetSame.{before-not, all-after, told-by-members}
 
@@ -410,10 +410,6 @@ sheets-unchanged {bs} {cs} {es} {fs} x y =
       λ e. x .written ∙ i .1 (n .0 e) ∙ sym (y .written),
       λ e. n .1 (i .0 (sym (x .written) ∙ e ∙ y .written)),
     )
-
-pub compared-sheets : {bs cs : List ℕ} {es fs : List Entry} → SheetOf bs es → SheetOf cs fs → compared bs cs ≡ some (changes es fs)
-unfolding compared ifSome
-compared-sheets {bs} {cs} {es} {fs} x y = rw (read-some bs es .1 x, read-some cs fs .1 y)
 
 -- ---- in words
 

@@ -30,6 +30,23 @@ loads-refused = apart loads refused (λ e. omega arith)
 look-refused : look ≡ refused → ⊥
 look-refused = apart look refused (λ e. omega arith)
 
+-- ---- which case a number tells
+
+pub number-loads : (k : Loading) → loadingNumber k ≡ 0 → k ≡ loads
+number-loads loads e = refl
+number-loads look e = absurd (omega (arith, e))
+number-loads refused e = absurd (omega (arith, e))
+
+pub number-look : (k : Loading) → loadingNumber k ≡ 1 → k ≡ look
+number-look loads e = absurd (omega (arith, e))
+number-look look e = refl
+number-look refused e = absurd (omega (arith, e))
+
+pub number-refused : (k : Loading) → (loadingNumber k ≡ 0 → ⊥) → (loadingNumber k ≡ 1 → ⊥) → k ≡ refused
+number-refused loads n m = absurd (n refl)
+number-refused look n m = absurd (m refl)
+number-refused refused n m = refl
+
 -- ---- when each is given
 
 module _ (a : Answer) (approved : List ℕ) where

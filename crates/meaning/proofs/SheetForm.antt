@@ -177,6 +177,15 @@ read-none bs = (
   λ n. rw (not-so (isSheet bs) (λ h. n (entriesIn bs) (sheet-is bs h))),
 )
 
+-- by the test alone
+pub read-yes : (bs : List ℕ) → isSheet bs ≡ true → readSheet bs ≡ some (entriesIn bs)
+unfolding readSheet if_then_else_
+read-yes bs h = rw h
+
+pub read-no : (bs : List ℕ) → isSheet bs ≡ false → readSheet bs ≡ none
+unfolding readSheet if_then_else_
+read-no bs h = rw h
+
 -- ---- its header, its bytes
 
 -- the ten words of the header

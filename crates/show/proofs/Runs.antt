@@ -7,45 +7,34 @@ use mathlib.Core.Option.{none, some}
 use mathlib.Core.List.{List, [], _∷_, List·Memᴰ}
 use Prim.Native.Nat.{ℕ, _≤_}
 use native.Mathlib.Omega.{arith}
-use borrow.Author.Tests.{le-leb}
-use lib.Dec.{leb}
-use lib.ListN.{length, take, drop}
-use lib.Seq.{take-append-seam}
+use lib.ListN.{length, take}
 use Rattle.meaning.specs.Limits.{largestShow, largestChanges}
-use Rattle.meaning.specs.Base.{if_then_else_, ifSome}
-use Rattle.meaning.specs.Read.{entriesIn, readSheet, isSheet}
-use Rattle.meaning.specs.Answer.{overlaid}
-use Rattle.meaning.specs.Show.{entriesText, Change, changesText, changes, InWords, inWords, noSheet, showAnswer, compared, changesAnswer}
-use Rattle.meaning.proofs.SheetForm.{sheet-is}
+use Rattle.meaning.specs.Read.{entriesIn, isSheet}
+use Rattle.meaning.specs.Show.{entriesText, Change, changesText, changes, InWords, inWords, showAnswer, changesAnswer}
+use Rattle.meaning.proofs.SheetForm.{sheet-is, read-yes, read-no}
+use Rattle.meaning.proofs.Answers.{overlaid-front}
 use Rattle.meaning.proofs.Changed.{typeIn, changeOf, changeFor, about, limits-texts, line-exactly, no-line, sheets-unchanged, no-words}
-use Rattle.meaning.proofs.Shown.{entries-size, changes-size}
+use Rattle.meaning.proofs.InWords.{words-told, show-some, show-none, show-whole, changes-none, changes-both, changes-whole}
 use Rattle.show.specs.Words.{Tells}
 
--- ---- a text: it is handed out whole, or it does not fit
+-- ---- an answer in words
 
-module _ (room : ℕ) (s : List ℕ) where
-  pub in-words : ((inWords room s .code ≡ 0) × (inWords room s .text ≡ s)) ⊎ (inWords room s .code ≡ 10)
-  unfolding inWords if_then_else_
-  in-words = by (leb (length s) room) refl
-    where
-      by : (b : Bool) → leb (length s) room ≡ b → ((inWords room s .code ≡ 0) × (inWords room s .text ≡ s)) ⊎ (inWords room s .code ≡ 10)
-      by true e = inl (rw e, rw e)
-      by false e = inr (rw e)
+-- what is told is told whole, and is no 12
+whole : (room : ℕ) (s : List ℕ) → inWords room s .code ≡ 0 → inWords room s .text ≡ s
+whole room s e =
+    ⊎-elim (λ p. ap (λ (a : InWords). a .text) p) (λ q. absurd (omega (arith, e, ap (λ (a : InWords). a .code) q))) (words-told room s)
 
-  whole : inWords room s .code ≡ 0 → inWords room s .text ≡ s
-  whole e = ⊎-elim (λ p. p .1) (λ q. absurd (omega (arith, e, q))) in-words
+no-twelve : (room : ℕ) (s : List ℕ) → inWords room s .code ≡ 12 → ⊥
+no-twelve room s e =
+    ⊎-elim (λ p. omega (arith, e, ap (λ (a : InWords). a .code) p)) (λ q. omega (arith, e, ap (λ (a : InWords). a .code) q)) (words-told room s)
 
-  no-twelve : inWords room s .code ≡ 12 → ⊥
-  no-twelve e = ⊎-elim (λ p. omega (arith, e, p .0)) (λ q. omega (arith, e, q)) in-words
+module _ {a : InWords} {code size : ℕ} {old new : List ℕ} (x : Tells a code size old new) where
+  code-of : {b : InWords} → a ≡ b → code ≡ b .code
+  code-of e = x .code-is ∙ ap (λ (b : InWords). b .code) e
 
-  fits-in : length s ≤ room → inWords room s .code ≡ 0
-  unfolding inWords if_then_else_
-  fits-in h = rw (le-leb (length s) room h)
-
--- what stands at the front of the buffer
-told : {a : InWords} {code size : ℕ} {old new : List ℕ} → Tells a code size old new → take size new ≡ a .text
-unfolding overlaid
-told {a} {old = old} x = rw (x .length-is, x .out-is) (take-append-seam (a .text) (drop (length (a .text)) old))
+  -- what stands at the front of the buffer
+  told : take size new ≡ a .text
+  told = rw (x .length-is, x .out-is) (overlaid-front (a .text) old)
 
 sheet-or-not : (bs : List ℕ) → (isSheet bs ≡ true) ⊎ (isSheet bs ≡ false)
 sheet-or-not bs = by (isSheet bs) refl
@@ -56,21 +45,13 @@ sheet-or-not bs = by (isSheet bs) refl
 
 -- ---- a sheet shown
 
-module _ (bs : List ℕ) (room : ℕ) where
-  show-yes : isSheet bs ≡ true → showAnswer bs room ≡ inWords room (entriesText (entriesIn bs))
-  unfolding showAnswer readSheet ifSome if_then_else_
-  show-yes e = rw e
-
-  show-no : isSheet bs ≡ false → showAnswer bs room ≡ noSheet
-  unfolding showAnswer readSheet ifSome if_then_else_
-  show-no e = rw e
-
 module _ (bs : List ℕ) (room : ℕ) {out new : List ℕ} {code size : ℕ} (x : Tells (showAnswer bs room) code size out new) where
   -- (false of a program that shows what is no sheet, as far as it goes)
   pub not-shown-exactly : (code ≡ 12) ↔ (isSheet bs ≡ false)
   not-shown-exactly = (
-    λ e. ⊎-elim (λ y. absurd (no-twelve room (entriesText (entriesIn bs)) (ap (λ (a : InWords). a .code) (sym (show-yes bs room y)) ∙ sym (x .code-is) ∙ e))) (λ n. n) (sheet-or-not bs),
-    λ n. x .code-is ∙ ap (λ (a : InWords). a .code) (show-no bs room n),
+    λ e. ⊎-elim (λ y. absurd (no-twelve room (entriesText (entriesIn bs)) (sym (code-of x (show-some bs room (read-yes bs y))) ∙ e))) (λ n. n)
+        (sheet-or-not bs),
+    λ n. code-of x (show-none bs room (read-no bs n)),
   )
 
   pub shown-sheet : code ≡ 0 → isSheet bs ≡ true
@@ -79,28 +60,14 @@ module _ (bs : List ℕ) (room : ℕ) {out new : List ℕ} {code size : ℕ} (x 
   -- all its names are shown: (false of one that stops at the buffer's end)
   pub shown-text : code ≡ 0 → take size new ≡ entriesText (entriesIn bs)
   shown-text e =
-      let s = show-yes bs room (shown-sheet e) in
-      told x ∙ ap (λ (a : InWords). a .text) s ∙ whole room (entriesText (entriesIn bs)) (ap (λ (a : InWords). a .code) (sym s) ∙ sym (x .code-is) ∙ e)
+      let s = show-some bs room (read-yes bs (shown-sheet e)) in
+      told x ∙ ap (λ (a : InWords). a .text) s ∙ whole room (entriesText (entriesIn bs)) (sym (code-of x s) ∙ e)
 
   -- "34,176 bytes are always enough"
   pub always-shown : largestShow ≤ room → isSheet bs ≡ true → code ≡ 0
-  always-shown h y =
-      x .code-is ∙ ap (λ (a : InWords). a .code) (show-yes bs room y) ∙ fits-in room (entriesText (entriesIn bs)) (omega (arith, h, entries-size (entriesIn bs) (sheet-is bs y .limits)))
+  always-shown h y = code-of x (show-whole bs room (read-yes bs y) h)
 
 -- ---- two sheets compared
-
-module _ (old new : List ℕ) (room : ℕ) where
-  changes-yes : isSheet old ≡ true → isSheet new ≡ true → changesAnswer old new room ≡ inWords room (changesText (changes (entriesIn old) (entriesIn new)))
-  unfolding changesAnswer compared readSheet ifSome if_then_else_
-  changes-yes e f = rw (e, f)
-
-  no-old : isSheet old ≡ false → changesAnswer old new room ≡ noSheet
-  unfolding changesAnswer compared readSheet ifSome if_then_else_
-  no-old e = rw e
-
-  no-new : isSheet old ≡ true → isSheet new ≡ false → changesAnswer old new room ≡ noSheet
-  unfolding changesAnswer compared readSheet ifSome if_then_else_
-  no-new e f = rw (e, f)
 
 abbrev pub between : List ℕ → List ℕ → List Change
 between old new = changes (entriesIn old) (entriesIn new)
@@ -110,30 +77,31 @@ empty [] e = refl
 empty (x ∷ s) e = absurd (omega arith)
 
 module _ (old new : List ℕ) (room : ℕ) {out after : List ℕ} {code size : ℕ} (x : Tells (changesAnswer old new room) code size out after) where
-  code-of : {a : InWords} → changesAnswer old new room ≡ a → code ≡ a .code
-  code-of e = x .code-is ∙ ap (λ (a : InWords). a .code) e
+  -- "12: one of them is no sheet"
+  none-compared : (isSheet old ≡ false) ⊎ (isSheet new ≡ false) → code ≡ 12
+  none-compared w = code-of x (changes-none old new room (⊎-elim (λ n. inl (read-no old n)) (λ n. inr (read-no new n)) w))
+
+  both-compared : isSheet old ≡ true → isSheet new ≡ true → changesAnswer old new room ≡ inWords room (changesText (between old new))
+  both-compared y z = changes-both old new room (read-yes old y) (read-yes new z)
+
+  both-or-not : ((isSheet old ≡ true) × (isSheet new ≡ true)) ⊎ ((isSheet old ≡ false) ⊎ (isSheet new ≡ false))
+  both-or-not = ⊎-elim (λ y. ⊎-elim (λ z. inl (y, z)) (λ n. inr (inr n)) (sheet-or-not new)) (λ n. inr (inl n)) (sheet-or-not old)
 
   pub both-sheets : code ≡ 0 → (isSheet old ≡ true) × (isSheet new ≡ true)
-  both-sheets e =
-      ⊎-elim (λ y. ⊎-elim (λ z. (y, z)) (λ n. absurd (omega (arith, e, code-of (no-new old new room y n)))) (sheet-or-not new))
-      (λ n. absurd (omega (arith, e, code-of (no-old old new room n)))) (sheet-or-not old)
+  both-sheets e = ⊎-elim (λ y. y) (λ n. absurd (omega (arith, e, none-compared n))) both-or-not
 
-  -- "12: one of them is no sheet"
   pub not-compared-exactly : (code ≡ 12) ↔ ((isSheet old ≡ false) ⊎ (isSheet new ≡ false))
   not-compared-exactly = (
-    λ e. ⊎-elim
-        (λ y. ⊎-elim (λ z. absurd (no-twelve room (changesText (between old new)) (sym (code-of (changes-yes old new room y z)) ∙ e))) (λ n. inr n) (sheet-or-not new))
-        (λ n. inl n) (sheet-or-not old),
-    λ w. ⊎-elim (λ n. code-of (no-old old new room n))
-        (λ n. ⊎-elim (λ y. code-of (no-new old new room y n)) (λ m. code-of (no-old old new room m)) (sheet-or-not old)) w,
+    λ e. ⊎-elim (λ y. absurd (no-twelve room (changesText (between old new)) (sym (code-of x (both-compared (y .0) (y .1))) ∙ e))) (λ n. n) both-or-not,
+    none-compared,
   )
 
   module _ (e : code ≡ 0) where
     compared-so : changesAnswer old new room ≡ inWords room (changesText (between old new))
-    compared-so = changes-yes old new room (both-sheets e .0) (both-sheets e .1)
+    compared-so = both-compared (both-sheets e .0) (both-sheets e .1)
 
     all-told : changesAnswer old new room .text ≡ changesText (between old new)
-    all-told = ap (λ (a : InWords). a .text) compared-so ∙ whole room (changesText (between old new)) (sym (code-of compared-so) ∙ e)
+    all-told = ap (λ (a : InWords). a .text) compared-so ∙ whole room (changesText (between old new)) (sym (code-of x compared-so) ∙ e)
 
     -- the lines of all changes are told
     pub told-text : take size after ≡ changesText (between old new)
@@ -163,6 +131,4 @@ module _ (old new : List ℕ) (room : ℕ) {out after : List ℕ} {code size : �
 
   -- "68,864 bytes are always enough"
   pub always-compared : largestChanges ≤ room → isSheet old ≡ true → isSheet new ≡ true → code ≡ 0
-  always-compared h y z =
-      code-of (changes-yes old new room y z)
-      ∙ fits-in room (changesText (between old new)) (omega (arith, h, changes-size (entriesIn old) (entriesIn new) (sheet-is old y .limits) (sheet-is new z .limits)))
+  always-compared h y z = code-of x (changes-whole old new room (read-yes old y) (read-yes new z) h)

@@ -43,7 +43,7 @@ read-requires-2 c κs =
 -- src/lib.rt:453:9
 returns-2 : tie.Need-returns-2
 returns-2 c =
-    new-none (opened (c .before .before .before .before .before .before .before .before .before .read .ensures) (not-false _ (c .before .before .before .before .before .before .if1 .left))) (c .before .before .before .read2 .ensures) (not-true _ (c .if2 .taken)) _ _
+    new-none (c .before .before .before .read2 .ensures) (not-true _ (c .if2 .taken)) _ _ _
 
 -- src/lib.rt:458:9
 slice-aggregate-put-changes : tie.Need-slice-aggregate-put-changes
