@@ -1,30 +1,34 @@
 -- About what is said: it is one; what the statuses say; and a file that is longer than what is read of it. Assumes nothing.
 use mathlib.Core.Path.{_≡_, refl, sym, ap, _∙_}
-use mathlib.Core.Bool.{false}
-use mathlib.Core.Logic.{_↔_}
+use mathlib.Core.Bool.{Bool, true, false}
+use mathlib.Core.Logic.{_↔_, inl, inr}
 use mathlib.Core.List.{List, [], _∷_}
 use mathlib.Core.Option.{Option, none, some}
 use Prim.Native.Nat.{ℕ, _≤_, _<_}
 use native.Mathlib.Decide.{decLt}
 use native.Mathlib.Omega.{arith}
+use lib.Dec.{eqb}
 use lib.ListN.{length, take}
 use lib.Seq.{length-take-le, take-all}
-use Rattle.meaning.specs.Limits.{largestSheet, readAtMost}
-use Rattle.meaning.specs.Base.{sameText}
+use Rattle.meaning.specs.Limits.{largestSheet, sheetBuffer, messageBuffer, readAtMost}
+use Rattle.meaning.specs.Base.{if_then_else_, sameText}
 use Rattle.meaning.specs.Sheet.{Entry}
 use Rattle.meaning.specs.Read.{readSheet}
-use Rattle.meaning.specs.Answer.{Answer, answer, readAnswer}
+use Rattle.meaning.specs.Answer.{Answer, answer, readAnswer, overlaid}
+use Rattle.meaning.specs.Line.{lineOf}
 use Rattle.meaning.specs.Show.{Change, changes, compared}
 use Rattle.meaning.specs.Load.{Loading, loads, look, refused, loading, loadingNumber}
 use Rattle.meaning.proofs.Choices.{not-so, same-text}
 use Rattle.meaning.proofs.SheetForm.{read-some}
 use Rattle.meaning.proofs.Changed.{sheets-unchanged}
+use Rattle.meaning.proofs.Answers.{answered, overlaid-front}
 use Rattle.meaning.proofs.Cut.{answer-cut, read-sheet-cut}
-use Rattle.cablebirch.specs.Said.{statusNumber, Said, Says, checkSaid, showSaid, changedIf, changesSaid, namesIn, lookText, loadSaidBy, loadSaid}
+use Rattle.cablebirch.specs.Said.{statusNumber, Said, Says, checkSaid, refusalOf, Writes, showSaid, changedIf, changesSaid, namesIn, lookText, loadSaidBy, loadSaid}
 use Rattle.cablebirch.specs.declared.Done.{Done}
+use Rattle.cablebirch.specs.declared.Written.{Written}
 use Rattle.cablebirch.specs.declared.Status.{Status}
 use Rattle.cablebirch.specs.declared.Status.the-variants.{Fine, Refused}
-use Rattle.cablebirch.proofs.Said.{no-old-said, no-new-said, both-said, not-twelve, read-is}
+use Rattle.cablebirch.proofs.Said.{none-said, both-said, not-twelve, read-is}
 
 -- ---- no second outcome fits: the length, the status and every byte of the buffer
 
@@ -34,6 +38,26 @@ one-said d e x y = (
       ∙ ap (λ (t : Status). record { length = e .length; status = t }) (x .status ∙ sym (y .status)),
   x .front .line ∙ sym (y .front .line),
 )
+
+-- (false of a promise that leaves open what a refusal leaves of the sheet's buffer)
+pub one-written : {a : Answer} {s s₁ s₂ o o₁ o₂ : List ℕ} (w v : Written) → Writes a s s₁ o o₁ w → Writes a s s₂ o o₂ v → (w ≡ v) × (s₁ ≡ s₂) × (o₁ ≡ o₂)
+one-written w v x y = (
+  ap (λ (n : ℕ). record { sheet = n; line = w .line; status = w .status }) (x .sheet .ends ∙ sym (y .sheet .ends))
+      ∙ ap (λ (n : ℕ). record { sheet = v .sheet; line = n; status = w .status }) (x .told ∙ sym (y .told))
+      ∙ ap (λ (t : Status). record { sheet = v .sheet; line = v .line; status = t }) (x .status ∙ sym (y .status)),
+  x .sheet .line ∙ sym (y .sheet .line),
+  x .line ∙ sym (y .line),
+)
+
+-- what `sheet` tells of the line is a refusal's, all of it, and of an accepted script nothing: (false of a program that prints `accepted ..` beside
+-- the sheet)
+pub refusal-told : {a : Answer} {s s₁ o o₁ : List ℕ} (w : Written) → Writes a s s₁ o o₁ w → take (w .line) o₁ ≡ refusalOf a
+unfolding refusalOf if_then_else_
+refusal-told {a} {o = o} w x = rw (x .told, x .line) (by (eqb (a .code) 0))
+  where
+    by : (b : Bool) → take (length (if b then [] else lineOf a)) (overlaid (lineOf a) o) ≡ (if b then [] else lineOf a)
+    by true = refl
+    by false = overlaid-front (lineOf a) o
 
 -- ---- the statuses
 
@@ -61,9 +85,9 @@ changes-fine old new = by (readSheet old) refl (readSheet new) refl
   where
     by : (o : Option (List Entry)) → readSheet old ≡ o → (q : Option (List Entry)) → readSheet new ≡ q
         → (changesSaid old new .status ≡ Fine) ↔ ((readAnswer old .code ≡ 0) × (old ≡ new))
-    by none e q f = (λ p. absurd (not-fine (no-old-said old new e) p), λ p. absurd (not-twelve old e (p .0)))
+    by none e q f = (λ p. absurd (not-fine (none-said old new (inl e)) p), λ p. absurd (not-twelve old e (p .0)))
     by (some es) e none f = (
-      λ p. absurd (not-fine (no-new-said old new es e f) p),
+      λ p. absurd (not-fine (none-said old new (inr f)) p),
       λ p. absurd (not-twelve new f (ap (λ (x : List ℕ). readAnswer x .code) (sym (p .1)) ∙ p .0)),
     )
     by (some es) e (some fs) f =
@@ -114,11 +138,12 @@ by-cut loads a approved = refl
 by-cut look a approved = rw (names-cut approved) refl
 by-cut refused a approved = refl
 
--- no answer's sheet is longer than 42,532 bytes: checker/proofs/Within, `never-longer`
-pub load-cut : (setting : ℕ) (image approved : List ℕ) (x y : ℕ) → length (answer setting image x y .sheet) ≤ largestSheet
-    → loadSaid (answer setting (take readAtMost image) x y) (take readAtMost approved) ≡ loadSaid (answer setting image x y) approved
+-- in the program's own rooms, where no sheet is longer than 42,532 bytes
+pub load-cut : (setting : ℕ) (image approved : List ℕ) → loadSaid (answer setting (take readAtMost image) sheetBuffer messageBuffer) (take readAtMost approved)
+    ≡ loadSaid (answer setting image sheetBuffer messageBuffer) approved
 unfolding loadSaid
-load-cut setting image approved x y h =
-    ap (λ (a : Answer). loadSaid a (take readAtMost approved)) (answer-cut image setting x y)
-    ∙ ap (λ (k : Loading). loadSaidBy k (answer setting image x y) (take readAtMost approved)) (loading-cut (answer setting image x y) approved h)
-    ∙ by-cut (loading (answer setting image x y) approved) (answer setting image x y) approved
+load-cut setting image approved =
+    let a = answer setting image sheetBuffer messageBuffer in
+    ap (λ (b : Answer). loadSaid b (take readAtMost approved)) (answer-cut image setting sheetBuffer messageBuffer)
+    ∙ ap (λ (k : Loading). loadSaidBy k a (take readAtMost approved)) (loading-cut a approved (answered sheetBuffer messageBuffer setting image .sheet-fits))
+    ∙ by-cut (loading a approved) a approved

@@ -1,26 +1,27 @@
 -- What is said, from what the crates below left. Assumes nothing.
 use mathlib.Core.Path.{_≡_, refl, sym, ap, _∙_, subst}
 use mathlib.Core.Bool.{true}
+use mathlib.Core.Logic.{_⊎_, inl, inr}
 use mathlib.Core.List.{List, [], _∷_, _++_}
 use mathlib.Core.Option.{Option, none, some}
 use Prim.Native.Nat.{ℕ, _+_, _≤_}
 use native.Mathlib.Nat.{zero-add}
 use native.Mathlib.Omega.{arith}
-use borrow.Author.Tests.{eq-eqb, ne-eqb, le-leb}
+use borrow.Author.Tests.{eq-eqb, ne-eqb}
 use lib.ListN.{length, take}
 use lib.Seq.{length-take-le}
 use Rattle.meaning.specs.Limits.{largestShow, largestChanges}
 use Rattle.meaning.specs.Base.{if_then_else_, ifSome, bytes}
 use Rattle.meaning.specs.Sheet.{Entry}
-use Rattle.meaning.specs.Read.{isSheet, readSheet}
+use Rattle.meaning.specs.Read.{entriesIn, isSheet, readSheet}
 use Rattle.meaning.specs.Answer.{Answer, readAnswer, overlaid, meaning-open}
 use Rattle.meaning.specs.Line.{lineOf}
-use Rattle.meaning.specs.Show.{entriesText, Change, changesText, changes, InWords, inWords, noSheet, showAnswer, compared, changesAnswer}
-use Rattle.meaning.specs.Load.{Loading, loads, look, refused, loading, loadingNumber}
-use Rattle.meaning.proofs.SheetForm.{sheet-is, read-some}
+use Rattle.meaning.specs.Show.{entriesText, Change, changesText, changes, InWords, showAnswer, changesAnswer}
+use Rattle.meaning.specs.Load.{Loading, loads, look, refused, loading}
+use Rattle.meaning.proofs.SheetForm.{read-yes}
 use Rattle.meaning.proofs.Changed.{no-words}
-use Rattle.meaning.proofs.Shown.{entries-size, changes-size}
-use Rattle.meaning.proofs.Loads.{look-exactly}
+use Rattle.meaning.proofs.InWords.{show-none, show-whole, compared-none, compared-both, changes-none, changes-whole}
+use Rattle.meaning.proofs.Loads.{number-loads, number-look, number-refused, look-exactly}
 use Rattle.meaning.proofs.Answers.{overlaid-front}
 use Rattle.words.specs.Words.{Wrote}
 use Rattle.words.proofs.Laws.{put-overlaid, and-then}
@@ -63,45 +64,34 @@ unfolding refusalOf if_then_else_
 a-refusal a n = rw (ne-eqb (a .code) 0 n)
 
 module _ {a : Answer} {old new s s₁ m m₁ : List ℕ} {size code count : ℕ} (l : Lined a old new s s₁ m m₁ size code count) (kept : length s₁ ≡ length s) where
-  pub writes-fine : code ≡ 0 → Writes a s s₁ new (record { sheet = count; line = 0; status = Fine }) × ((count ≤ length s₁) × (0 ≤ length new))
-  writes-fine z =
-      let f = fronted s (a .sheet) (l .sheet) (l .counted) kept in
-      (record { sheet = f; refusal = no-refusal a (sym (l .told) ∙ z); status = status-fine (sym (l .told) ∙ z) }, (f .inside, omega arith))
+  in-front : Fronted (a .sheet) s s₁ count
+  in-front = fronted s (a .sheet) (l .sheet) (l .counted) kept
 
-  pub writes-refused : (code ≡ 0 → ⊥) → Writes a s s₁ new (record { sheet = count; line = size; status = Refused }) × ((count ≤ length s₁) × (size ≤ length new))
+  pub writes-fine : code ≡ 0 → Writes a s s₁ old new (record { sheet = count; line = 0; status = Fine }) × ((count ≤ length s₁) × (0 ≤ length new))
+  writes-fine z =
+      let e : a .code ≡ 0 = sym (l .told) ∙ z in
+      (record { sheet = in-front; line = l .front .line; told = ap length (no-refusal a e); status = status-fine e }, (in-front .inside, omega arith))
+
+  pub writes-refused : (code ≡ 0 → ⊥) → Writes a s s₁ old new (record { sheet = count; line = size; status = Refused }) × ((count ≤ length s₁) × (size ≤ length new))
   writes-refused z =
-      let f = fronted s (a .sheet) (l .sheet) (l .counted) kept in
-      let n : a .code ≡ 0 → ⊥ = λ e. z (l .told ∙ e) in (
-        record {
-          sheet = f;
-          refusal = rw (l .front .ends, l .front .line) (overlaid-front (lineOf a) old) ∙ a-refusal a n;
-          status = status-refused n;
-        },
-        (f .inside, l .front .inside),
-      )
+      let n : a .code ≡ 0 → ⊥ = λ e. z (l .told ∙ e) in
+      (record { sheet = in-front; line = l .front .line; told = l .front .ends ∙ ap length (a-refusal a n); status = status-refused n }, (in-front .inside, l .front .inside))
 
 -- ---- a sheet in words: the room is always enough
 
-in-fits : (room : ℕ) (s : List ℕ) → length s ≤ room → inWords room s ≡ record { code = 0; text = s }
-unfolding inWords if_then_else_
-in-fits room s h = rw (le-leb (length s) room h)
-
 -- what was told is what is to be said
-tells-said : {a : InWords} (s : Said) {code size : ℕ} (old : List ℕ) {new : List ℕ} {t : Status} → Tells a code size old new → length new ≡ length old → a .text ≡ s .text
-    → t ≡ s .status → Says s old new (record { length = size; status = t }) × (size ≤ length new)
-tells-said s old x kept p q =
-    let f = fronted old (s .text) (x .out-is ∙ ap (λ (w : List ℕ). overlaid w old) p) (x .length-is ∙ ap length p) kept in
-    (record { front = f; status = q }, f .inside)
+tells-said : {a b : InWords} {s r : Said} {code size : ℕ} (old : List ℕ) {new : List ℕ} {t : Status} → Tells a code size old new → length new ≡ length old → a ≡ b → r ≡ s
+    → b .text ≡ r .text → t ≡ r .status → Says s old new (record { length = size; status = t }) × (size ≤ length new)
+tells-said {s = s} old x kept e f p q =
+    let w = ap (λ (i : InWords). i .text) e ∙ p ∙ ap (λ (i : Said). i .text) f in
+    let h = fronted old (s .text) (x .out-is ∙ ap (λ (i : List ℕ). overlaid i old) w) (x .length-is ∙ ap length w) kept in
+    (record { front = h; status = q ∙ ap (λ (i : Said). i .status) f }, h .inside)
+
+-- the code of what was told
+code-of : {a b : InWords} {code size : ℕ} {old new : List ℕ} → Tells a code size old new → a ≡ b → code ≡ b .code
+code-of x e = x .code-is ∙ ap (λ (i : InWords). i .code) e
 
 module _ (bs : List ℕ) where
-  show-none : (room : ℕ) → readSheet bs ≡ none → showAnswer bs room ≡ noSheet
-  unfolding showAnswer ifSome
-  show-none room e = rw e
-
-  show-some : (room : ℕ) (es : List Entry) → readSheet bs ≡ some es → largestShow ≤ room → showAnswer bs room ≡ record { code = 0; text = entriesText es }
-  unfolding showAnswer ifSome
-  show-some room es e h = rw e (in-fits room (entriesText es) (omega (arith, h, entries-size es (read-some bs es .0 e .limits))))
-
   said-none : readSheet bs ≡ none → noSheetSaid ≡ showSaid bs
   unfolding showSaid ifSome
   said-none e = rw e
@@ -117,15 +107,11 @@ module _ (bs : List ℕ) where
       where
         by : (o : Option (List Entry)) → readSheet bs ≡ o → Says (showSaid bs) old new (record { length = size; status = t }) × (size ≤ length new)
         by none e =
-            let a = show-none (length old) e in
-            let c = x .code-is ∙ ap (λ (w : InWords). w .code) a in
-            tells-said (showSaid bs) old x kept (ap (λ (w : InWords). w .text) a ∙ ap (λ (w : Said). w .text) (said-none e))
-            (p ∙ sym (status-refused (λ z. omega (arith, c, z))) ∙ ap (λ (w : Said). w .status) (said-none e))
+            let a = show-none bs (length old) e in
+            tells-said old x kept a (said-none e) refl (p ∙ sym (status-refused (λ z. omega (arith, code-of x a, z))))
         by (some es) e =
-            let a = show-some (length old) es e room in
-            let c = x .code-is ∙ ap (λ (w : InWords). w .code) a in
-            tells-said (showSaid bs) old x kept (ap (λ (w : InWords). w .text) a ∙ ap (λ (w : Said). w .text) (said-some es e))
-            (p ∙ sym (status-fine c) ∙ ap (λ (w : Said). w .status) (said-some es e))
+            let a = show-whole bs (length old) e room in
+            tells-said old x kept a (said-some es e) refl (p ∙ sym (status-fine (code-of x a)))
 
 -- ---- two sheets
 
@@ -142,71 +128,43 @@ module _ {c : ℕ} (n : ℕ) where
   unfolding comparedAs if_then_else_
   compared-changed z e = rw (eq-eqb c 0 z, ne-eqb n 0 e)
 
-empty : (s : List ℕ) → length s ≡ 0 → s ≡ []
-empty [] e = refl
-empty (x ∷ s) e = absurd (omega arith)
-
 -- a change has a line
 changed-so : (cs : List Change) {c n : ℕ} → c ≡ 0 → n ≡ length (changesText cs) → comparedAs c n ≡ changedIf cs
-unfolding changedIf changesText
-changed-so [] {c} {n} z e = sym (compared-equal n z e)
-changed-so (d ∷ cs) {c} {n} z e =
-    sym (compared-changed n z (λ o. absurd (some-change (no-words (d ∷ cs) .0 (empty (changesText (d ∷ cs)) (sym e ∙ o))))))
+unfolding changedIf
+changed-so [] {c} {n} z e = sym (compared-equal n z (e ∙ no-words [] .1 refl))
+changed-so (d ∷ cs) {c} {n} z e = sym (compared-changed n z (λ o. some-change (no-words (d ∷ cs) .0 (sym e ∙ o))))
   where
     some-change : (d ∷ cs ≡ []) → ⊥
     some-change p = let q = ap length p in omega (arith, q)
 
 module _ (old new : List ℕ) where
-  no-old : (room : ℕ) → readSheet old ≡ none → changesAnswer old new room ≡ noSheet
-  unfolding changesAnswer compared ifSome
-  no-old room e = rw e
-
-  no-new : (room : ℕ) (es : List Entry) → readSheet old ≡ some es → readSheet new ≡ none → changesAnswer old new room ≡ noSheet
-  unfolding changesAnswer compared ifSome
-  no-new room es e f = rw (e, f)
-
-  both-told : (room : ℕ) (es fs : List Entry) → readSheet old ≡ some es → readSheet new ≡ some fs → largestChanges ≤ room
-      → changesAnswer old new room ≡ record { code = 0; text = changesText (changes es fs) }
-  unfolding changesAnswer compared ifSome
-  both-told room es fs e f h =
-      rw (e, f) (in-fits room (changesText (changes es fs)) (omega (arith, h, changes-size es fs (read-some old es .0 e .limits) (read-some new fs .0 f .limits))))
-
-  pub no-old-said : readSheet old ≡ none → noSheetSaid ≡ changesSaid old new
-  unfolding changesSaid compared ifSome
-  no-old-said e = rw e
-
-  pub no-new-said : (es : List Entry) → readSheet old ≡ some es → readSheet new ≡ none → noSheetSaid ≡ changesSaid old new
-  unfolding changesSaid compared ifSome
-  no-new-said es e f = rw (e, f)
+  pub none-said : (readSheet old ≡ none) ⊎ (readSheet new ≡ none) → noSheetSaid ≡ changesSaid old new
+  unfolding changesSaid ifSome
+  none-said h = rw (compared-none old new h)
 
   pub both-said : (es fs : List Entry) → readSheet old ≡ some es → readSheet new ≡ some fs
       → record { text = changesText (changes es fs); status = changedIf (changes es fs) } ≡ changesSaid old new
-  unfolding changesSaid compared ifSome
-  both-said es fs e f = rw (e, f)
+  unfolding changesSaid ifSome
+  both-said es fs e f = rw (compared-both old new e f)
 
   module _ (out : List ℕ) {after : List ℕ} {code size : ℕ} {t : Status} (room : largestChanges ≤ length out)
       (x : Tells (changesAnswer old new (length out)) code size out after) (kept : length after ≡ length out) (p : t ≡ comparedAs code size) where
-    says-none : changesAnswer old new (length out) ≡ noSheet → noSheetSaid ≡ changesSaid old new
-        → Says (changesSaid old new) out after (record { length = size; status = t }) × (size ≤ length after)
-    says-none a s =
-        let c = x .code-is ∙ ap (λ (w : InWords). w .code) a in
-        tells-said (changesSaid old new) out x kept (ap (λ (w : InWords). w .text) a ∙ ap (λ (w : Said). w .text) s)
-        (p ∙ sym (compared-refused size (λ z. omega (arith, c, z))) ∙ ap (λ (w : Said). w .status) s)
+    says-none : (readSheet old ≡ none) ⊎ (readSheet new ≡ none) → Says (changesSaid old new) out after (record { length = size; status = t }) × (size ≤ length after)
+    says-none h =
+        let a = changes-none old new (length out) h in
+        tells-said out x kept a (none-said h) refl (p ∙ sym (compared-refused size (λ z. omega (arith, code-of x a, z))))
 
     pub says-changes : Says (changesSaid old new) out after (record { length = size; status = t }) × (size ≤ length after)
     says-changes = by (readSheet old) refl (readSheet new) refl
       where
         by : (o : Option (List Entry)) → readSheet old ≡ o → (q : Option (List Entry)) → readSheet new ≡ q
             → Says (changesSaid old new) out after (record { length = size; status = t }) × (size ≤ length after)
-        by none e q f = says-none (no-old (length out) e) (no-old-said e)
-        by (some es) e none f = says-none (no-new (length out) es e f) (no-new-said es e f)
+        by none e q f = says-none (inl e)
+        by (some es) e none f = says-none (inr f)
         by (some es) e (some fs) f =
-            let a = both-told (length out) es fs e f room in
-            let s = both-said es fs e f in
-            let c = x .code-is ∙ ap (λ (w : InWords). w .code) a in
-            let n = x .length-is ∙ ap (λ (w : InWords). length (w .text)) a in
-            tells-said (changesSaid old new) out x kept (ap (λ (w : InWords). w .text) a ∙ ap (λ (w : Said). w .text) s)
-            (p ∙ changed-so (changes es fs) c n ∙ ap (λ (w : Said). w .status) s)
+            let a = changes-whole old new (length out) e f room in
+            tells-said out x kept a (both-said es fs e f) refl
+            (p ∙ changed-so (changes es fs) (code-of x a) (x .length-is ∙ ap (λ (w : InWords). length (w .text)) a))
 
 -- ---- the load rule
 
@@ -242,9 +200,7 @@ read-other bs n = by (readSheet bs) refl
     by (some es) e = absurd (n (read-is bs es e))
 
 sheet-read : (bs : List ℕ) → isSheet bs ≡ true → readSheet bs ≡ some (namesIn bs)
-sheet-read bs y =
-    let e = read-some bs _ .1 (sheet-is bs y) in
-    e ∙ ap some (names-some bs _ e)
+sheet-read bs y = let e = read-yes bs y in e ∙ ap some (names-some bs (entriesIn bs) e)
 
 -- the sheet of no names, byte for byte
 abbrev noNames : List ℕ
@@ -259,7 +215,7 @@ module _ (approved sheet out : List ℕ) {after : List ℕ} {c code size : ℕ} 
   changed-front : (es : List Entry) (old : List ℕ) → readSheet old ≡ some es → es ≡ namesIn approved → Tells (changesAnswer old sheet (length out)) code size out after
       → Fronted (changesText (changes (namesIn approved) (namesIn sheet))) out after size
   changed-front es old e p x =
-      let a = both-told old sheet (length out) es (namesIn sheet) e (sheet-read sheet y) room in
+      let a = changes-whole old sheet (length out) e (sheet-read sheet y) room in
       let w = ap (λ (i : InWords). i .text) a ∙ ap (λ (i : List Entry). changesText (changes i (namesIn sheet))) p in
       fronted out _ (x .out-is ∙ ap (λ (i : List ℕ). overlaid i out) w) (x .length-is ∙ ap length w) kept
 
@@ -290,22 +246,6 @@ pub looks : (approved sheet : List ℕ) {out after : List ℕ} {r : ℕ} → Fro
     → Fronted (lookText approved sheet) out after r
 unfolding lookText
 looks approved sheet f = f
-
--- which case a number tells
-number-loads : (k : Loading) → loadingNumber k ≡ 0 → k ≡ loads
-number-loads loads e = refl
-number-loads look e = absurd (omega (arith, e))
-number-loads refused e = absurd (omega (arith, e))
-
-number-look : (k : Loading) → loadingNumber k ≡ 1 → k ≡ look
-number-look loads e = absurd (omega (arith, e))
-number-look look e = refl
-number-look refused e = absurd (omega (arith, e))
-
-number-refused : (k : Loading) → (loadingNumber k ≡ 0 → ⊥) → (loadingNumber k ≡ 1 → ⊥) → k ≡ refused
-number-refused loads n m = absurd (n refl)
-number-refused look n m = absurd (m refl)
-number-refused refused n m = refl
 
 module _ {a : Answer} (approved : List ℕ) {k : ℕ} {n : Numbers} {s s₁ m m₁ : List ℕ} (x : Decides a approved k n s s₁ m m₁) where
   kind-said : {kind : Loading} → loading a approved ≡ kind → loadSaidBy kind a approved ≡ loadSaid a approved

@@ -1,9 +1,9 @@
 -- What the words ask for, case by case; and examples. Assumes nothing.
-use mathlib.Core.Path.{_≡_, refl}
+use mathlib.Core.Path.{_≡_, refl, sym, _∙_}
 use mathlib.Core.Bool.{Bool, true, false}
 use mathlib.Core.Logic.{⊎-elim}
 use mathlib.Core.List.{List, [], _∷_}
-use Prim.Native.Nat.{ℕ}
+use Prim.Native.Nat.{ℕ, _+_, _≤_, min}
 use native.Mathlib.Omega.{arith}
 use borrow.Author.Tests.{eq-eqb, ne-eqb}
 use types.Run.{OneOf}
@@ -11,7 +11,7 @@ use denote.Enum.Declared.{tagOf}
 use lib.ListN.{length, getD}
 use Rattle.meaning.specs.Base.{if_then_else_, bytes, sameText}
 use Rattle.meaning.specs.Answer.{meaning-open}
-use Rattle.cablebirch.specs.Words.{verbOf, kindOf, withFile, withWord, settingIf, noFile, oneFile, twoFiles, commandOf, commandTold, words-open}
+use Rattle.cablebirch.specs.Words.{verbOf, kindOf, withFile, withWord, nothingAsked, askedBy, settingIf, noFile, oneFile, twoFiles, commandOf, commandTold, words-open}
 use Rattle.cablebirch.specs.declared.Verb.{Verb}
 use Rattle.cablebirch.specs.declared.Verb.the-variants.{Check, Sheet, Show, Changes, Load, Help, Nothing}
 use Rattle.cablebirch.specs.declared.Kind.{Kind}
@@ -235,6 +235,96 @@ module _ {v : Verb} (w : Asked) where
     pub no-help : v ≡ Help → OneOf (1 ∷ 2 ∷ 3 ∷ []) (tagOf the-type (w .files)) → BadWords ≡ commandOf v w
     unfolding commandOf if_then_else_
     no-help p h = rw (p, b) (none-else _ (w .files) h)
+
+-- ---- the first five words settle it: a verb and four behind it, of which one at least is too many
+
+-- how much of what may be asked was asked: `--strict` once, and two files
+counted : Files → ℕ
+counted None = 0
+counted (One i) = 1
+counted (Two i j) = 2
+counted Wrong = 4
+
+flagged : Bool → ℕ
+flagged true = 1
+flagged false = 0
+
+spent : Asked → ℕ
+spent w = flagged (w .strict) + counted (w .files)
+
+file-counts : (f : Files) (a : ℕ) → min 4 (counted f + 1) ≤ counted (withFile f a)
+unfolding counted withFile
+file-counts None a = omega arith
+file-counts (One i) a = omega arith
+file-counts (Two i j) a = omega arith
+file-counts Wrong a = omega arith
+
+strict-counts : (b : Bool) (f : Files) → min 4 (flagged b + counted f + 1) ≤ 1 + counted (if b then Wrong else f)
+unfolding counted flagged if_then_else_
+strict-counts true f = omega arith
+strict-counts false f = omega arith
+
+input-counts : (b : Bool) (f : Files) (a : ℕ) → min 4 (counted f + 1) ≤ counted (if b then Wrong else withFile f a)
+unfolding counted if_then_else_
+input-counts true f a = omega arith
+input-counts false f a = file-counts f a
+
+-- each word counts
+word-counts : (w : Asked) (a : ℕ) (k : Kind) → min 4 (spent w + 1) ≤ spent (withWord w a k)
+unfolding spent flagged counted withWord
+word-counts w a Strict = strict-counts (w .strict) (w .files)
+word-counts w a Input = omega (arith, input-counts (w .input) (w .files) a)
+word-counts w a Name = omega (arith, file-counts (w .files) a)
+word-counts w a Unknown = omega arith
+
+all-wrong : (f : Files) → 3 ≤ counted f → f ≡ Wrong
+unfolding counted
+all-wrong None h = absurd (omega (arith, h))
+all-wrong (One i) h = absurd (omega (arith, h))
+all-wrong (Two i j) h = absurd (omega (arith, h))
+all-wrong Wrong h = refl
+
+few-flags : (b : Bool) → flagged b ≤ 1
+unfolding flagged
+few-flags true = omega arith
+few-flags false = omega arith
+
+too-many : (w : Asked) → 4 ≤ spent w → w .files ≡ Wrong
+unfolding spent
+too-many w h = all-wrong (w .files) (omega (arith, h, few-flags (w .strict)))
+
+still-spent : (w : Asked) (a : ℕ) (ws : List (List ℕ)) → 4 ≤ spent w → 4 ≤ spent (askedBy w a ws)
+unfolding askedBy
+still-spent w a [] h = h
+still-spent w a (v ∷ ws) h = still-spent (withWord w a (kindOf v)) (a + 1) ws (omega (arith, h, word-counts w a (kindOf v)))
+
+-- no verb takes what is wrong
+or-bad : (b : Bool) {c : Command} → c ≡ BadWords → (if b then BadWords else c) ≡ BadWords
+unfolding if_then_else_
+or-bad true e = refl
+or-bad false e = e
+
+none-takes : (v : Verb) (w u : Asked) → w .files ≡ Wrong → u .files ≡ Wrong → commandOf v w ≡ commandOf v u
+unfolding commandOf noFile oneFile twoFiles
+none-takes Check w u e f = rw (e, f)
+none-takes Sheet w u e f = rw (e, f)
+none-takes Load w u e f = rw (e, f)
+none-takes Show w u e f = rw (e, f) (or-bad (w .strict) refl ∙ sym (or-bad (u .strict) refl))
+none-takes Changes w u e f = rw (e, f) (or-bad (w .strict) refl ∙ sym (or-bad (u .strict) refl))
+none-takes Help w u e f = rw (e, f) (or-bad (w .strict) refl ∙ sym (or-bad (u .strict) refl))
+none-takes Nothing w u e f = refl
+
+-- (false of a program that looks at four: `load --strict a b c` would be `load --strict a b`)
+pub five-words : (v a b c d : List ℕ) (ws : List (List ℕ)) → commandTold (v ∷ a ∷ b ∷ c ∷ d ∷ ws) ≡ commandTold (v ∷ a ∷ b ∷ c ∷ d ∷ [])
+unfolding commandTold askedBy spent flagged counted
+five-words v a b c d ws =
+    let w₁ = withWord nothingAsked 2 (kindOf a) in
+    let w₂ = withWord w₁ 3 (kindOf b) in
+    let w₃ = withWord w₂ 4 (kindOf c) in
+    let w₄ = withWord w₃ 5 (kindOf d) in
+    let four : 4 ≤ spent w₄ =
+    omega (arith, word-counts nothingAsked 2 (kindOf a), word-counts w₁ 3 (kindOf b), word-counts w₂ 4 (kindOf c), word-counts w₃ 5 (kindOf d)) in
+    none-takes (verbOf v) (askedBy w₄ 6 ws) w₄ (too-many (askedBy w₄ 6 ws) (still-spent w₄ 6 ws four)) (too-many w₄ four)
 
 -- ---- examples: `--strict` may stand anywhere behind the verb, once; a misspelt one is no file's name; and standard input is read once
 

@@ -3,12 +3,12 @@ use mathlib.Core.Path.{_≡_}
 use mathlib.Core.List.{List, [], _∷_, _++_}
 use Prim.Native.Nat.{ℕ, _+_}
 use lib.Dec.{eqb}
-use lib.ListN.{length, take}
+use lib.ListN.{length}
 use Rattle.meaning.specs.Limits.{messageBuffer, largestChanges}
 use Rattle.meaning.specs.Base.{if_then_else_, ifSome, bytes}
 use Rattle.meaning.specs.Sheet.{Entry}
 use Rattle.meaning.specs.Read.{readSheet}
-use Rattle.meaning.specs.Answer.{Answer}
+use Rattle.meaning.specs.Answer.{Answer, overlaid}
 use Rattle.meaning.specs.Line.{lineOf}
 use Rattle.meaning.specs.Show.{entriesText, Change, changesText, changes, compared}
 use Rattle.meaning.specs.Load.{Loading, loads, look, refused, loading}
@@ -54,9 +54,11 @@ checkSaid a = record { text = lineOf a; status = statusOf (a .code) }
 unfoldable pub refusalOf : Answer → List ℕ
 refusalOf a = if eqb (a .code) 0 then [] else lineOf a
 
-pub record Writes (a : Answer) (oldSheet newSheet line : List ℕ) (w : Written) : Type 0 where
+-- the answer's line stands at the front of its buffer in either case; told of it is as much as the refusal has
+pub record Writes (a : Answer) (oldSheet newSheet oldLine newLine : List ℕ) (w : Written) : Type 0 where
   pub sheet : Fronted (a .sheet) oldSheet newSheet (w .sheet)
-  pub refusal : take (w .line) line ≡ refusalOf a
+  pub line : newLine ≡ overlaid (lineOf a) oldLine
+  pub told : w .line ≡ length (refusalOf a)
   pub status : w .status ≡ statusOf (a .code)
 
 -- what is no sheet has nothing to show

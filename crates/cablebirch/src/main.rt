@@ -302,7 +302,7 @@ pub struct Written {
 fn write_sheet(setting: u32, image: &[u8], sheet: &mut [u8], out: &mut [u8]) -> Written
     requires { ⌜ lineRoom ≤ length (now out) ⌝ }
     ensures { λ r. ⌜ Writes (answer setting (now (image .entry)) (length (now (sheet .entry))) messageBuffer)
-        (now (sheet .entry)) (now (sheet .exit)) (now (out .exit)) r ⌝ }
+        (now (sheet .entry)) (now (sheet .exit)) (now (out .entry)) (now (out .exit)) r ⌝ }
     ensures { λ r. ⌜ (r .sheet ≤ length (now (sheet .exit))) × (r .line ≤ length (now (out .exit))) ⌝ }
 {
     let mut message = [0u8; MESSAGE_BUFFER];
@@ -360,6 +360,11 @@ fn say_changes(old: &[u8], new: &[u8], out: &mut [u8]) -> Done
 
 // ---- the load rule
 
+// The sheet of no names is a header alone: version 1; no types, elements, names and texts, each area behind the header's
+// 40 bytes; 40 bytes in all.
+const NO_NAMES: [u8; 40] =
+    *b"\x01\0\0\0\0\0\0\0\x28\0\0\0\0\0\0\0\x28\0\0\0\0\0\0\0\x28\0\0\0\0\0\0\0\x28\0\0\0\x28\0\0\0";
+
 // What changed from the approved sheet. Where that is none, every name is new.
 fn put_changed(approved: &[u8], sheet: &[u8], out: &mut [u8]) -> usize
     requires { ⌜ isSheet (now sheet) ≡ true ⌝ }
@@ -372,13 +377,8 @@ fn put_changed(approved: &[u8], sheet: &[u8], out: &mut [u8]) -> usize
         let w = cablebirch_changes(approved, sheet, out);
         return w.length;
     }
-    // The sheet of no names is a header alone: version 1, no types, elements, names and texts, and all areas behind 40
-    // bytes, which is the byte `(`.
-    let w = cablebirch_changes(
-        b"\x01\0\0\0\0\0\0\0(\0\0\0\0\0\0\0(\0\0\0\0\0\0\0(\0\0\0\0\0\0\0(\0\0\0(\0\0\0",
-        sheet,
-        out,
-    );
+    let nothing = NO_NAMES;
+    let w = cablebirch_changes(&nothing, sheet, out);
     w.length
 }
 
@@ -727,7 +727,7 @@ fn asked_at(w: Asked, a: usize) -> Asked {
     with_word(w, a, kind_of(&word[..n]))
 }
 
-// The words behind the verb. No verb takes more than three, so that a fourth settles it.
+// The words behind the verb. No verb takes more than three, so that a fourth settles it (`five-words` in proofs/Words).
 fn words_asked() -> Asked {
     let none = Asked {
         strict: false,

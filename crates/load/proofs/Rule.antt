@@ -6,9 +6,8 @@ use Prim.Native.Nat.{ℕ}
 use native.Mathlib.Omega.{arith}
 use lib.ListN.{length}
 use Rattle.meaning.specs.Answer.{Answer as Meant, answer}
-use Rattle.meaning.specs.Load.{loads, look, refused, loading, loadingNumber}
-use Rattle.meaning.specs.Load.{Loading as Kind}
-use Rattle.meaning.proofs.Loads.{look-exactly}
+use Rattle.meaning.specs.Load.{loading, loadingNumber}
+use Rattle.meaning.proofs.Loads.{number-loads, number-look, look-exactly}
 use Rattle.meaning.proofs.Loads.{loads-exactly as rule-loads}
 use Rattle.checker.specs.Answers.{Numbers, Replies}
 use Rattle.checker.specs.Module.{SameNames, sheetIn}
@@ -83,16 +82,6 @@ pub is-loads : (r : Loading) → (loadingNumber (kindOf r) ≡ 0) ↔ (r ≡ Loa
 is-loads (Loads n) = (λ e. refl, λ e. refl)
 is-loads (Look n) = (λ e. absurd (omega (arith, e)), λ e. absurd (omega (arith, ap (λ (q : Loading). loadingNumber (kindOf q)) e)))
 is-loads (Refused a) = (λ e. absurd (omega (arith, e)), λ e. absurd (omega (arith, ap (λ (q : Loading). loadingNumber (kindOf q)) e)))
-
-number-loads : (k : Kind) → loadingNumber k ≡ 0 → k ≡ loads
-number-loads loads e = refl
-number-loads look e = absurd (omega (arith, e))
-number-loads refused e = absurd (omega (arith, e))
-
-number-look : (k : Kind) → loadingNumber k ≡ 1 → k ≡ look
-number-look loads e = absurd (omega (arith, e))
-number-look look e = refl
-number-look refused e = absurd (omega (arith, e))
 
 module _ {a : Meant} (approved : List ℕ) {k : ℕ} {n : Numbers} {s s₁ m m₁ : List ℕ} (x : Decides a approved k n s s₁ m m₁) where
   -- It loads exactly when the check accepts and the sheet that stands at the front of the buffer, as long as told, is the approved bytes,

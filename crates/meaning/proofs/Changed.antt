@@ -413,13 +413,14 @@ sheets-unchanged {bs} {cs} {es} {fs} x y =
 
 -- ---- in words
 
-change-some : (c : Change) (rest : List ℕ) → changeText c ++ bytes "\n" ++ rest ≡ [] → ⊥
+change-some : (c : Change) (rest : List ℕ) → length (changeText c ++ bytes "\n" ++ rest) ≡ 0 → ⊥
 unfolding changeText bytes
-change-some (came e) rest p = let z = ap length p in omega arith
-change-some (went e) rest p = let z = ap length p in omega arith
-change-some (turned s t u) rest p = let z = ap length p in omega arith
+change-some (came e) rest z = omega (arith, z)
+change-some (went e) rest z = omega (arith, z)
+change-some (turned s t u) rest z = omega (arith, z)
 
-pub no-words : (cs : List Change) → (changesText cs ≡ []) ↔ (cs ≡ [])
+-- every change has a line
+pub no-words : (cs : List Change) → (length (changesText cs) ≡ 0) ↔ (cs ≡ [])
 unfolding changesText
 no-words [] = (λ e. refl, λ e. refl)
-no-words (c ∷ cs) = (λ e. absurd (change-some c (changesText cs) e), λ e. ap changesText e)
+no-words (c ∷ cs) = (λ z. absurd (change-some c (changesText cs) z), λ e. ap (λ (ds : List Change). length (changesText ds)) e)

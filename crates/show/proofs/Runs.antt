@@ -72,10 +72,6 @@ module _ (bs : List ℕ) (room : ℕ) {out new : List ℕ} {code size : ℕ} (x 
 abbrev pub between : List ℕ → List ℕ → List Change
 between old new = changes (entriesIn old) (entriesIn new)
 
-empty : (s : List ℕ) → length s ≡ 0 → s ≡ []
-empty [] e = refl
-empty (x ∷ s) e = absurd (omega arith)
-
 module _ (old new : List ℕ) (room : ℕ) {out after : List ℕ} {code size : ℕ} (x : Tells (changesAnswer old new room) code size out after) where
   -- "12: one of them is no sheet"
   none-compared : (isSheet old ≡ false) ⊎ (isSheet new ≡ false) → code ≡ 12
@@ -112,10 +108,8 @@ module _ (old new : List ℕ) (room : ℕ) {out after : List ℕ} {code size : �
     nothing-exactly =
         let u = sheets-unchanged (sheet-is old (both-sheets e .0)) (sheet-is new (both-sheets e .1)) in
         let w = no-words (between old new) in
-        let z : size ≡ length (changesText (between old new)) = x .length-is ∙ ap length all-told in (
-          λ s. u .0 (w .0 (empty (changesText (between old new)) (sym z ∙ s))),
-          λ p. z ∙ ap length (w .1 (u .1 p)),
-        )
+        let z : size ≡ length (changesText (between old new)) = x .length-is ∙ ap length all-told in
+        (λ s. u .0 (w .0 (sym z ∙ s)), λ p. z ∙ w .1 (u .1 p))
 
     -- a line is there exactly when it is what the two sheets' types of its name make: it came, it went, it has another type
     pub line-for : (c : Change) → List·Memᴰ c (between old new) ↔ (changeOf (about c) (typeIn (entriesIn old) (about c)) (typeIn (entriesIn new) (about c)) ≡ some c)
