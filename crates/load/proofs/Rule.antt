@@ -1,10 +1,12 @@
 -- About runs of `load` and of its C twin, from their promises: no second outcome fits, and when a script loads. Assumes nothing.
 use mathlib.Core.Path.{_≡_, refl, sym, ap, _∙_}
+use mathlib.Core.Bool.{false, false≢true}
 use mathlib.Core.Logic.{_↔_}
 use mathlib.Core.List.{List}
 use Prim.Native.Nat.{ℕ}
 use native.Mathlib.Omega.{arith}
 use lib.ListN.{length}
+use Rattle.meaning.specs.Read.{isSheet}
 use Rattle.meaning.specs.Answer.{Answer as Meant, answer}
 use Rattle.meaning.specs.Load.{loading, loadingNumber}
 use Rattle.meaning.proofs.Loads.{number-loads, number-look, look-exactly}
@@ -95,6 +97,14 @@ module _ {a : Meant} (approved : List ℕ) {k : ℕ} {n : Numbers} {s s₁ m m�
         λ e. let p = r .0 (number-loads (loading a approved) (sym (x .rule) ∙ e)) in (p .0, there ∙ p .1),
         λ p. x .rule ∙ ap loadingNumber (r .1 (p .0, sym there ∙ p .1)),
       )
+
+  -- What is no sheet is never loaded by: no bytes at all, where nothing was approved yet; a text; a sheet that was cut. (False of a program that takes
+  -- a missing approved sheet for "nothing to compare".)
+  pub none-approved : isSheet approved ≡ false → k ≡ 0 → ⊥
+  none-approved none z =
+      let h = loads-exactly .0 z in
+      let e : approved ≡ a .sheet = sym (h .1) ∙ sheet-there (x .replies) in
+      false≢true (sym none ∙ ap isSheet e ∙ x .replies .form (h .0))
 
 -- `approved` is the sheet that an accepted run of the check wrote for another script: the new one loads exactly when it is accepted and both list
 -- the same names with the same types. (False of a checker whose sheet leaves out a loop's name, or writes one list of names in two ways.)
