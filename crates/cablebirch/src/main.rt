@@ -1,21 +1,9 @@
-// The program: an image checked, its sheet written, a sheet shown, two compared, and the load rule, over files. Its
-// status goes to descriptor 3 as one digit, since `main` returns nothing.
-ghost use mathlib.Core.Path.{_≡_};
-ghost use mathlib.Core.Bool.{true};
-ghost use Prim.Native.Nat.{_+_, _<_, _≤_};
+// The program: an image checked, its sheet written, a sheet shown, two compared, and the load rule, over files. What is
+// asked and what is said stands in `verbs`; here files are read and the answers written. All of it is proved safe and
+// ending, and no more, since no contract can say what is read or written. The status goes to descriptor 3 as one digit,
+// since `main` returns nothing.
+ghost use Prim.Native.Nat.{_≤_};
 ghost use lib.ListN.{length};
-ghost use Rattle.meaning.specs.Limits.{sheetBuffer, messageBuffer, largestShow, largestChanges};
-ghost use Rattle.meaning.specs.Read.{isSheet};
-ghost use Rattle.meaning.specs.Answer.{answer};
-ghost use Rattle.meaning.specs.Show.{changesText, changes as changesOf};
-ghost use Rattle.line.specs.Printing.{Fronted};
-ghost use Rattle.cablebirch.specs.Words.{verbOf, withFile, withWord, settingIf};
-ghost use Rattle.cablebirch.specs.Words.{kindOf as kindTold, commandOf as commandAsked};
-ghost use Rattle.cablebirch.specs.Said.{statusNumber, statusOf, Says, checkSaid, lineRoom, Writes};
-ghost use Rattle.cablebirch.specs.Said.{showSaid, comparedAs, changesSaid, namesIn, lookText};
-ghost use Rattle.cablebirch.specs.Said.{loadSaid, loadRoom};
-use checker::PLAIN;
-use checker::STRICT;
 use checker::cablebirch_read_sheet;
 use libc::EACCES;
 use libc::EISDIR;
@@ -26,413 +14,29 @@ use libc::STDIN_FILENO;
 use libc::STDOUT_FILENO;
 use limits::LARGEST_CHANGES;
 use limits::LARGEST_SHOW;
-use limits::MESSAGE_BUFFER;
 use limits::READ_AT_MOST;
 use limits::SHEET_BUFFER;
-use load::LOADS;
-use load::LOOK;
-use load::cablebirch_changes;
-use load::cablebirch_load;
-use load::cablebirch_show;
-use words::put;
+use verbs::Asked;
+use verbs::Command;
+use verbs::Files;
+use verbs::LINE;
+use verbs::LOAD;
+use verbs::Status;
+use verbs::Verb;
+use verbs::command_of;
+use verbs::digit_of;
+use verbs::kind_of;
+use verbs::say_changes;
+use verbs::say_check;
+use verbs::say_load;
+use verbs::say_show;
+use verbs::verb_told;
+use verbs::with_word;
+use verbs::write_sheet;
 use words::same;
 use words::text;
 
-// ---- the words
-
-pub enum Verb {
-    Check,
-    Sheet,
-    Show,
-    Changes,
-    Load,
-    Help,
-    Nothing,
-}
-
-fn verb_told(word: &[u8]) -> Verb
-    ensures { λ r. ⌜ r ≡ verbOf (now (word .entry)) ⌝ }
-{
-    if same(word, b"check") {
-        return Verb::Check;
-    }
-    if same(word, b"sheet") {
-        return Verb::Sheet;
-    }
-    if same(word, b"show") {
-        return Verb::Show;
-    }
-    if same(word, b"changes") {
-        return Verb::Changes;
-    }
-    if same(word, b"load") {
-        return Verb::Load;
-    }
-    if same(word, b"help") {
-        return Verb::Help;
-    }
-    Verb::Nothing
-}
-
-// What a word behind the verb is.
-pub enum Kind {
-    Strict,
-    Input,
-    Name,
-    Unknown,
-}
-
-// `-` alone is standard input. No name begins with a `-`, so that a misspelt `--strict` is not taken for a file.
-fn kind_of(word: &[u8]) -> Kind
-    ensures { λ r. ⌜ r ≡ kindTold (now (word .entry)) ⌝ }
-{
-    if same(word, b"--strict") {
-        return Kind::Strict;
-    }
-    if same(word, b"-") {
-        return Kind::Input;
-    }
-    if word.len() == 0 {
-        return Kind::Name;
-    }
-    if word[0] == b'-' {
-        return Kind::Unknown;
-    }
-    Kind::Name
-}
-
-// The numbers of the arguments that name files; no verb takes three.
-pub enum Files {
-    None,
-    One(usize),
-    Two(usize, usize),
-    Wrong,
-}
-
-fn with_file(files: Files, a: usize) -> Files
-    ensures { λ r. ⌜ r ≡ withFile files a ⌝ }
-{
-    match files {
-        Files::None => Files::One(a),
-        Files::One(i) => Files::Two(i, a),
-        Files::Two(_, _) => Files::Wrong,
-        Files::Wrong => Files::Wrong,
-    }
-}
-
-// What the words behind the verb say so far: strict, a file that is standard input, and the files.
-pub struct Asked {
-    strict: bool,
-    input: bool,
-    files: Files,
-}
-
-// `--strict` may stand once, and so may `-`.
-fn with_word(w: Asked, a: usize, kind: Kind) -> Asked
-    ensures { λ r. ⌜ r ≡ withWord w a kind ⌝ }
-{
-    let files = w.files;
-    match kind {
-        Kind::Strict => Asked {
-            strict: true,
-            input: w.input,
-            files: if w.strict { Files::Wrong } else { files },
-        },
-        Kind::Input => Asked {
-            strict: w.strict,
-            input: true,
-            files: if w.input {
-                Files::Wrong
-            } else {
-                with_file(files, a)
-            },
-        },
-        Kind::Name => Asked {
-            strict: w.strict,
-            input: w.input,
-            files: with_file(files, a),
-        },
-        Kind::Unknown => Asked {
-            strict: w.strict,
-            input: w.input,
-            files: Files::Wrong,
-        },
-    }
-}
-
-// What is to be done: settings, and the numbers of the arguments that name the files.
-pub enum Command {
-    CheckImage(u32, usize),
-    WriteSheet(u32, usize),
-    ShowSheet(usize),
-    TellChanges(usize, usize),
-    LoadImage(u32, usize, usize),
-    Usage,
-    NoVerb,
-    BadWords,
-}
-
-fn setting_of(strict: bool) -> u32
-    ensures { λ r. ⌜ r ≡ settingIf strict ⌝ }
-{
-    if strict { STRICT } else { PLAIN }
-}
-
-// A verb and the number of its files must fit, and only what reads an image may be strict.
-fn command_of(verb: Verb, w: Asked) -> Command
-    ensures { λ r. ⌜ r ≡ commandAsked verb w ⌝ }
-{
-    let files = w.files;
-    let setting = setting_of(w.strict);
-    match verb {
-        Verb::Check => {
-            let Files::One(i) = files else {
-                return Command::BadWords;
-            };
-            Command::CheckImage(setting, i)
-        }
-        Verb::Sheet => {
-            let Files::One(i) = files else {
-                return Command::BadWords;
-            };
-            Command::WriteSheet(setting, i)
-        }
-        Verb::Load => {
-            let Files::Two(i, j) = files else {
-                return Command::BadWords;
-            };
-            Command::LoadImage(setting, i, j)
-        }
-        Verb::Show => {
-            if w.strict {
-                return Command::BadWords;
-            }
-            let Files::One(i) = files else {
-                return Command::BadWords;
-            };
-            Command::ShowSheet(i)
-        }
-        Verb::Changes => {
-            if w.strict {
-                return Command::BadWords;
-            }
-            let Files::Two(i, j) = files else {
-                return Command::BadWords;
-            };
-            Command::TellChanges(i, j)
-        }
-        Verb::Help => {
-            if w.strict {
-                return Command::BadWords;
-            }
-            let Files::None = files else {
-                return Command::BadWords;
-            };
-            Command::Usage
-        }
-        Verb::Nothing => Command::NoVerb,
-    }
-}
-
-// ---- what is said
-
-// Accepted, equal or loaded; changed; refused; and what could not be done.
-pub enum Status {
-    Fine,
-    Changed,
-    Refused,
-    Misused,
-}
-
-fn digit_of(status: Status) -> u8
-    ensures { λ r. ⌜ r ≡ 48 + statusNumber status ⌝ }
-{
-    match status {
-        Status::Fine => b'0',
-        Status::Changed => b'1',
-        Status::Refused => b'2',
-        Status::Misused => b'3',
-    }
-}
-
-fn status_of(code: u32) -> Status
-    ensures { λ r. ⌜ r ≡ statusOf code ⌝ }
-{
-    if code == 0 {
-        return Status::Fine;
-    }
-    Status::Refused
-}
-
-// How many bytes for standard output stand at the front of the buffer that was lent.
-pub struct Done {
-    length: usize,
-    status: Status,
-}
-
-// Room for the line of an image: what stands around its message has fewer than 64 bytes.
-const LINE: usize = 64 + MESSAGE_BUFFER;
-
-// Room for `look` and what changed.
-const LOAD: usize = 5 + LARGEST_CHANGES;
-
-fn say_check(setting: u32, image: &[u8], out: &mut [u8]) -> Done
-    requires { ⌜ lineRoom ≤ length (now out) ⌝ }
-    ensures { λ r. ⌜ Says (checkSaid (answer setting (now (image .entry)) sheetBuffer messageBuffer))
-        (now (out .entry)) (now (out .exit)) r ⌝ }
-    ensures { λ r. ⌜ r .length ≤ length (now (out .exit)) ⌝ }
-{
-    let mut sheet = [0u8; SHEET_BUFFER];
-    let mut message = [0u8; MESSAGE_BUFFER];
-    let p = line::of_image(setting, image, &mut sheet, &mut message, out);
-    let status = status_of(p.code);
-    Done {
-        length: p.length,
-        status,
-    }
-}
-
-// How many bytes of the sheet go to standard output, and how many of the line to standard error.
-pub struct Written {
-    sheet: usize,
-    line: usize,
-    status: Status,
-}
-
-fn write_sheet(setting: u32, image: &[u8], sheet: &mut [u8], out: &mut [u8]) -> Written
-    requires { ⌜ lineRoom ≤ length (now out) ⌝ }
-    ensures { λ r. ⌜ Writes (answer setting (now (image .entry)) (length (now (sheet .entry))) messageBuffer)
-        (now (sheet .entry)) (now (sheet .exit)) (now (out .entry)) (now (out .exit)) r ⌝ }
-    ensures { λ r. ⌜ (r .sheet ≤ length (now (sheet .exit))) × (r .line ≤ length (now (out .exit))) ⌝ }
-{
-    let mut message = [0u8; MESSAGE_BUFFER];
-    let p = line::of_image(setting, image, sheet, &mut message, out);
-    if p.code == 0 {
-        return Written {
-            sheet: p.sheet,
-            line: 0,
-            status: Status::Fine,
-        };
-    }
-    Written {
-        sheet: p.sheet,
-        line: p.length,
-        status: Status::Refused,
-    }
-}
-
-fn say_show(sheet: &[u8], out: &mut [u8]) -> Done
-    requires { ⌜ largestShow ≤ length (now out) ⌝ }
-    ensures { λ r. ⌜ Says (showSaid (now (sheet .entry))) (now (out .entry)) (now (out .exit)) r ⌝ }
-    ensures { λ r. ⌜ r .length ≤ length (now (out .exit)) ⌝ }
-{
-    let w = cablebirch_show(sheet, out);
-    let status = status_of(w.code);
-    Done {
-        length: w.length,
-        status,
-    }
-}
-
-fn compared_as(code: u32, length: usize) -> Status
-    ensures { λ r. ⌜ r ≡ comparedAs code length ⌝ }
-{
-    if code != 0 {
-        return Status::Refused;
-    }
-    if length == 0 {
-        return Status::Fine;
-    }
-    Status::Changed
-}
-
-fn say_changes(old: &[u8], new: &[u8], out: &mut [u8]) -> Done
-    requires { ⌜ largestChanges ≤ length (now out) ⌝ }
-    ensures { λ r. ⌜ Says (changesSaid (now (old .entry)) (now (new .entry)))
-        (now (out .entry)) (now (out .exit)) r ⌝ }
-    ensures { λ r. ⌜ r .length ≤ length (now (out .exit)) ⌝ }
-{
-    let w = cablebirch_changes(old, new, out);
-    let length = w.length;
-    let status = compared_as(w.code, length);
-    Done { length, status }
-}
-
-// ---- the load rule
-
-// The sheet of no names is a header alone: version 1; no types, elements, names and texts, each area behind the header's
-// 40 bytes; 40 bytes in all.
-const NO_NAMES: [u8; 40] =
-    *b"\x01\0\0\0\0\0\0\0\x28\0\0\0\0\0\0\0\x28\0\0\0\0\0\0\0\x28\0\0\0\0\0\0\0\x28\0\0\0\x28\0\0\0";
-
-// What changed from the approved sheet. Where that is none, every name is new.
-fn put_changed(approved: &[u8], sheet: &[u8], out: &mut [u8]) -> usize
-    requires { ⌜ isSheet (now sheet) ≡ true ⌝ }
-    requires { ⌜ largestChanges ≤ length (now out) ⌝ }
-    ensures { λ r. ⌜ Fronted
-        (changesText (changesOf (namesIn (now (approved .entry))) (namesIn (now (sheet .entry)))))
-        (now (out .entry)) (now (out .exit)) r ⌝ }
-{
-    if cablebirch_read_sheet(approved) == 0 {
-        let w = cablebirch_changes(approved, sheet, out);
-        return w.length;
-    }
-    let nothing = NO_NAMES;
-    let w = cablebirch_changes(&nothing, sheet, out);
-    w.length
-}
-
-fn put_look(approved: &[u8], sheet: &[u8], out: &mut [u8]) -> usize
-    requires { ⌜ isSheet (now sheet) ≡ true ⌝ }
-    requires { ⌜ loadRoom ≤ length (now out) ⌝ }
-    ensures { λ r. ⌜ Fronted (lookText (now (approved .entry)) (now (sheet .entry)))
-        (now (out .entry)) (now (out .exit)) r ⌝ }
-{
-    let mut told = [0u8; LARGEST_CHANGES];
-    let n = put_changed(approved, sheet, &mut told);
-    let at = put(out, 0, b"look\n");
-    put(out, at, text(&told, 0, n))
-}
-
-fn say_load(setting: u32, image: &[u8], approved: &[u8], out: &mut [u8]) -> Done
-    requires { ⌜ loadRoom ≤ length (now out) ⌝ }
-    ensures { λ r. ⌜ Says
-        (loadSaid (answer setting (now (image .entry)) sheetBuffer messageBuffer) (now (approved .entry)))
-        (now (out .entry)) (now (out .exit)) r ⌝ }
-    ensures { λ r. ⌜ r .length ≤ length (now (out .exit)) ⌝ }
-{
-    let mut sheet = [0u8; SHEET_BUFFER];
-    let mut message = [0u8; MESSAGE_BUFFER];
-    let v = cablebirch_load(setting, image, approved, &mut sheet, &mut message);
-    let written = text(&sheet, 0, v.sheet_length);
-    if v.loading == LOADS {
-        return Done {
-            length: put(out, 0, b"loads\n"),
-            status: Status::Fine,
-        };
-    }
-    if v.loading == LOOK {
-        return Done {
-            length: put_look(approved, written, out),
-            status: Status::Changed,
-        };
-    }
-    let length = line::write(
-        v.code,
-        line::word(v.place),
-        v.span_start,
-        v.span_end,
-        written,
-        text(&message, 0, v.message_length),
-        out,
-    );
-    Done {
-        length,
-        status: Status::Refused,
-    }
-}
-
-// ---- files: from here on proved safe and ending, and no more, since no contract can say what is read or written
+// ---- files
 
 fn say(text: &[u8]) {
     io::write_all(STDERR_FILENO, text);
@@ -727,7 +331,7 @@ fn asked_at(w: Asked, a: usize) -> Asked {
     with_word(w, a, kind_of(&word[..n]))
 }
 
-// The words behind the verb. No verb takes more than three, so that a fourth settles it (`five-words` in proofs/Words).
+// The words behind the verb. No verb takes more than three, so that a fourth settles it (`five-words` in `verbs`).
 fn words_asked() -> Asked {
     let none = Asked {
         strict: false,

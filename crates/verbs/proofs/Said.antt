@@ -1,0 +1,286 @@
+-- What is said, from what the crates below left. Assumes nothing.
+use mathlib.Core.Path.{_≡_, refl, sym, ap, _∙_, subst}
+use mathlib.Core.Bool.{true}
+use mathlib.Core.Logic.{_⊎_, inl, inr}
+use mathlib.Core.List.{List, [], _∷_, _++_}
+use mathlib.Core.Option.{Option, none, some}
+use Prim.Native.Nat.{ℕ, _+_, _≤_}
+use native.Mathlib.Nat.{zero-add}
+use native.Mathlib.Omega.{arith}
+use borrow.Author.Tests.{eq-eqb, ne-eqb}
+use lib.ListN.{length, take}
+use lib.Seq.{length-take-le}
+use Rattle.meaning.specs.Limits.{largestShow, largestChanges}
+use Rattle.meaning.specs.Base.{if_then_else_, ifSome, bytes}
+use Rattle.meaning.specs.Sheet.{Entry}
+use Rattle.meaning.specs.Read.{entriesIn, isSheet, readSheet}
+use Rattle.meaning.specs.Answer.{Answer, readAnswer, overlaid, meaning-open}
+use Rattle.meaning.specs.Line.{lineOf}
+use Rattle.meaning.specs.Show.{entriesText, Change, changesText, changes, InWords, showAnswer, changesAnswer}
+use Rattle.meaning.specs.Load.{Loading, loads, look, refused, loading}
+use Rattle.meaning.proofs.SheetForm.{read-yes}
+use Rattle.meaning.proofs.Changed.{no-words}
+use Rattle.meaning.proofs.InWords.{show-none, show-whole, compared-none, compared-both, changes-none, changes-whole}
+use Rattle.meaning.proofs.Loads.{number-loads, number-look, number-refused, look-exactly}
+use Rattle.meaning.proofs.Answers.{overlaid-front}
+use Rattle.words.specs.Words.{Wrote}
+use Rattle.words.proofs.Laws.{put-overlaid, and-then}
+use Rattle.checker.specs.Answers.{Numbers}
+use Rattle.line.specs.Printing.{Fronted, Lined}
+use Rattle.line.proofs.Answered.{fronted}
+use Rattle.show.specs.Words.{Tells}
+use Rattle.load.specs.Rule.{Decides}
+use Rattle.load.proofs.Cases.{sheet-there}
+use Rattle.verbs.specs.Said.{statusOf, statusNumber, Said, Says, checkSaid, refusalOf, Writes, noSheetSaid, showSaid, changedIf, changesSaid, comparedAs, namesIn, lookText, loadSaidBy, loadSaid}
+use Rattle.verbs.specs.declared.Status.{Status}
+use Rattle.verbs.specs.declared.Status.the-variants.{Fine, Changed, Refused}
+
+-- ---- the status
+
+pub status-fine : {c : ℕ} → c ≡ 0 → Fine ≡ statusOf c
+unfolding statusOf if_then_else_
+status-fine {c} e = rw (eq-eqb c 0 e)
+
+pub status-refused : {c : ℕ} → (c ≡ 0 → ⊥) → Refused ≡ statusOf c
+unfolding statusOf if_then_else_
+status-refused {c} n = rw (ne-eqb c 0 n)
+
+pub digit-is : {s t : Status} {d : ℕ} → s ≡ t → d ≡ 48 + statusNumber t → d ≡ 48 + statusNumber s
+digit-is e p = rw e p
+
+-- ---- `check` and `sheet`
+
+pub says-check : {a : Answer} {old new s s₁ m m₁ : List ℕ} {size code count : ℕ} {t : Status} → Lined a old new s s₁ m m₁ size code count → t ≡ statusOf code
+    → Says (checkSaid a) old new (record { length = size; status = t }) × (size ≤ length new)
+unfolding checkSaid
+says-check l e = (record { front = l .front; status = e ∙ ap statusOf (l .told) }, l .front .inside)
+
+no-refusal : (a : Answer) → a .code ≡ 0 → [] ≡ refusalOf a
+unfolding refusalOf if_then_else_
+no-refusal a e = rw (eq-eqb (a .code) 0 e)
+
+a-refusal : (a : Answer) → (a .code ≡ 0 → ⊥) → lineOf a ≡ refusalOf a
+unfolding refusalOf if_then_else_
+a-refusal a n = rw (ne-eqb (a .code) 0 n)
+
+module _ {a : Answer} {old new s s₁ m m₁ : List ℕ} {size code count : ℕ} (l : Lined a old new s s₁ m m₁ size code count) (kept : length s₁ ≡ length s) where
+  in-front : Fronted (a .sheet) s s₁ count
+  in-front = fronted s (a .sheet) (l .sheet) (l .counted) kept
+
+  pub writes-fine : code ≡ 0 → Writes a s s₁ old new (record { sheet = count; line = 0; status = Fine }) × ((count ≤ length s₁) × (0 ≤ length new))
+  writes-fine z =
+      let e : a .code ≡ 0 = sym (l .told) ∙ z in
+      (record { sheet = in-front; line = l .front .line; told = ap length (no-refusal a e); status = status-fine e }, (in-front .inside, omega arith))
+
+  pub writes-refused : (code ≡ 0 → ⊥) → Writes a s s₁ old new (record { sheet = count; line = size; status = Refused }) × ((count ≤ length s₁) × (size ≤ length new))
+  writes-refused z =
+      let n : a .code ≡ 0 → ⊥ = λ e. z (l .told ∙ e) in
+      (record { sheet = in-front; line = l .front .line; told = l .front .ends ∙ ap length (a-refusal a n); status = status-refused n }, (in-front .inside, l .front .inside))
+
+-- ---- a sheet in words: the room is always enough
+
+-- what was told is what is to be said
+tells-said : {a b : InWords} {s r : Said} {code size : ℕ} (old : List ℕ) {new : List ℕ} {t : Status} → Tells a code size old new → length new ≡ length old → a ≡ b → r ≡ s
+    → b .text ≡ r .text → t ≡ r .status → Says s old new (record { length = size; status = t }) × (size ≤ length new)
+tells-said {s = s} old x kept e f p q =
+    let w = ap (λ (i : InWords). i .text) e ∙ p ∙ ap (λ (i : Said). i .text) f in
+    let h = fronted old (s .text) (x .out-is ∙ ap (λ (i : List ℕ). overlaid i old) w) (x .length-is ∙ ap length w) kept in
+    (record { front = h; status = q ∙ ap (λ (i : Said). i .status) f }, h .inside)
+
+-- the code of what was told
+code-of : {a b : InWords} {code size : ℕ} {old new : List ℕ} → Tells a code size old new → a ≡ b → code ≡ b .code
+code-of x e = x .code-is ∙ ap (λ (i : InWords). i .code) e
+
+module _ (bs : List ℕ) where
+  said-none : readSheet bs ≡ none → noSheetSaid ≡ showSaid bs
+  unfolding showSaid ifSome
+  said-none e = rw e
+
+  said-some : (es : List Entry) → readSheet bs ≡ some es → record { text = entriesText es; status = Fine } ≡ showSaid bs
+  unfolding showSaid ifSome
+  said-some es e = rw e
+
+  module _ (old : List ℕ) {new : List ℕ} {code size : ℕ} {t : Status} (room : largestShow ≤ length old) (x : Tells (showAnswer bs (length old)) code size old new)
+      (kept : length new ≡ length old) (p : t ≡ statusOf code) where
+    pub says-show : Says (showSaid bs) old new (record { length = size; status = t }) × (size ≤ length new)
+    says-show = by (readSheet bs) refl
+      where
+        by : (o : Option (List Entry)) → readSheet bs ≡ o → Says (showSaid bs) old new (record { length = size; status = t }) × (size ≤ length new)
+        by none e =
+            let a = show-none bs (length old) e in
+            tells-said old x kept a (said-none e) refl (p ∙ sym (status-refused (λ z. omega (arith, code-of x a, z))))
+        by (some es) e =
+            let a = show-whole bs (length old) e room in
+            tells-said old x kept a (said-some es e) refl (p ∙ sym (status-fine (code-of x a)))
+
+-- ---- two sheets
+
+module _ {c : ℕ} (n : ℕ) where
+  pub compared-refused : (c ≡ 0 → ⊥) → Refused ≡ comparedAs c n
+  unfolding comparedAs if_then_else_
+  compared-refused z = rw (ne-eqb c 0 z)
+
+  pub compared-equal : c ≡ 0 → n ≡ 0 → Fine ≡ comparedAs c n
+  unfolding comparedAs if_then_else_
+  compared-equal z e = rw (eq-eqb c 0 z, eq-eqb n 0 e)
+
+  pub compared-changed : c ≡ 0 → (n ≡ 0 → ⊥) → Changed ≡ comparedAs c n
+  unfolding comparedAs if_then_else_
+  compared-changed z e = rw (eq-eqb c 0 z, ne-eqb n 0 e)
+
+-- a change has a line
+changed-so : (cs : List Change) {c n : ℕ} → c ≡ 0 → n ≡ length (changesText cs) → comparedAs c n ≡ changedIf cs
+unfolding changedIf
+changed-so [] {c} {n} z e = sym (compared-equal n z (e ∙ no-words [] .1 refl))
+changed-so (d ∷ cs) {c} {n} z e = sym (compared-changed n z (λ o. some-change (no-words (d ∷ cs) .0 (sym e ∙ o))))
+  where
+    some-change : (d ∷ cs ≡ []) → ⊥
+    some-change p = let q = ap length p in omega (arith, q)
+
+module _ (old new : List ℕ) where
+  pub none-said : (readSheet old ≡ none) ⊎ (readSheet new ≡ none) → noSheetSaid ≡ changesSaid old new
+  unfolding changesSaid ifSome
+  none-said h = rw (compared-none old new h)
+
+  pub both-said : (es fs : List Entry) → readSheet old ≡ some es → readSheet new ≡ some fs
+      → record { text = changesText (changes es fs); status = changedIf (changes es fs) } ≡ changesSaid old new
+  unfolding changesSaid ifSome
+  both-said es fs e f = rw (compared-both old new e f)
+
+  module _ (out : List ℕ) {after : List ℕ} {code size : ℕ} {t : Status} (room : largestChanges ≤ length out)
+      (x : Tells (changesAnswer old new (length out)) code size out after) (kept : length after ≡ length out) (p : t ≡ comparedAs code size) where
+    says-none : (readSheet old ≡ none) ⊎ (readSheet new ≡ none) → Says (changesSaid old new) out after (record { length = size; status = t }) × (size ≤ length after)
+    says-none h =
+        let a = changes-none old new (length out) h in
+        tells-said out x kept a (none-said h) refl (p ∙ sym (compared-refused size (λ z. omega (arith, code-of x a, z))))
+
+    pub says-changes : Says (changesSaid old new) out after (record { length = size; status = t }) × (size ≤ length after)
+    says-changes = by (readSheet old) refl (readSheet new) refl
+      where
+        by : (o : Option (List Entry)) → readSheet old ≡ o → (q : Option (List Entry)) → readSheet new ≡ q
+            → Says (changesSaid old new) out after (record { length = size; status = t }) × (size ≤ length after)
+        by none e q f = says-none (inl e)
+        by (some es) e none f = says-none (inr f)
+        by (some es) e (some fs) f =
+            let a = changes-whole old new (length out) e f room in
+            tells-said out x kept a (both-said es fs e f) refl
+            (p ∙ changed-so (changes es fs) (code-of x a) (x .length-is ∙ ap (λ (w : InWords). length (w .text)) a))
+
+-- ---- the load rule
+
+names-none : (bs : List ℕ) → readSheet bs ≡ none → [] ≡ namesIn bs
+unfolding namesIn ifSome
+names-none bs e = rw e
+
+names-some : (bs : List ℕ) (es : List Entry) → readSheet bs ≡ some es → es ≡ namesIn bs
+unfolding namesIn ifSome
+names-some bs es e = rw e
+
+pub not-twelve : (bs : List ℕ) → readSheet bs ≡ none → readAnswer bs .code ≡ 0 → ⊥
+unfolding readAnswer ifSome
+not-twelve bs e z = omega (arith, rw e at z)
+
+pub read-is : (bs : List ℕ) (es : List Entry) → readSheet bs ≡ some es → readAnswer bs .code ≡ 0
+unfolding readAnswer ifSome
+read-is bs es e = rw e
+
+-- the reader's code says whether a sheet is read
+read-zero : (bs : List ℕ) → readAnswer bs .code ≡ 0 → readSheet bs ≡ some (namesIn bs)
+read-zero bs z = by (readSheet bs) refl
+  where
+    by : (o : Option (List Entry)) → readSheet bs ≡ o → readSheet bs ≡ some (namesIn bs)
+    by none e = absurd (not-twelve bs e z)
+    by (some es) e = e ∙ ap some (names-some bs es e)
+
+read-other : (bs : List ℕ) → (readAnswer bs .code ≡ 0 → ⊥) → readSheet bs ≡ none
+read-other bs n = by (readSheet bs) refl
+  where
+    by : (o : Option (List Entry)) → readSheet bs ≡ o → readSheet bs ≡ none
+    by none e = e
+    by (some es) e = absurd (n (read-is bs es e))
+
+sheet-read : (bs : List ℕ) → isSheet bs ≡ true → readSheet bs ≡ some (namesIn bs)
+sheet-read bs y = let e = read-yes bs y in e ∙ ap some (names-some bs (entriesIn bs) e)
+
+-- the sheet of no names, byte for byte
+abbrev noNames : List ℕ
+noNames = 1 ∷ 0 ∷ 0 ∷ 0 ∷ 0 ∷ 0 ∷ 0 ∷ 0 ∷ 40 ∷ 0 ∷ 0 ∷ 0 ∷ 0 ∷ 0 ∷ 0 ∷ 0 ∷ 40 ∷ 0 ∷ 0 ∷ 0 ∷ 0 ∷ 0 ∷ 0 ∷ 0 ∷ 40 ∷ 0 ∷ 0 ∷ 0 ∷ 0 ∷ 0 ∷ 0 ∷ 0 ∷ 40 ∷ 0 ∷ 0 ∷ 0 ∷ 40 ∷ 0 ∷ 0 ∷ 0 ∷ []
+
+no-names-read : readSheet noNames ≡ some []
+unfolding meaning-open
+no-names-read = refl
+
+module _ (approved sheet out : List ℕ) {after : List ℕ} {c code size : ℕ} (r : c ≡ readAnswer approved .code) (y : isSheet sheet ≡ true) (room : largestChanges ≤ length out)
+    (kept : length after ≡ length out) where
+  changed-front : (es : List Entry) (old : List ℕ) → readSheet old ≡ some es → es ≡ namesIn approved → Tells (changesAnswer old sheet (length out)) code size out after
+      → Fronted (changesText (changes (namesIn approved) (namesIn sheet))) out after size
+  changed-front es old e p x =
+      let a = changes-whole old sheet (length out) e (sheet-read sheet y) room in
+      let w = ap (λ (i : InWords). i .text) a ∙ ap (λ (i : List Entry). changesText (changes i (namesIn sheet))) p in
+      fronted out _ (x .out-is ∙ ap (λ (i : List ℕ). overlaid i out) w) (x .length-is ∙ ap length w) kept
+
+  pub changed-known : c ≡ 0 → Tells (changesAnswer approved sheet (length out)) code size out after
+      → Fronted (changesText (changes (namesIn approved) (namesIn sheet))) out after size
+  changed-known z x = changed-front (namesIn approved) approved (read-zero approved (sym r ∙ z)) refl x
+
+  pub changed-all : (c ≡ 0 → ⊥) → Tells (changesAnswer noNames sheet (length out)) code size out after
+      → Fronted (changesText (changes (namesIn approved) (namesIn sheet))) out after size
+  changed-all n x = changed-front [] noNames no-names-read (names-none approved (read-other approved (λ z. n (r ∙ z)))) x
+
+-- a text written at the front of a buffer
+front-of : {d e : List ℕ} {r : ℕ} (s : List ℕ) → Wrote d 0 s e r → Fronted s d e r
+front-of {d} s a = record { line = a .same ∙ put-overlaid d s; ends = a .ends ∙ zero-add _; long = a .long; inside = a .inside }
+
+-- what stands at the front
+front-part : {w old new : List ℕ} {size : ℕ} → Fronted w old new size → take size new ≡ w
+front-part {w} {old} f = rw (f .ends, f .line) (overlaid-front w old)
+
+module _ {w old new part : List ℕ} {size : ℕ} (f : Fronted w old new size) (p : part ≡ take size new) where
+  pub part-short : length part ≤ length old
+  part-short = omega (arith, ap length p ∙ length-take-le size new (f .inside), f .inside, f .long)
+
+  pub look-front : {out mid after : List ℕ} {at r : ℕ} → Wrote out 0 (bytes "look\n") mid at → Wrote mid at part after r → Fronted (bytes "look\n" ++ w) out after r
+  look-front {out} {mid} {after} {at} {r} a b = front-of (bytes "look\n" ++ w) (and-then a (subst (λ (s : List ℕ). Wrote mid at s after r) (p ∙ front-part f) b))
+
+pub looks : (approved sheet : List ℕ) {out after : List ℕ} {r : ℕ} → Fronted (bytes "look\n" ++ changesText (changes (namesIn approved) (namesIn sheet))) out after r
+    → Fronted (lookText approved sheet) out after r
+unfolding lookText
+looks approved sheet f = f
+
+module _ {a : Answer} (approved : List ℕ) {k : ℕ} {n : Numbers} {s s₁ m m₁ : List ℕ} (x : Decides a approved k n s s₁ m m₁) where
+  kind-said : {kind : Loading} → loading a approved ≡ kind → loadSaidBy kind a approved ≡ loadSaid a approved
+  unfolding loadSaid
+  kind-said e = rw e
+
+  says-kind : {kind : Loading} {out after : List ℕ} {r : ℕ} → loading a approved ≡ kind → Fronted (loadSaidBy kind a approved .text) out after r
+      → Says (loadSaid a approved) out after (record { length = r; status = loadSaidBy kind a approved .status }) × (r ≤ length after)
+  says-kind {kind} {out} {after} {r} e f =
+      subst (λ (q : Said). Says q out after (record { length = r; status = loadSaidBy kind a approved .status }) × (r ≤ length after)) (kind-said e)
+      (record { front = f; status = refl }, f .inside)
+
+  pub says-loads : {out after : List ℕ} {r : ℕ} → k ≡ 0 → Wrote out 0 (bytes "loads\n") after r
+      → Says (loadSaid a approved) out after (record { length = r; status = Fine }) × (r ≤ length after)
+  unfolding loadSaidBy
+  says-loads z w = says-kind (number-loads (loading a approved) (sym (x .rule) ∙ z)) (front-of (bytes "loads\n") w)
+
+  module _ {part : List ℕ} (p : part ≡ take (n .sheet) s₁) where
+    part-sheet : part ≡ a .sheet
+    part-sheet = p ∙ sheet-there (x .replies)
+
+    -- what someone must look at is a sheet
+    pub look-sheet : k ≡ 1 → isSheet part ≡ true
+    look-sheet z =
+        let c = look-exactly a approved .0 (number-look (loading a approved) (sym (x .rule) ∙ z)) .0 in
+        rw part-sheet (x .replies .form c)
+
+    pub says-look : {out after : List ℕ} {r : ℕ} → k ≡ 1 → Fronted (lookText approved part) out after r
+        → Says (loadSaid a approved) out after (record { length = r; status = Changed }) × (r ≤ length after)
+    unfolding loadSaidBy
+    says-look {out} {after} {r} z f =
+        says-kind (number-look (loading a approved) (sym (x .rule) ∙ z)) (subst (λ (i : List ℕ). Fronted (lookText approved i) out after r) part-sheet f)
+
+  pub says-refused : {out after s₂ m₂ : List ℕ} {r code count : ℕ} → (k ≡ 0 → ⊥) → (k ≡ 1 → ⊥) → Lined a out after s s₂ m m₂ r code count
+      → Says (loadSaid a approved) out after (record { length = r; status = Refused }) × (r ≤ length after)
+  unfolding loadSaidBy
+  says-refused y z l =
+      says-kind (number-refused (loading a approved) (λ e. y (x .rule ∙ e)) (λ e. z (x .rule ∙ e))) (l .front)

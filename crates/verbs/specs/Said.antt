@@ -1,0 +1,105 @@
+-- What the program says, verb by verb: the bytes for standard output, and its status.
+use mathlib.Core.Path.{_≡_}
+use mathlib.Core.List.{List, [], _∷_, _++_}
+use Prim.Native.Nat.{ℕ, _+_}
+use lib.Dec.{eqb}
+use lib.ListN.{length}
+use Rattle.meaning.specs.Limits.{messageBuffer, largestChanges}
+use Rattle.meaning.specs.Base.{if_then_else_, ifSome, bytes}
+use Rattle.meaning.specs.Sheet.{Entry}
+use Rattle.meaning.specs.Read.{readSheet}
+use Rattle.meaning.specs.Answer.{Answer, overlaid}
+use Rattle.meaning.specs.Line.{lineOf}
+use Rattle.meaning.specs.Show.{entriesText, Change, changesText, changes, compared}
+use Rattle.meaning.specs.Load.{Loading, loads, look, refused, loading}
+use Rattle.line.specs.Printing.{Fronted}
+use Rattle.verbs.specs.declared.Status.{Status}
+use Rattle.verbs.specs.declared.Status.the-variants.{Fine, Changed, Refused, Misused}
+use Rattle.verbs.specs.declared.Done.{Done}
+use Rattle.verbs.specs.declared.Written.{Written}
+
+-- ---- the status
+
+-- "0 loads, 1 look, 2 refused", and 3 where nothing was asked that could be done
+abbrev pub statusNumber : Status → ℕ
+statusNumber Fine = 0
+statusNumber Changed = 1
+statusNumber Refused = 2
+statusNumber Misused = 3
+
+-- of the check's code
+unfoldable pub statusOf : ℕ → Status
+statusOf code = if eqb code 0 then Fine else Refused
+
+-- ---- what is said
+
+pub record Said : Type 0 where
+  pub text : List ℕ
+  pub status : Status
+
+-- it stands at the front of a buffer, and the rest of that is kept
+pub record Says (s : Said) (old new : List ℕ) (d : Done) : Type 0 where
+  pub front : Fronted (s .text) old new (d .length)
+  pub status : d .status ≡ s .status
+
+-- what stands around a message has fewer than 64 bytes
+abbrev pub lineRoom : ℕ
+lineRoom = 64 + messageBuffer
+
+-- `check`: the line of `typecheck`
+unfoldable pub checkSaid : Answer → Said
+checkSaid a = record { text = lineOf a; status = statusOf (a .code) }
+
+-- `sheet`: the sheet for standard output, and the line of a refusal for standard error
+unfoldable pub refusalOf : Answer → List ℕ
+refusalOf a = if eqb (a .code) 0 then [] else lineOf a
+
+-- the answer's line stands at the front of its buffer in either case; told of it is as much as the refusal has
+pub record Writes (a : Answer) (oldSheet newSheet oldLine newLine : List ℕ) (w : Written) : Type 0 where
+  pub sheet : Fronted (a .sheet) oldSheet newSheet (w .sheet)
+  pub line : newLine ≡ overlaid (lineOf a) oldLine
+  pub told : w .line ≡ length (refusalOf a)
+  pub status : w .status ≡ statusOf (a .code)
+
+-- what is no sheet has nothing to show
+abbrev pub noSheetSaid : Said
+noSheetSaid = record { text = []; status = Refused }
+
+-- `show`: a line for each name
+unfoldable pub showSaid : List ℕ → Said
+showSaid bs = ifSome (readSheet bs) (λ es. record { text = entriesText es; status = Fine }) noSheetSaid
+
+-- `changes`: a line for each name that differs
+unfoldable pub changedIf : List Change → Status
+changedIf [] = Fine
+changedIf (c ∷ cs) = Changed
+
+unfoldable pub changesSaid : List ℕ → List ℕ → Said
+changesSaid old new = ifSome (compared old new) (λ cs. record { text = changesText cs; status = changedIf cs }) noSheetSaid
+
+-- the same status by the code and the length of what `show::changes` told
+unfoldable pub comparedAs : ℕ → ℕ → Status
+comparedAs code size = if eqb code 0 then if eqb size 0 then Fine else Changed else Refused
+
+-- `load`: what is no sheet counts as the sheet of no names, so that every name is new
+unfoldable pub namesIn : List ℕ → List Entry
+namesIn bs = ifSome (readSheet bs) (λ es. es) []
+
+unfoldable pub lookText : List ℕ → List ℕ → List ℕ
+lookText approved sheet = bytes "look\n" ++ changesText (changes (namesIn approved) (namesIn sheet))
+
+unfoldable pub loadSaidBy : Loading → Answer → List ℕ → Said
+loadSaidBy loads a approved = record { text = bytes "loads\n"; status = Fine }
+loadSaidBy look a approved = record { text = lookText approved (a .sheet); status = Changed }
+loadSaidBy refused a approved = record { text = lineOf a; status = Refused }
+
+unfoldable pub loadSaid : Answer → List ℕ → Said
+loadSaid a approved = loadSaidBy (loading a approved) a approved
+
+-- room for `look` and all that changed, more than a line needs
+abbrev pub loadRoom : ℕ
+loadRoom = 5 + largestChanges
+
+unfoldable pub said-open : Unit {0}
+unfolding statusOf checkSaid refusalOf showSaid changedIf changesSaid comparedAs namesIn lookText loadSaidBy loadSaid
+said-open = tt

@@ -1,0 +1,102 @@
+-- What the words behind the program's name ask for. (The program's own; in no document.)
+use mathlib.Core.Bool.{Bool, true, false}
+use mathlib.Core.List.{List, [], _∷_}
+use Prim.Native.Nat.{ℕ, _+_}
+use lib.Dec.{eqb}
+use lib.ListN.{getD}
+use Rattle.meaning.specs.Base.{if_then_else_, bytes, sameText}
+use Rattle.verbs.specs.declared.Verb.{Verb}
+use Rattle.verbs.specs.declared.Verb.the-variants.{Check, Sheet, Show, Changes, Load, Help, Nothing}
+use Rattle.verbs.specs.declared.Kind.{Kind}
+use Rattle.verbs.specs.declared.Kind.the-variants.{Strict, Input, Name, Unknown}
+use Rattle.verbs.specs.declared.Files.{Files}
+use Rattle.verbs.specs.declared.Files.the-variants.{None, One, Two, Wrong}
+use Rattle.verbs.specs.declared.Asked.{Asked}
+use Rattle.verbs.specs.declared.Command.{Command}
+use Rattle.verbs.specs.declared.Command.the-variants.{CheckImage, WriteSheet, ShowSheet, TellChanges, LoadImage, Usage, NoVerb, BadWords}
+
+-- ---- a word
+
+unfoldable pub verbOf : List ℕ → Verb
+verbOf w =
+    if sameText w (bytes "check") then Check
+    else if sameText w (bytes "sheet") then Sheet
+    else if sameText w (bytes "show") then Show
+    else if sameText w (bytes "changes") then Changes
+    else if sameText w (bytes "load") then Load
+    else if sameText w (bytes "help") then Help
+    else Nothing
+
+-- `-` is standard input, and no name begins with a `-`: `./-x` is the file `-x`
+unfoldable pub kindOf : List ℕ → Kind
+kindOf w =
+    if sameText w (bytes "--strict") then Strict
+    else if sameText w (bytes "-") then Input
+    else if eqb (getD w 0 0) 45 then Unknown
+    else Name
+
+-- ---- the words behind the verb, one after the other: a is the argument's number
+
+unfoldable pub withFile : Files → ℕ → Files
+withFile None a = One a
+withFile (One i) a = Two i a
+withFile (Two i j) a = Wrong
+withFile Wrong a = Wrong
+
+-- `--strict` once, standard input once, and no word of another kind
+unfoldable pub withWord : Asked → ℕ → Kind → Asked
+withWord w a Strict = record { strict = true; input = w .input; files = if w .strict then Wrong else w .files }
+withWord w a Input = record { strict = w .strict; input = true; files = if w .input then Wrong else withFile (w .files) a }
+withWord w a Name = record { strict = w .strict; input = w .input; files = withFile (w .files) a }
+withWord w a Unknown = record { strict = w .strict; input = w .input; files = Wrong }
+
+abbrev pub nothingAsked : Asked
+nothingAsked = record { strict = false; input = false; files = None }
+
+-- the words from argument a on
+unfoldable pub askedBy : Asked → ℕ → List (List ℕ) → Asked
+askedBy w a [] = w
+askedBy w a (v ∷ vs) = askedBy (withWord w a (kindOf v)) (a + 1) vs
+
+-- ---- what is to be done
+
+unfoldable pub settingIf : Bool → ℕ
+settingIf strict = if strict then 1 else 0
+
+-- no file, one or two: what is done with them, and nothing where there are others
+unfoldable pub noFile : Command → Files → Command
+noFile c None = c
+noFile c (One i) = BadWords
+noFile c (Two i j) = BadWords
+noFile c Wrong = BadWords
+
+unfoldable pub oneFile : (ℕ → Command) → Files → Command
+oneFile c None = BadWords
+oneFile c (One i) = c i
+oneFile c (Two i j) = BadWords
+oneFile c Wrong = BadWords
+
+unfoldable pub twoFiles : (ℕ → ℕ → Command) → Files → Command
+twoFiles c None = BadWords
+twoFiles c (One i) = BadWords
+twoFiles c (Two i j) = c i j
+twoFiles c Wrong = BadWords
+
+-- only what reads an image may be strict
+unfoldable pub commandOf : Verb → Asked → Command
+commandOf Check w = oneFile (λ i. CheckImage (settingIf (w .strict)) i) (w .files)
+commandOf Sheet w = oneFile (λ i. WriteSheet (settingIf (w .strict)) i) (w .files)
+commandOf Load w = twoFiles (λ i j. LoadImage (settingIf (w .strict)) i j) (w .files)
+commandOf Show w = if w .strict then BadWords else oneFile (λ i. ShowSheet i) (w .files)
+commandOf Changes w = if w .strict then BadWords else twoFiles (λ i j. TellChanges i j) (w .files)
+commandOf Help w = if w .strict then BadWords else noFile Usage (w .files)
+commandOf Nothing w = NoVerb
+
+-- of all words behind the program's name; the first of them is argument 1
+unfoldable pub commandTold : List (List ℕ) → Command
+commandTold [] = NoVerb
+commandTold (v ∷ ws) = commandOf (verbOf v) (askedBy nothingAsked 2 ws)
+
+unfoldable pub words-open : Unit {0}
+unfolding verbOf kindOf withFile withWord askedBy settingIf noFile oneFile twoFiles commandOf commandTold
+words-open = tt
