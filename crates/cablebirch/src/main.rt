@@ -273,50 +273,17 @@ fn is_changed(status: Status) -> bool {
 }
 
 fn run_help() -> Status {
-    let mut good = io::write_all(
-        STDOUT_FILENO,
-        b"usage: cablebirch VERB ..   (a file `-` is standard input)\n",
-    );
-    good = good
-        && io::write_all(
-            STDOUT_FILENO,
-            b"  check [--strict] IMAGE          the answer to a script's image, one line\n",
-        );
-    good = good
-        && io::write_all(
-            STDOUT_FILENO,
-            b"  sheet [--strict] IMAGE          the type sheet of an accepted script\n",
-        );
-    good = good
-        && io::write_all(
-            STDOUT_FILENO,
-            b"  show SHEET                      a sheet's names and types\n",
-        );
-    good = good
-        && io::write_all(
-            STDOUT_FILENO,
-            b"  changes OLD NEW                 what changed between two sheets\n",
-        );
-    good = good
-        && io::write_all(
-            STDOUT_FILENO,
-            b"  load [--strict] APPROVED IMAGE  loads, or look and what changed, or why it is refused\n",
-        );
-    good = good
-        && io::write_all(
-            STDOUT_FILENO,
-            b"  help                            these lines\n",
-        );
-    good = good
-        && io::write_all(
-            STDOUT_FILENO,
-            b"status: 0 accepted, equal or loads; 1 changed or look; 2 refused or no sheet; 3 nothing done\n",
-        );
-    if good {
-        return Status::Fine;
-    }
-    os::fail(b"cablebirch: standard output");
-    Status::Misused
+    print(
+        b"usage: cablebirch VERB ..   (a file `-` is standard input)\n  \
+          check [--strict] IMAGE          the answer to a script's image, one line\n  \
+          sheet [--strict] IMAGE          the type sheet of an accepted script\n  \
+          show SHEET                      a sheet's names and types\n  \
+          changes OLD NEW                 what changed between two sheets\n  \
+          load [--strict] APPROVED IMAGE  loads, or look and what changed, or why it is refused\n  \
+          help                            these lines\n\
+          status: 0 accepted, equal or loads; 1 changed or look; 2 refused or no sheet; 3 nothing done\n",
+        Status::Fine,
+    )
 }
 
 // ---- the words of the program
