@@ -2,8 +2,10 @@
 // asked and what is said stands in `verbs`; here files are read and the answers written. All of it is proved safe and
 // ending, and no more, since no contract can say what is read or written. The status goes to descriptor 3 as one digit,
 // since `main` returns nothing.
+ghost use mathlib.Core.Path.{_≡_};
 ghost use Prim.Native.Nat.{_≤_};
 ghost use lib.ListN.{length};
+ghost use Rattle.cablebirch.specs.Files.{lengthRead};
 use checker::cablebirch_read_sheet;
 use libc::EACCES;
 use libc::EISDIR;
@@ -42,80 +44,84 @@ fn say(text: &[u8]) {
     io::write_all(STDERR_FILENO, text);
 }
 
-// Why a file could not be read, in the system's words. An error of 0 is a file that grew behind the end that was read.
-fn say_unread(name: &[u8], error: i32) {
-    say(b"cablebirch: ");
-    if error == 0 {
-        say(name);
-        say(b": it grew while it was read\n");
-    } else {
-        os::fail(name);
+// A file was read, and so many bytes of it stand at the front of the buffer; or it was not, by the system's error; or it
+// grew behind the end that was read.
+pub enum Got {
+    Read(usize),
+    Failed(i32),
+    Grew,
+}
+
+// How much of a file stands in the buffer.
+fn length_of(got: Got) -> usize
+    ensures { λ r. ⌜ r ≡ lengthRead got ⌝ }
+{
+    match got {
+        Got::Read(n) => n,
+        Got::Failed(_) => 0,
+        Got::Grew => 0,
     }
 }
 
-// Whether a file was read, how much of it stands in the buffer, and the system's error if it was not.
-struct Got {
-    is_read: bool,
-    length: usize,
-    error: i32,
+// Why a file could not be read, if so: in the system's words, while it knows them.
+fn say_unread(name: &[u8], got: Got) {
+    match got {
+        Got::Read(_) => {}
+        Got::Failed(_) => {
+            say(b"cablebirch: ");
+            os::fail(name);
+        }
+        Got::Grew => {
+            say(b"cablebirch: ");
+            say(name);
+            say(b": it grew while it was read\n");
+        }
+    }
 }
 
 // `read_full` stops short at the end and at a read that fails: one more read tells them apart.
 fn read_from(fd: i32, buf: &mut [u8]) -> Got
-    ensures { λ r. ⌜ r .length ≤ length (now (buf .exit)) ⌝ }
+    ensures { λ r. ⌜ lengthRead r ≤ length (now (buf .exit)) ⌝ }
 {
     let length = io::read_full(fd, buf);
     if length == buf.len() {
-        return Got {
-            is_read: true,
-            length,
-            error: 0,
-        };
+        return Got::Read(length);
     }
     let mut more = [0u8; 1];
     let got = libc::read(fd, &mut more);
     if got == 0 {
-        return Got {
-            is_read: true,
-            length,
-            error: 0,
-        };
+        return Got::Read(length);
     }
-    Got {
-        is_read: false,
-        length: 0,
-        error: if got < 0 { os::errno() } else { 0 },
+    if got < 0 {
+        return Got::Failed(os::errno());
     }
+    Got::Grew
 }
 
-// Reads the file that an argument names. If it cannot be read, `tells` asks to say why at once, while the system knows.
+// Reads the file that an argument names. If it cannot be read, `tells` asks to say why at once.
 fn read_file(a: usize, buf: &mut [u8], tells: bool) -> Got
-    ensures { λ r. ⌜ r .length ≤ length (now (buf .exit)) ⌝ }
+    ensures { λ r. ⌜ lengthRead r ≤ length (now (buf .exit)) ⌝ }
 {
     let mut name = io::buffer();
     let n = os::arg(a, &mut name);
     if same(&name[..n], b"-") {
         let got = read_from(STDIN_FILENO, buf);
-        if tells && !got.is_read {
-            say_unread(b"standard input", got.error);
+        if tells {
+            say_unread(b"standard input", got);
         }
         return got;
     }
     let fd = os::open_read(&name[..n]);
     if fd < 0 {
-        let error = os::errno();
+        let got = Got::Failed(os::errno());
         if tells {
-            say_unread(&name[..n], error);
+            say_unread(&name[..n], got);
         }
-        return Got {
-            is_read: false,
-            length: 0,
-            error,
-        };
+        return got;
     }
     let got = read_from(fd, buf);
-    if tells && !got.is_read {
-        say_unread(&name[..n], got.error);
+    if tells {
+        say_unread(&name[..n], got);
     }
     libc::close(fd);
     got
@@ -147,11 +153,11 @@ fn print(text: &[u8], status: Status) -> Status {
 fn run_check(setting: u32, a: usize) -> Status {
     let mut image = [0u8; READ_AT_MOST];
     let got = read_file(a, &mut image, true);
-    if !got.is_read {
+    let Got::Read(_) = got else {
         return Status::Misused;
-    }
+    };
     let mut out = [0u8; LINE];
-    let done = say_check(setting, text(&image, 0, got.length), &mut out);
+    let done = say_check(setting, text(&image, 0, length_of(got)), &mut out);
     let status = done.status;
     print(text(&out, 0, done.length), status)
 }
@@ -159,12 +165,17 @@ fn run_check(setting: u32, a: usize) -> Status {
 fn run_sheet(setting: u32, a: usize) -> Status {
     let mut image = [0u8; READ_AT_MOST];
     let got = read_file(a, &mut image, true);
-    if !got.is_read {
+    let Got::Read(_) = got else {
         return Status::Misused;
-    }
+    };
     let mut sheet = [0u8; SHEET_BUFFER];
     let mut out = [0u8; LINE];
-    let w = write_sheet(setting, text(&image, 0, got.length), &mut sheet, &mut out);
+    let w = write_sheet(
+        setting,
+        text(&image, 0, length_of(got)),
+        &mut sheet,
+        &mut out,
+    );
     say(text(&out, 0, w.line));
     let status = w.status;
     print(text(&sheet, 0, w.sheet), status)
@@ -182,10 +193,10 @@ fn say_no_sheet(a: usize) {
 fn run_show(a: usize) -> Status {
     let mut sheet = [0u8; READ_AT_MOST];
     let got = read_file(a, &mut sheet, true);
-    if !got.is_read {
+    let Got::Read(_) = got else {
         return Status::Misused;
-    }
-    let shown = text(&sheet, 0, got.length);
+    };
+    let shown = text(&sheet, 0, length_of(got));
     if !is_sheet(shown) {
         say_no_sheet(a);
     }
@@ -207,16 +218,16 @@ fn say_if_no_sheet(a: usize, old: &[u8], b: usize, new: &[u8]) {
 fn run_changes(a: usize, b: usize) -> Status {
     let mut old = [0u8; READ_AT_MOST];
     let was = read_file(a, &mut old, true);
-    if !was.is_read {
+    let Got::Read(_) = was else {
         return Status::Misused;
-    }
+    };
     let mut new = [0u8; READ_AT_MOST];
     let is = read_file(b, &mut new, true);
-    if !is.is_read {
+    let Got::Read(_) = is else {
         return Status::Misused;
-    }
-    let before = text(&old, 0, was.length);
-    let after = text(&new, 0, is.length);
+    };
+    let before = text(&old, 0, length_of(was));
+    let after = text(&new, 0, length_of(is));
     say_if_no_sheet(a, before, b, after);
     let mut out = [0u8; LARGEST_CHANGES];
     let done = say_changes(before, after, &mut out);
@@ -236,13 +247,15 @@ fn say_reason(error: i32) {
 }
 
 // Why every name counts as new: nothing was approved yet, or what was is no sheet.
-fn say_all_new(a: usize, is_read: bool, error: i32) {
+fn say_all_new(a: usize, was: Got) {
     say_name(a);
-    if is_read {
-        say(b" is no type sheet (12)");
-    } else {
-        say(b": ");
-        say_reason(error);
+    match was {
+        Got::Read(_) => say(b" is no type sheet (12)"),
+        Got::Failed(error) => {
+            say(b": ");
+            say_reason(error);
+        }
+        Got::Grew => say(b": it grew while it was read"),
     }
     say(b": every name is new\n");
 }
@@ -250,17 +263,17 @@ fn say_all_new(a: usize, is_read: bool, error: i32) {
 fn run_load(setting: u32, a: usize, b: usize) -> Status {
     let mut image = [0u8; READ_AT_MOST];
     let got = read_file(b, &mut image, true);
-    if !got.is_read {
+    let Got::Read(_) = got else {
         return Status::Misused;
-    }
+    };
     let mut sheet = [0u8; READ_AT_MOST];
     let was = read_file(a, &mut sheet, false);
-    let approved = text(&sheet, 0, was.length);
+    let approved = text(&sheet, 0, length_of(was));
     let mut out = [0u8; LOAD];
-    let done = say_load(setting, text(&image, 0, got.length), approved, &mut out);
+    let done = say_load(setting, text(&image, 0, length_of(got)), approved, &mut out);
     let status = done.status;
     if is_changed(status) && !is_sheet(approved) {
-        say_all_new(a, was.is_read, was.error);
+        say_all_new(a, was);
     }
     print(text(&out, 0, done.length), status)
 }
