@@ -6,7 +6,8 @@ ghost use mathlib.Core.Path.{_≡_};
 ghost use Prim.Native.Nat.{_≤_};
 ghost use lib.ListN.{length};
 ghost use Rattle.cablebirch.specs.Files.{lengthRead};
-use checker::cablebirch_read_sheet;
+use checker::Reading;
+use checker::read_sheet;
 use libc::EACCES;
 use libc::EISDIR;
 use libc::ENOENT;
@@ -44,8 +45,8 @@ fn say(text: &[u8]) {
     io::write_all(STDERR_FILENO, text);
 }
 
-// A file was read, and so many bytes of it stand at the front of the buffer; or it was not, by the system's error; or it
-// grew behind the end that was read.
+// A file was read, and so many bytes of it stand at the front of the buffer; or it was not, by the error of the system; or
+// it grew behind the end that was read.
 pub enum Got {
     Read(usize),
     Failed(i32),
@@ -182,7 +183,11 @@ fn run_sheet(setting: u32, a: usize) -> Status {
 }
 
 fn is_sheet(bytes: &[u8]) -> bool {
-    cablebirch_read_sheet(bytes) == 0
+    let reading = read_sheet(bytes);
+    match reading {
+        Reading::Sheet => true,
+        Reading::NoSheet => false,
+    }
 }
 
 fn say_no_sheet(a: usize) {

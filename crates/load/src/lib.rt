@@ -63,9 +63,9 @@ pub struct Verdict {
 }
 
 // The cases' numbers.
-pub const LOADS: u32 = 0;
+const LOADS: u32 = 0;
 
-pub const LOOK: u32 = 1;
+const LOOK: u32 = 1;
 
 const REFUSED: u32 = 2;
 

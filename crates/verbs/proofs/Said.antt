@@ -8,6 +8,7 @@ use Prim.Native.Nat.{ℕ, _+_, _≤_}
 use native.Mathlib.Nat.{zero-add}
 use native.Mathlib.Omega.{arith}
 use borrow.Author.Tests.{eq-eqb, ne-eqb}
+use denote.Enum.Declared.{tagOf}
 use lib.ListN.{length, take}
 use lib.Seq.{length-take-le}
 use Rattle.meaning.specs.Limits.{largestShow, largestChanges}
@@ -17,7 +18,7 @@ use Rattle.meaning.specs.Read.{entriesIn, isSheet, readSheet}
 use Rattle.meaning.specs.Answer.{Answer, readAnswer, overlaid, meaning-open}
 use Rattle.meaning.specs.Line.{lineOf}
 use Rattle.meaning.specs.Show.{entriesText, Change, changesText, changes, InWords, showAnswer, changesAnswer}
-use Rattle.meaning.specs.Load.{Loading, loads, look, refused, loading}
+use Rattle.meaning.specs.Load.{Loading, loads, look, refused, loading, loadingNumber}
 use Rattle.meaning.proofs.SheetForm.{read-yes}
 use Rattle.meaning.proofs.Changed.{no-words}
 use Rattle.meaning.proofs.InWords.{show-none, show-whole, compared-none, compared-both, changes-none, changes-whole}
@@ -25,12 +26,18 @@ use Rattle.meaning.proofs.Loads.{number-loads, number-look, number-refused, loo
 use Rattle.meaning.proofs.Answers.{overlaid-front}
 use Rattle.words.specs.Words.{Wrote}
 use Rattle.words.proofs.Laws.{put-overlaid, and-then}
-use Rattle.checker.specs.Answers.{Numbers}
+use Rattle.checker.specs.Answers.{Numbers, sheetNumbers, numbersOf, numbersIn, readingNumbers}
+use Rattle.checker.specs.declared.Answer.{Answer as Reply}
+use Rattle.checker.specs.declared.Reading.{Reading}
+use Rattle.checker.specs.declared.Reading.the-variants.{Sheet, NoSheet}
 use Rattle.line.specs.Printing.{Fronted, Lined}
 use Rattle.line.proofs.Answered.{fronted}
 use Rattle.show.specs.Words.{Tells}
-use Rattle.load.specs.Rule.{Decides}
-use Rattle.load.proofs.Cases.{sheet-there}
+use Rattle.load.specs.Rule.{kindOf, numbersTold, Decides, Decided}
+use Rattle.load.specs.declared.Loading.{Loading as Decision}
+use Rattle.load.specs.declared.Loading.the-variants.{Loads, Look, Refused as Refuses}
+use Rattle.load.proofs.Loading.{the-type}
+use Rattle.load.proofs.Cases.{sheet-there, decides-as}
 use Rattle.verbs.specs.Said.{statusOf, statusNumber, Said, Says, checkSaid, refusalOf, Writes, noSheetSaid, showSaid, changedIf, changesSaid, comparedAs, namesIn, lookText, loadSaidBy, loadSaid}
 use Rattle.verbs.specs.declared.Status.{Status}
 use Rattle.verbs.specs.declared.Status.the-variants.{Fine, Changed, Refused}
@@ -210,7 +217,17 @@ no-names-read : readSheet noNames ≡ some []
 unfolding meaning-open
 no-names-read = refl
 
-module _ (approved sheet out : List ℕ) {after : List ℕ} {c code size : ℕ} (r : c ≡ readAnswer approved .code) (y : isSheet sheet ≡ true) (room : largestChanges ≤ length out)
+-- what the reader said of the approved bytes
+pub approved-read : (bs : List ℕ) {r : Reading} → r ≡ Sheet → readingNumbers r ≡ numbersIn (readAnswer bs) → readSheet bs ≡ some (namesIn bs)
+approved-read bs p e = read-zero bs (sym (ap (λ (n : Numbers). n .code) e) ∙ ap (λ (q : Reading). readingNumbers q .code) p)
+
+pub approved-none : (bs : List ℕ) {r : Reading} → r ≡ NoSheet → readingNumbers r ≡ numbersIn (readAnswer bs) → [] ≡ namesIn bs
+approved-none bs p e =
+    let c = sym (ap (λ (n : Numbers). n .code) e) ∙ ap (λ (q : Reading). readingNumbers q .code) p in
+    names-none bs (read-other bs (λ z. omega (arith, z, c)))
+
+-- the changes from an old sheet, whose names are those of the approved bytes
+module _ (approved sheet out : List ℕ) {after : List ℕ} {code size : ℕ} (y : isSheet sheet ≡ true) (room : largestChanges ≤ length out)
     (kept : length after ≡ length out) where
   changed-front : (es : List Entry) (old : List ℕ) → readSheet old ≡ some es → es ≡ namesIn approved → Tells (changesAnswer old sheet (length out)) code size out after
       → Fronted (changesText (changes (namesIn approved) (namesIn sheet))) out after size
@@ -219,13 +236,13 @@ module _ (approved sheet out : List ℕ) {after : List ℕ} {c code size : ℕ} 
       let w = ap (λ (i : InWords). i .text) a ∙ ap (λ (i : List Entry). changesText (changes i (namesIn sheet))) p in
       fronted out _ (x .out-is ∙ ap (λ (i : List ℕ). overlaid i out) w) (x .length-is ∙ ap length w) kept
 
-  pub changed-known : c ≡ 0 → Tells (changesAnswer approved sheet (length out)) code size out after
+  pub changed-known : readSheet approved ≡ some (namesIn approved) → Tells (changesAnswer approved sheet (length out)) code size out after
       → Fronted (changesText (changes (namesIn approved) (namesIn sheet))) out after size
-  changed-known z x = changed-front (namesIn approved) approved (read-zero approved (sym r ∙ z)) refl x
+  changed-known e x = changed-front (namesIn approved) approved e refl x
 
-  pub changed-all : (c ≡ 0 → ⊥) → Tells (changesAnswer noNames sheet (length out)) code size out after
+  pub changed-all : [] ≡ namesIn approved → Tells (changesAnswer noNames sheet (length out)) code size out after
       → Fronted (changesText (changes (namesIn approved) (namesIn sheet))) out after size
-  changed-all n x = changed-front [] noNames no-names-read (names-none approved (read-other approved (λ z. n (r ∙ z)))) x
+  changed-all e x = changed-front [] noNames no-names-read e x
 
 -- a text written at the front of a buffer
 front-of : {d e : List ℕ} {r : ℕ} (s : List ℕ) → Wrote d 0 s e r → Fronted s d e r
@@ -246,6 +263,22 @@ pub looks : (approved sheet : List ℕ) {out after : List ℕ} {r : ℕ} → Fro
     → Fronted (lookText approved sheet) out after r
 unfolding lookText
 looks approved sheet f = f
+
+-- the case by its number
+tag-loads : (r : Decision) → tagOf the-type r ≡ 0 → 0 ≡ loadingNumber (kindOf r)
+tag-loads (Loads n) e = refl
+tag-loads (Look n) e = absurd (omega (arith, e))
+tag-loads (Refuses q) e = absurd (omega (arith, e))
+
+module _ {a : Answer} {approved : List ℕ} {r : Decision} {s s₁ m m₁ : List ℕ} (x : Decided a approved r s s₁ m m₁) where
+  pub decided-loads : tagOf the-type r ≡ 0 → Decides a approved 0 (numbersTold r) s s₁ m m₁
+  decided-loads e = decides-as x (tag-loads r e) refl
+
+  pub decided-look : {n : ℕ} → r ≡ Look n → Decides a approved 1 (sheetNumbers n) s s₁ m m₁
+  decided-look e = decides-as x (sym (ap (λ (d : Decision). loadingNumber (kindOf d)) e)) (sym (ap numbersTold e))
+
+  pub decided-refused : {q : Reply} {n : Numbers} → r ≡ Refuses q → n ≡ numbersOf q → Decides a approved 2 n s s₁ m m₁
+  decided-refused e p = decides-as x (sym (ap (λ (d : Decision). loadingNumber (kindOf d)) e)) (p ∙ sym (ap numbersTold e))
 
 module _ {a : Answer} (approved : List ℕ) {k : ℕ} {n : Numbers} {s s₁ m m₁ : List ℕ} (x : Decides a approved k n s s₁ m m₁) where
   kind-said : {kind : Loading} → loading a approved ≡ kind → loadSaidBy kind a approved ≡ loadSaid a approved

@@ -1,5 +1,5 @@
-// What the words behind the program's name ask for, and what each verb says: the bytes for standard output and the status,
-// over slices. The program `cablebirch` reads the files and writes what is said.
+// What the words behind the program's name ask for, and what each verb says, over slices: the bytes for standard output
+// and the status. The program `cablebirch` reads the files and writes what is said.
 ghost use mathlib.Core.Path.{_≡_};
 ghost use mathlib.Core.Bool.{true};
 ghost use Prim.Native.Nat.{_+_, _<_, _≤_};
@@ -9,22 +9,22 @@ ghost use Rattle.meaning.specs.Read.{isSheet};
 ghost use Rattle.meaning.specs.Answer.{answer};
 ghost use Rattle.meaning.specs.Show.{changesText, changes as changesOf};
 ghost use Rattle.line.specs.Printing.{Fronted};
+ghost use Rattle.show.specs.Words.{tellingLength};
 ghost use Rattle.verbs.specs.Words.{verbOf, withFile, withWord, settingIf};
 ghost use Rattle.verbs.specs.Words.{kindOf as kindTold, commandOf as commandAsked};
 ghost use Rattle.verbs.specs.Said.{statusNumber, statusOf, Says, checkSaid, lineRoom, Writes};
 ghost use Rattle.verbs.specs.Said.{showSaid, comparedAs, changesSaid, namesIn, lookText};
 ghost use Rattle.verbs.specs.Said.{loadSaid, loadRoom};
 use checker::PLAIN;
+use checker::Reading;
 use checker::STRICT;
-use checker::cablebirch_read_sheet;
+use checker::read_sheet;
+use checker::replied;
 use limits::LARGEST_CHANGES;
 use limits::MESSAGE_BUFFER;
 use limits::SHEET_BUFFER;
-use load::LOADS;
-use load::LOOK;
-use load::cablebirch_changes;
-use load::cablebirch_load;
-use load::cablebirch_show;
+use load::Loading;
+use show::Telling;
 use words::put;
 use words::same;
 use words::text;
@@ -317,20 +317,27 @@ pub fn say_show(sheet: &[u8], out: &mut [u8]) -> Done
     ensures { λ r. ⌜ Says (showSaid (now (sheet .entry))) (now (out .entry)) (now (out .exit)) r ⌝ }
     ensures { λ r. ⌜ r .length ≤ length (now (out .exit)) ⌝ }
 {
-    let w = cablebirch_show(sheet, out);
-    let status = status_of(w.code);
-    Done {
-        length: w.length,
-        status,
+    let told = show::show(sheet, out);
+    match told {
+        Telling::Told(length) => Done {
+            length,
+            status: Status::Fine,
+        },
+        Telling::NoRoom => Done {
+            length: 0,
+            status: Status::Refused,
+        },
+        Telling::NoSheet => Done {
+            length: 0,
+            status: Status::Refused,
+        },
     }
 }
 
-fn compared_as(code: u32, length: usize) -> Status
-    ensures { λ r. ⌜ r ≡ comparedAs code length ⌝ }
+// Whether anything changed, by how much is told of it.
+fn changed_by(length: usize) -> Status
+    ensures { λ r. ⌜ r ≡ comparedAs 0 length ⌝ }
 {
-    if code != 0 {
-        return Status::Refused;
-    }
     if length == 0 {
         return Status::Fine;
     }
@@ -343,18 +350,39 @@ pub fn say_changes(old: &[u8], new: &[u8], out: &mut [u8]) -> Done
         (now (out .entry)) (now (out .exit)) r ⌝ }
     ensures { λ r. ⌜ r .length ≤ length (now (out .exit)) ⌝ }
 {
-    let w = cablebirch_changes(old, new, out);
-    let length = w.length;
-    let status = compared_as(w.code, length);
-    Done { length, status }
+    let told = show::changes(old, new, out);
+    match told {
+        Telling::Told(length) => Done {
+            length,
+            status: changed_by(length),
+        },
+        Telling::NoRoom => Done {
+            length: 0,
+            status: Status::Refused,
+        },
+        Telling::NoSheet => Done {
+            length: 0,
+            status: Status::Refused,
+        },
+    }
 }
 
 // ---- the load rule
 
-// The sheet of no names is a header alone: version 1; no types, elements, names and texts, each area behind the header's
-// 40 bytes; 40 bytes in all.
+// The sheet of no names is a header alone: version 1; no types, elements, names and texts, each area behind the 40 bytes
+// of the header; 40 bytes in all.
 const NO_NAMES: [u8; 40] =
     *b"\x01\0\0\0\0\0\0\0\x28\0\0\0\0\0\0\0\x28\0\0\0\0\0\0\0\x28\0\0\0\0\0\0\0\x28\0\0\0\x28\0\0\0";
+
+fn length_told(told: Telling) -> usize
+    ensures { λ r. ⌜ r ≡ tellingLength told ⌝ }
+{
+    match told {
+        Telling::Told(length) => length,
+        Telling::NoRoom => 0,
+        Telling::NoSheet => 0,
+    }
+}
 
 // What changed from the approved sheet. Where that is none, every name is new.
 fn put_changed(approved: &[u8], sheet: &[u8], out: &mut [u8]) -> usize
@@ -364,13 +392,14 @@ fn put_changed(approved: &[u8], sheet: &[u8], out: &mut [u8]) -> usize
         (changesText (changesOf (namesIn (now (approved .entry))) (namesIn (now (sheet .entry)))))
         (now (out .entry)) (now (out .exit)) r ⌝ }
 {
-    if cablebirch_read_sheet(approved) == 0 {
-        let w = cablebirch_changes(approved, sheet, out);
-        return w.length;
+    let reading = read_sheet(approved);
+    match reading {
+        Reading::Sheet => length_told(show::changes(approved, sheet, out)),
+        Reading::NoSheet => {
+            let nothing = NO_NAMES;
+            length_told(show::changes(&nothing, sheet, out))
+        }
     }
-    let nothing = NO_NAMES;
-    let w = cablebirch_changes(&nothing, sheet, out);
-    w.length
 }
 
 fn put_look(approved: &[u8], sheet: &[u8], out: &mut [u8]) -> usize
@@ -394,31 +423,31 @@ pub fn say_load(setting: u32, image: &[u8], approved: &[u8], out: &mut [u8]) -> 
 {
     let mut sheet = [0u8; SHEET_BUFFER];
     let mut message = [0u8; MESSAGE_BUFFER];
-    let v = cablebirch_load(setting, image, approved, &mut sheet, &mut message);
-    let written = text(&sheet, 0, v.sheet_length);
-    if v.loading == LOADS {
-        return Done {
+    let loading = load::load(setting, image, approved, &mut sheet, &mut message);
+    match loading {
+        Loading::Loads(_) => Done {
             length: put(out, 0, b"loads\n"),
             status: Status::Fine,
-        };
-    }
-    if v.loading == LOOK {
-        return Done {
-            length: put_look(approved, written, out),
+        },
+        Loading::Look(n) => Done {
+            length: put_look(approved, text(&sheet, 0, n), out),
             status: Status::Changed,
-        };
-    }
-    let length = line::write(
-        v.code,
-        line::word(v.place),
-        v.span_start,
-        v.span_end,
-        written,
-        text(&message, 0, v.message_length),
-        out,
-    );
-    Done {
-        length,
-        status: Status::Refused,
+        },
+        Loading::Refused(a) => {
+            let p = replied(a);
+            let length = line::write(
+                p.code,
+                line::word(p.place),
+                p.span_start,
+                p.span_end,
+                text(&sheet, 0, p.sheet_length),
+                text(&message, 0, p.message_length),
+                out,
+            );
+            Done {
+                length,
+                status: Status::Refused,
+            }
+        }
     }
 }
