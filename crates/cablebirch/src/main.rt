@@ -45,8 +45,8 @@ fn say(text: &[u8]) {
     io::write_all(STDERR_FILENO, text);
 }
 
-// A file was read, and so many bytes of it stand at the front of the buffer; or it was not, by the error of the system; or
-// it grew behind the end that was read.
+// A file was read, and so many bytes of it stand at the front of the buffer; or it was not, by the error of the system;
+// or it grew behind the end that was read.
 pub enum Got {
     Read(usize),
     Failed(i32),

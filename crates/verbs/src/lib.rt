@@ -1,5 +1,5 @@
-// What the words behind the program's name ask for, and what each verb says, over slices: the bytes for standard output
-// and the status. The program `cablebirch` reads the files and writes what is said.
+// What the words behind the program's name ask for, and what each verb says, over slices: the bytes for standard
+// output and the status. The program `cablebirch` reads the files and writes what is said.
 ghost use mathlib.Core.Path.{_≡_};
 ghost use mathlib.Core.Bool.{true};
 ghost use Prim.Native.Nat.{_+_, _<_, _≤_};
@@ -369,8 +369,8 @@ pub fn say_changes(old: &[u8], new: &[u8], out: &mut [u8]) -> Done
 
 // ---- the load rule
 
-// The sheet of no names is a header alone: version 1; no types, elements, names and texts, each area behind the 40 bytes
-// of the header; 40 bytes in all.
+// The sheet of no names is a header alone: version 1; no types, elements, names and texts, each area behind the 40
+// bytes of the header; 40 bytes in all.
 const NO_NAMES: [u8; 40] =
     *b"\x01\0\0\0\0\0\0\0\x28\0\0\0\0\0\0\0\x28\0\0\0\0\0\0\0\x28\0\0\0\0\0\0\0\x28\0\0\0\x28\0\0\0";
 
