@@ -18,7 +18,7 @@ use Rattle.meaning.specs.Read.{entriesIn, isSheet, readSheet}
 use Rattle.meaning.specs.Answer.{Answer, readAnswer, overlaid, meaning-open}
 use Rattle.meaning.specs.Line.{lineOf}
 use Rattle.meaning.specs.Show.{entriesText, Change, changesText, changes, InWords, showAnswer, changesAnswer}
-use Rattle.meaning.specs.Load.{Loading, loads, look, refused, loading, loadingNumber}
+use Rattle.meaning.specs.Load.{Loading, loads, look, loading, loadingNumber}
 use Rattle.meaning.proofs.SheetForm.{read-yes}
 use Rattle.meaning.proofs.Changed.{no-words}
 use Rattle.meaning.proofs.InWords.{show-none, show-whole, compared-none, compared-both, changes-none, changes-whole}
