@@ -30,24 +30,35 @@ pub struct Answer {
     pub place: u32,
     pub span_start: u32,
     pub span_end: u32,
+    /// Document 02's second span, start and end: that of the node that first made the old type known. 0,0 for all
+    /// codes but 25 and 23.
+    pub second: (u32, u32),
     /// What is written at the front of the sheet buffer.
     pub sheet: Vec<u8>,
     /// What is written at the front of the message buffer.
     pub message: Vec<u8>,
 }
 
+/// The codes that answer with a second span.
+pub fn has_second(code: u32) -> bool {
+    code == 25 || code == 23
+}
+
 impl Answer {
     /// A refusal outside 20..50.
     pub fn bare(code: u32, place: u32) -> Answer {
-        Answer { code, place, span_start: 0, span_end: 0, sheet: Vec::new(), message: Vec::new() }
+        Answer { code, place, span_start: 0, span_end: 0, second: (0, 0), sheet: Vec::new(), message: Vec::new() }
     }
 
-    /// The line of document 01's program, and for an accepted program ` #` and a checksum of its sheet:
-    /// the line alone would not tell two sheets of equal size apart.
+    /// The line of document 01's program, and what it does not tell: for an accepted program ` #` and a checksum of
+    /// its sheet, since two sheets may be of equal size; for 25 and 23 ` @` and the second span, also where it is
+    /// 0,0. One that another code must not have would be seen too.
     pub fn line(&self) -> Vec<u8> {
         let mut line = self.bare_line();
         if self.code == 0 {
             line.extend_from_slice(format!(" #{:016x}", fnv1a(&self.sheet)).as_bytes());
+        } else if has_second(self.code) || self.second != (0, 0) {
+            line.extend_from_slice(format!(" @{},{}", self.second.0, self.second.1).as_bytes());
         }
         line
     }
@@ -71,17 +82,19 @@ impl Answer {
         line
     }
 
-    /// The machine form: tab-separated, the buffers in hexadecimal.
+    /// The machine form: tab-separated, the buffers in hexadecimal; the second span stands last.
     pub fn full_line(&self, engine: &str) -> Vec<u8> {
         format!(
-            "{}\t{}\t{}\t{}\t{}\t{}\t{}",
+            "{}\t{}\t{}\t{}\t{}\t{}\t{}\t{}\t{}",
             self.code,
             self.place,
             self.span_start,
             self.span_end,
             hex(&self.sheet),
             hex(&self.message),
-            engine
+            engine,
+            self.second.0,
+            self.second.1
         )
         .into_bytes()
     }

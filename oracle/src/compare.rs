@@ -1,6 +1,6 @@
 //! Comparing any program that speaks the batch form with T.
 
-use crate::answer::{Rooms, Setting};
+use crate::answer::{has_second, Rooms, Setting};
 use crate::batch;
 use crate::judge::{self, Engine};
 use crate::reader;
@@ -16,7 +16,7 @@ pub struct Other {
     pub args: Vec<String>,
     /// Run once for each image, with the image itself on standard input, as document 01's `typecheck` is.
     pub single: bool,
-    /// Its lines for accepted programs have no checksum of the sheet.
+    /// Its lines have neither a checksum of the sheet nor a second span.
     pub no_checksum: bool,
     /// The setting in which it answers.
     pub setting: Setting,
@@ -114,13 +114,13 @@ pub fn compare(other: &Other, images: &[Vec<u8>], rooms: Rooms, show: usize) -> 
         }
         println!("image {} ({} bytes), judged by T {}:", number, image.len(), engine.name());
         print_pair(&wanted, line);
-        let kind = (code(&wanted), code(line));
-        // A smaller form must show the same difference, not any: the same two codes.
+        let kind = difference(&wanted, line);
+        // A smaller form must show the same difference, not any.
         let differs = |forms: &[Vec<u8>]| -> Result<Vec<bool>, String> {
             let lines = other.lines(forms)?;
             let stays = |(form, line): (&Vec<u8>, &Vec<u8>)| {
                 let wanted = other.wanted(form, rooms).0;
-                wanted != *line && (code(&wanted), code(line)) == kind
+                wanted != *line && difference(&wanted, line) == kind
             };
             Ok(forms.iter().zip(&lines).map(stays).collect())
         };
@@ -181,6 +181,17 @@ pub fn compare_sheets(other: &Other, sheets: &[Vec<u8>], show: usize) -> Result<
 fn print_pair(wanted: &[u8], line: &[u8]) {
     println!("    T       {}", String::from_utf8_lossy(wanted));
     println!("    program {}", String::from_utf8_lossy(line));
+}
+
+/// What kind of difference two lines show: their codes, and whether the second span alone differs.
+fn difference(wanted: &[u8], line: &[u8]) -> (Option<u32>, Option<u32>, bool) {
+    (code(wanted), code(line), without_second(wanted) == without_second(line))
+}
+
+/// A line up to its second span. The messages of the codes that have one hold no ` @`.
+fn without_second(line: &[u8]) -> &[u8] {
+    let end = line.windows(2).rposition(|pair| pair == b" @").filter(|_| code(line).map_or(false, has_second));
+    &line[..end.unwrap_or(line.len())]
 }
 
 /// The code that a line tells: 0 for accepted, none for no line of the form.

@@ -1,6 +1,6 @@
 //! T as the judge of program images.
 
-use crate::answer::{Answer, Rooms, Setting};
+use crate::answer::{self, Answer, Rooms, Setting};
 use crate::bound;
 use crate::builtins;
 use crate::image::{self, Image, Role};
@@ -57,7 +57,8 @@ pub enum Outcome<T> {
     NinthFrame(usize),
 }
 
-/// T's answer; in strict, that of T with its dropped results handed on.
+/// T's answer; in strict, that of T with its dropped results handed on. T knows no second span: where it answers 25 or
+/// 23, this is the reference walk's, and 0,0 for every other code.
 pub fn judge(bytes: &[u8], setting: Setting, rooms: Rooms) -> Judged {
     let image = match image::read(bytes) {
         Ok(image) => image,
@@ -69,7 +70,11 @@ pub fn judge(bytes: &[u8], setting: Setting, rooms: Rooms) -> Judged {
     }
     let program = tree::program(&image);
     let (outcome, engine) = run(&image, &program, setting);
-    Judged { answer: answer(&image, &program, outcome, rooms), engine }
+    let mut answer = answer(&image, &program, outcome, rooms);
+    if answer::has_second(answer.code) {
+        answer.second = expected.answer.second;
+    }
+    Judged { answer, engine }
 }
 
 /// What T wants to know of an image beforehand; on this thread, builtins are this image's from here on.
@@ -169,6 +174,7 @@ fn answer(image: &Image, program: &[StmtS], outcome: Outcome<Frames>, rooms: Roo
                 place: error.span.start as u32,
                 span_start: node.span_start,
                 span_end: node.span_end,
+                second: (0, 0),
                 sheet: Vec::new(),
                 message,
             }

@@ -35,9 +35,9 @@ use std::path::Path;
 
 const USAGE: &str = "\
 usage:
-  oracle judge [ROOMS] [--full] [--rules] < batch          T's answers, a line for each image
-  oracle reference [ROOMS] [--full] < batch                document 01's answers by the reference walk
-  oracle mistaken NAME [ROOMS] [--full] < batch            the same with one mistake switched on
+  oracle judge [ROOMS] [FORM] [--rules] < batch            T's answers, a line for each image
+  oracle reference [ROOMS] [FORM] < batch                  document 01's answers by the reference walk
+  oracle mistaken NAME [ROOMS] [FORM] < batch              the same with one mistake switched on
   oracle generate --seed S --family F --count N > batch    images of a family (oracle families)
   oracle encode < source > batch                           programs written as text, parted by lines ---
   oracle show [--source] < batch                           images as text (--source: as encode reads it)
@@ -56,6 +56,7 @@ usage:
   oracle store-sheets --seed S --out FOLDER                write the stored list of sheets
   oracle sheet-kinds, oracle sheet-rules                   the kinds of sheets; the reader's rules
 ROOMS: --sheet-room N --message-room N
+FORM: --full for the machine form, or --no-checksum for document 01's line alone
 With --strict, judge, reference, mistaken, check-reference, exhaust and compare go by document 02's strict setting.
 ";
 
@@ -289,9 +290,18 @@ fn judge_batch(options: Options) -> Result<i32, String> {
         } else if judged.engine == Engine::TooLarge && !options.flag("--rules") {
             b"too large for T".to_vec()
         } else {
-            judged.answer.line()
+            line(&judged.answer, &options)
         }
     })
+}
+
+/// An answer's line; with `--no-checksum` document 01's alone.
+fn line(answer: &answer::Answer, options: &Options) -> Vec<u8> {
+    if options.flag("--no-checksum") {
+        answer.bare_line()
+    } else {
+        answer.line()
+    }
 }
 
 fn reference_batch(options: Options, mind: Mind) -> Result<i32, String> {
@@ -301,7 +311,7 @@ fn reference_batch(options: Options, mind: Mind) -> Result<i32, String> {
         if options.flag("--full") {
             answer.full_line("reference")
         } else {
-            answer.line()
+            line(&answer, &options)
         }
     })
 }

@@ -52,7 +52,7 @@ impl Form<'_> {
         let walk = self.walk;
         let special = walk.image.names[name].role != 0 && self.mind.slips(RolesUnlisted);
         let binds = (self.binds[name].times > 0 && !special) || self.mind.slips(AllNamesListed);
-        match walk.frames[0][name] {
+        match walk.frames[0][name].map(|slot| slot.t) {
             Some(_) if !binds && self.mind.slips(FrameUnlisted) => None,
             Some(_) if self.binds[name].inside && self.mind.slips(BodyForgets) => Some(UNKNOWN),
             Some(t) => Some(t),

@@ -5,6 +5,7 @@
 //! Each plausible mistake of `mistakes.rs` is a switch in here.
 
 pub mod bound;
+pub mod first;
 pub mod read;
 pub mod rules;
 pub mod types;

@@ -1,5 +1,6 @@
 //! The walk over the statements.
 
+use super::first::Beside;
 use super::read::Image;
 use super::types::*;
 use crate::answer::Setting;
@@ -20,6 +21,8 @@ pub struct Refusal {
     pub code: u32,
     pub node: usize,
     pub pieces: Vec<Piece>,
+    /// For 25 and 23 the node that first made the old type known.
+    pub first: Option<usize>,
 }
 
 /// How the walk, or a part of it, ends.
@@ -30,8 +33,24 @@ pub enum End {
     NinthFrame(usize),
 }
 
-/// A slot for each name of the image: absent, or a type. Unknown is not absent.
-type Frame = Vec<Option<Ty>>;
+/// What a frame holds of a name: a type, and the node that first made it known. Unknown has none.
+#[derive(Debug, Clone, Copy)]
+pub struct Slot {
+    pub t: Ty,
+    pub first: Option<usize>,
+}
+
+impl Slot {
+    pub(super) const UNKNOWN: Slot = Slot { t: UNKNOWN, first: None };
+
+    /// A type that this node makes known, unless it is Unknown.
+    pub(super) fn new(t: Ty, node: usize) -> Slot {
+        Slot { t, first: Some(node).filter(|_| t != UNKNOWN) }
+    }
+}
+
+/// A slot for each name of the image: absent, or what it holds. Unknown is not absent.
+type Frame = Vec<Option<Slot>>;
 /// The newest frame last.
 type Frames = Vec<Frame>;
 
@@ -45,7 +64,9 @@ pub struct Walk<'a> {
     pub types: Types,
     pub frames: Frames,
     /// The type that each name was last given where the module's frame was the only one, copies of it too. Only mistakes ask for it.
-    pub(super) met: Frame,
+    pub(super) met: Vec<Option<Ty>>,
+    /// What is kept for mistakes about the second span.
+    pub(super) beside: Beside,
     /// The return type of the Def, or of the module statement, that the walk is in.
     returns: Ty,
     /// Nodes of type trees that T would have copied by now. What it makes and prints is in proportion.
@@ -64,7 +85,7 @@ enum Body {
 }
 
 pub(super) fn refuse<T>(code: u32, node: usize, pieces: Vec<Piece>) -> Result<T, Refusal> {
-    Err(Refusal { code, node, pieces })
+    Err(Refusal { code, node, pieces, first: None })
 }
 
 impl<'a> Walk<'a> {
@@ -73,7 +94,8 @@ impl<'a> Walk<'a> {
         Walk {
             image,
             types: Types::new(mind.slips(TupleBare)),
-            met: module.clone(),
+            met: vec![None; image.names.len()],
+            beside: Beside::new(image.names.len()),
             frames: vec![module],
             returns: UNKNOWN,
             weight: 0,
@@ -139,34 +161,41 @@ impl<'a> Walk<'a> {
 
     fn spend_frames(&mut self) {
         let all = self.frames.iter().flatten().flatten();
-        let sum = all.fold(0u64, |sum, t| sum.saturating_add(1).saturating_add(self.types.weight(*t)));
+        let sum = all.fold(0u64, |sum, slot| sum.saturating_add(1).saturating_add(self.types.weight(slot.t)));
         self.weight = self.weight.saturating_add(sum);
     }
 
     // ---- frames
 
-    fn find(&self, name: usize) -> Option<Ty> {
+    pub(super) fn find(&self, name: usize) -> Option<Slot> {
         if self.mind.slips(LookupOutermostFirst) {
             return self.frames.iter().find_map(|frame| frame[name]);
         }
         if self.mind.slips(UnknownIsAbsent) {
-            return self.frames.iter().rev().find_map(|frame| frame[name].filter(|t| *t != UNKNOWN));
+            return self.frames.iter().rev().find_map(|frame| frame[name].filter(|slot| slot.t != UNKNOWN));
         }
         self.frames.iter().rev().find_map(|frame| frame[name])
     }
 
     pub(super) fn lookup(&mut self, name: usize) -> Ty {
-        let t = self.find(name).unwrap_or(UNKNOWN);
+        let t = self.find(name).map_or(UNKNOWN, |slot| slot.t);
         self.spend(t);
         t
     }
 
-    fn bind(&mut self, name: usize, t: Ty) {
-        self.spend(t);
+    pub(super) fn newest(&self) -> &Frame {
+        self.frames.last().expect("the module's frame is never popped")
+    }
+
+    fn bind(&mut self, name: usize, slot: Slot) {
+        // A known type always has a node, and Unknown none.
+        assert!(self.mind != Mind::SOUND || (slot.t == UNKNOWN) == slot.first.is_none(), "{:?}", slot);
+        self.spend(slot.t);
         if self.frames.len() == 1 {
-            self.met[name] = Some(t);
+            self.met[name] = Some(slot.t);
         }
-        self.frames.last_mut().expect("the module's frame is never popped")[name] = Some(t);
+        self.note_beside(name, slot);
+        self.frames.last_mut().expect("the module's frame is never popped")[name] = Some(slot);
     }
 
     // ---- statements
@@ -174,8 +203,8 @@ impl<'a> Walk<'a> {
     fn statement(&mut self, node: usize, in_loop: bool) -> End {
         let parts = self.children(node);
         match self.kind_of(node) {
-            1 if !in_loop => End::Refused(Refusal { code: 20, node, pieces: Vec::new() }),
-            2 if !in_loop => End::Refused(Refusal { code: 21, node, pieces: Vec::new() }),
+            1 if !in_loop => ended(refuse(20, node, Vec::new())),
+            2 if !in_loop => ended(refuse(21, node, Vec::new())),
             1..=4 => End::Done,
             5 => ended(self.assignment(node, &parts)),
             6 => ended(self.expression(parts[0]).map(|_| ())),
@@ -190,10 +219,12 @@ impl<'a> Walk<'a> {
                     return End::Refused(refusal);
                 }
                 let entry = self.snapshot();
+                let beside = self.beside.clone();
                 let flag = in_loop || !self.mind.slips(WhileHandsItsFlag);
                 let end = self.dropping(parts[1], flag, Body::While);
                 if !self.mind.slips(WhileCommits) {
                     self.frames = entry;
+                    self.put_beside_back(beside, OneNodeWhile);
                 }
                 end
             }
@@ -212,16 +243,18 @@ impl<'a> Walk<'a> {
             Err(refusal) => return End::Refused(refusal),
         };
         let name = self.arg(node);
+        let slot = self.loop_slot(node, parts[0], element);
         if self.mind.slips(ForNameCommits) {
-            self.bind(name, element);
+            self.bind(name, slot);
         }
         let entry = self.snapshot();
+        let beside = self.beside.clone();
         if self.mind.slips(ForNameChecked) {
             if let Err(refusal) = self.assign_name(parts[0], name, element) {
                 return End::Refused(refusal);
             }
         } else {
-            self.bind(name, element);
+            self.bind(name, slot);
         }
         let returns = self.returns;
         let flag = !self.mind.slips(ForSetsNoFlag);
@@ -237,6 +270,8 @@ impl<'a> Walk<'a> {
         let kept = self.mind.slips(ForCommits) || (failed && self.mind.slips(ForKeepsStray));
         if !kept {
             self.frames = entry;
+            self.put_beside_back(beside, OneNodeFor);
+            self.keep_loop_node(name, slot);
         }
         end
     }
@@ -303,13 +338,14 @@ impl<'a> Walk<'a> {
             return End::NinthFrame(node);
         }
         if self.mind.slips(DefBindsName) {
-            self.bind(self.arg(node), FUNCTION);
+            self.bind(self.arg(node), Slot::new(FUNCTION, node));
         }
         let (body, params) = parts.split_last().expect("a Def has a Block");
         self.frames.push(vec![None; self.image.names.len()]);
         for param in params {
             if !self.mind.slips(ParamsAbsent) {
-                self.bind(self.arg(*param), UNKNOWN);
+                let slot = self.param_slot(node, *param);
+                self.bind(self.arg(*param), slot);
             }
         }
         let outer = self.returns;
@@ -334,6 +370,7 @@ impl<'a> Walk<'a> {
 
     fn if_statement(&mut self, node: usize, parts: &[usize], in_loop: bool) -> End {
         let entry = self.frames.clone();
+        let beside = self.beside.clone();
         let returns = self.returns;
         let mut branches: Vec<Frames> = Vec::new();
         // Only a mistake keeps a body's error for later.
@@ -377,6 +414,7 @@ impl<'a> Walk<'a> {
             let end = self.dropping(block, self.flag_for(body, in_loop), body);
             self.spend_frames();
             branches.push(std::mem::replace(&mut self.frames, entry.clone()));
+            self.put_beside_back(beside.clone(), OneNodeIf);
             match end {
                 End::Done => {}
                 End::Refused(_) if self.mind.slips(LastBranchTold) => held = Some(end),
@@ -396,7 +434,7 @@ impl<'a> Walk<'a> {
             Mind(Some(MergeAtLast)) => parts[(parts.len() / 2 - 1) * 2],
             _ => parts[0],
         };
-        match (ended(self.merge(place, &branches)), held) {
+        match (ended(self.merge(node, place, &branches)), held) {
             (End::Done, Some(end)) => end,
             (end, _) => end,
         }
@@ -412,37 +450,46 @@ impl<'a> Walk<'a> {
         (in_loop && !self.mind.slips(IfClearsFlag) && !clears) || self.mind.slips(IfSetsFlag)
     }
 
-    /// Names in byte order, which is the order of their numbers.
-    fn merge(&mut self, place: usize, branches: &[Frames]) -> Result<(), Refusal> {
+    /// Names in byte order, which is the order of their numbers. `place` is where 23 is told of the If `node`.
+    fn merge(&mut self, node: usize, place: usize, branches: &[Frames]) -> Result<(), Refusal> {
         let entry = self.frames.clone();
         let mut names: Vec<usize> = (0..self.image.names.len()).collect();
         if self.mind.slips(MergeReversed) {
             names.reverse();
         }
         for name in names {
-            let merged = match self.merged(name, &entry, branches) {
+            let merged = match self.merged(node, place, name, &entry, branches) {
                 Ok(merged) => merged,
-                Err(()) => {
+                Err(first) => {
                     if self.mind.slips(MergeUndone) {
                         self.frames = entry;
                     }
-                    return refuse(23, place, vec![Piece::Text(self.image.texts[name].clone())]);
+                    let pieces = vec![Piece::Text(self.image.texts[name].clone())];
+                    return Err(Refusal { code: 23, node: place, pieces, first });
                 }
             };
             // Without the check of an assignment: a stray frame can change a known type here.
-            if let Some(t) = merged {
+            if let Some(slot) = merged {
                 if self.mind.slips(MergeChecked) {
-                    self.assign_name(place, name, t)?;
+                    self.assign_name(place, name, slot.t)?;
                 } else {
-                    self.bind(name, t);
+                    self.bind(name, slot);
                 }
             }
         }
         Ok(())
     }
 
-    /// The type that the branches which assign the name agree on, none where they know of none.
-    fn merged(&mut self, name: usize, entry: &Frames, branches: &[Frames]) -> Result<Option<Ty>, ()> {
+    /// What the branches which assign the name agree on, none where they know of none: the slot of the first of them
+    /// that knows it. Where they disagree, the node of the first type found.
+    fn merged(
+        &mut self,
+        node: usize,
+        place: usize,
+        name: usize,
+        entry: &Frames,
+        branches: &[Frames],
+    ) -> Result<Option<Slot>, Option<usize>> {
         let mind = self.mind;
         let slot_of = |frames: &Frames| {
             if mind.slips(MergeAllFrames) {
@@ -451,33 +498,42 @@ impl<'a> Walk<'a> {
             frames.last().expect("there is a frame")[name]
         };
         let base = slot_of(entry);
-        let mut merged: Option<Ty> = None;
-        let mut assigning = 0;
+        let mut merged: Option<Slot> = None;
+        let mut assigning: Vec<Slot> = Vec::new();
         if mind.slips(MergeWithBase) {
-            merged = base.filter(|t| *t != UNKNOWN);
+            merged = base.filter(|slot| slot.t != UNKNOWN);
         }
         for branch in branches {
-            let t = match slot_of(branch) {
-                Some(t) if Some(t) != base || mind.slips(MergeHeld) => t,
+            let slot = match slot_of(branch) {
+                Some(slot) if self.assigned(base, slot) => slot,
                 _ => continue,
             };
-            assigning += 1;
-            let counts = t != UNKNOWN || mind.slips(MergeUnknownDiffers);
+            assigning.push(slot);
+            let counts = slot.t != UNKNOWN || mind.slips(MergeUnknownDiffers);
             match merged {
                 _ if !counts => {
                     if mind.slips(MergeUnknown) && merged.is_none() {
-                        merged = Some(UNKNOWN);
+                        merged = Some(Slot::UNKNOWN);
                     }
                 }
-                Some(UNKNOWN) if mind.slips(MergeUnknown) => merged = Some(t),
-                Some(m) if !self.same(m, t) && !mind.slips(MergeLastWins) => return Err(()),
-                _ => merged = Some(t),
+                Some(m) if m.t == UNKNOWN && mind.slips(MergeUnknown) => merged = Some(slot),
+                Some(_) if mind.slips(MergeLastWins) => merged = Some(slot),
+                Some(m) if !self.same(m.t, slot.t) => return Err(self.clash_first(place, base, m, slot)),
+                Some(_) => {}
+                None => merged = Some(slot),
             }
         }
-        if mind.slips(MergeIfAll) && assigning < branches.len() {
+        if mind.slips(MergeIfAll) && assigning.len() < branches.len() {
             return Ok(None);
         }
-        Ok(merged)
+        let visible = entry.iter().rev().find_map(|frame| frame[name]);
+        Ok(merged.map(|slot| self.merged_slot(slot, &assigning, base, visible, (node, place))))
+    }
+
+    /// Whether a branch that holds `slot` has assigned the name: by type alone.
+    fn assigned(&self, base: Option<Slot>, slot: Slot) -> bool {
+        let by_node = self.mind.slips(AssignedByNode) && base.and_then(|base| base.first) != slot.first;
+        base.map(|base| base.t) != Some(slot.t) || self.mind.slips(MergeHeld) || by_node
     }
 
     /// Equal number means equal type.
@@ -578,6 +634,7 @@ impl<'a> Walk<'a> {
         }
         let t = self.expression(value)?;
         let entry = self.frames.clone();
+        self.beside.assignment = [node, target, value];
         let assigned = self.assign(target, t);
         assigned.map_err(|mut refusal| {
             if self.mind.slips(TargetsUndone) {
@@ -608,26 +665,35 @@ impl<'a> Walk<'a> {
     }
 
     fn assign_name(&mut self, node: usize, name: usize, t: Ty) -> Result<(), Refusal> {
-        let old = if self.mind.slips(AssignInNewest) {
-            self.frames.last().expect("there is a frame")[name].unwrap_or(UNKNOWN)
+        let found = if self.mind.slips(AssignInNewest) {
+            self.newest()[name]
         } else {
-            self.lookup(name)
+            self.lookup(name);
+            self.find(name)
         };
+        let old = found.unwrap_or(Slot::UNKNOWN);
         if t == UNKNOWN && self.mind.slips(UnknownOverwrites) {
-            self.bind(name, UNKNOWN);
+            self.bind(name, Slot::UNKNOWN);
             return Ok(());
         }
-        let both = match self.agreed(old, t) {
+        let both = match self.agreed(old.t, t) {
             Some(both) => both,
-            None => return refuse(25, node, self.pair(t, old, SwappedAssign)),
+            None => {
+                let pieces = self.pair(t, old.t, SwappedAssign);
+                let first = self.assign_first(node, name, old);
+                return Err(Refusal { code: 25, node, pieces, first });
+            }
         };
+        // What was known keeps its node, in whatever frame it was found.
+        let slot = if old.t == UNKNOWN { Slot::new(both, node) } else { Slot { t: both, first: old.first } };
+        let slot = self.assigned_slot(slot, node, name, old, t);
         if self.mind.slips(AssignWhereFound) {
             if let Some(frame) = self.frames.iter_mut().rev().find(|frame| frame[name].is_some()) {
-                frame[name] = Some(both);
+                frame[name] = Some(slot);
                 return Ok(());
             }
         }
-        self.bind(name, both);
+        self.bind(name, slot);
         Ok(())
     }
 

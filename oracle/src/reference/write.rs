@@ -1,6 +1,7 @@
 //! What the reference's walk writes: messages and sheets.
 
 use super::bound;
+use super::first;
 use super::read::Image;
 use super::types::*;
 use super::walk::{Piece, Refusal, Walk};
@@ -47,13 +48,15 @@ fn template(code: u32) -> &'static str {
 
 pub fn refused(walk: &Walk, refusal: &Refusal, rooms: Rooms, mind: Mind) -> Answer {
     let span = walk.image.nodes[refusal.node].span;
+    let message = fitting_message(&walk.types, refusal, rooms.message, mind);
     Answer {
         code: refusal.code,
         place: refusal.node as u32,
         span_start: span.0,
         span_end: span.1,
+        second: first::second_span(walk, refusal, message.is_empty(), mind),
         sheet: Vec::new(),
-        message: fitting_message(&walk.types, refusal, rooms.message, mind),
+        message,
     }
 }
 

@@ -54,7 +54,7 @@ impl Plan {
             return None;
         }
         let module = image.texts.iter().zip(&walk.frames[0]);
-        let names = module.filter_map(|(text, t)| t.map(|t| (text.clone(), t))).collect();
+        let names = module.filter_map(|(text, slot)| slot.map(|slot| (text.clone(), slot.t))).collect();
         Some(Plan { types: walk.types, names })
     }
 
