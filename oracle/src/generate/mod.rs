@@ -4,6 +4,7 @@ pub mod bound;
 pub mod calls;
 pub mod damage;
 pub mod errors;
+pub mod first;
 pub mod grow;
 pub mod limits;
 pub mod soup;
@@ -15,7 +16,7 @@ use crate::source;
 use grow::{Grower, Habits};
 
 /// The families, with what they are for.
-pub const FAMILIES: [(&str, &str); 19] = [
+pub const FAMILIES: [(&str, &str); 20] = [
     ("well", "mostly accepted, of all sizes up to 2,048 nodes and 128 names"),
     ("errors", "aimed at each code 20 to 50 in turn"),
     ("small", "a few nodes over a few names, anything in them"),
@@ -35,6 +36,7 @@ pub const FAMILIES: [(&str, &str); 19] = [
     ("names", "name records right and wrong: codes 4 and 5"),
     ("damaged", "copies of good images with one thing wrong: codes 1 to 8"),
     ("bound", "names that bodies alone bind, and targets of every form: what the sheet lists"),
+    ("first", "few names assigned again and again: 25 and 23, and which node first made a type known"),
 ];
 
 /// The written quirks: a title, and the program's text.
@@ -50,6 +52,12 @@ pub fn strict() -> Vec<(&'static str, &'static str)> {
 /// What the sheet lists besides the module frame's names, and what it does not.
 pub fn listed() -> Vec<(&'static str, &'static str)> {
     written(include_str!("bound.txt"))
+}
+
+/// Which node first made a type known: document 02's first request, sentence by sentence, under the numbers of what
+/// README.md says of it.
+pub fn first_known() -> Vec<(&'static str, &'static str)> {
+    written(include_str!("first.txt"))
 }
 
 fn written(texts: &'static str) -> Vec<(&'static str, &'static str)> {
@@ -103,6 +111,7 @@ pub fn image(seed: u64, family: &str, number: u64) -> Vec<u8> {
             damage::damaged(&good.image(), number, &mut random)
         }
         "bound" => bound::program(random).image(),
+        "first" => first::program(random).image(),
         other => panic!("no family {}", other),
     }
 }
