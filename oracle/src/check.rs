@@ -1,8 +1,9 @@
 //! Holding the reference walk against T.
 
-use crate::answer::{Answer, Rooms, Setting};
+use crate::answer::{has_second, Answer, Rooms, Setting};
 use crate::exhaust::{All, PAIRS};
 use crate::generate;
+use crate::image::{self, kind::*};
 use crate::judge::{self, Engine};
 use crate::mistakes::Mind;
 use crate::reference;
@@ -29,10 +30,12 @@ impl Tally {
         self.images += 1;
         *self.codes.entry(judged.answer.code).or_insert(0) += 1;
         *self.engines.entry(judged.engine.name()).or_insert(0) += 1;
-        if other != judged.answer {
+        // T knows no second span: all that can be asked of it is that a node has it which binds the name.
+        let possible = !has_second(judged.answer.code) || binds_the_name(image, &judged.answer);
+        if other != judged.answer || !possible {
             self.differences += 1;
             if self.differences <= SHOWN {
-                println!("difference, rooms {:?}:", rooms);
+                println!("difference, rooms {:?}{}:", rooms, if possible { "" } else { ", no such first node" });
                 println!("  T         {}", String::from_utf8_lossy(&judged.answer.line()));
                 println!("  reference {}", String::from_utf8_lossy(&other.line()));
                 println!("{}", show::image(image));
@@ -61,6 +64,37 @@ impl Tally {
     pub fn codes(&self) -> String {
         self.codes.iter().map(|(code, count)| format!("{}:{}", code, count)).collect::<Vec<String>>().join(" ")
     }
+}
+
+/// Whether the second span of a 25 or 23 is that of a Variable by which an Assign may bind the name that the answer is
+/// about, or of the iterable of a For of that name. If its message does not fit, a 23 does not tell its name.
+fn binds_the_name(bytes: &[u8], answer: &Answer) -> bool {
+    let image = image::read(bytes).expect("it was walked");
+    let nodes = &image.nodes;
+    let told = |name: usize| match answer.code {
+        25 => nodes[answer.place as usize].arg as usize == name,
+        _ => {
+            let quoted = format!("'{}' has", image.names[name].text);
+            answer.message.is_empty() || String::from_utf8_lossy(&answer.message).contains(&quoted)
+        }
+    };
+    let fits =
+        |node: usize, name: u32| (nodes[node].span_start, nodes[node].span_end) == answer.second && told(name as usize);
+    (0..nodes.len()).any(|node| match nodes[node].kind {
+        FOR => fits(node + 1, nodes[node].arg),
+        ASSIGN => {
+            // Everything but Tuples is passed by with what it holds.
+            let mut at = node + 1;
+            let end = nodes[at].end as usize;
+            let mut found = false;
+            while at < end {
+                found |= nodes[at].kind == VARIABLE && fits(at, nodes[at].arg);
+                at = if nodes[at].kind == TUPLE { at + 1 } else { nodes[at].end as usize };
+            }
+            found
+        }
+        _ => false,
+    })
 }
 
 /// `count` images of each family, or of one. Every tenth is judged again in rooms that its sheet or message
