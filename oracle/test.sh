@@ -92,7 +92,7 @@ RUNS
 cat > "$scratch/wanted.txt" <<'WANTED'
 accepted 0 0 40
 accepted 1 0 53
-refused 25 5 6 7 TypeError: cannot assign value of type String to variable of type Int
+refused 25 5 6 7 TypeError: cannot assign value of type String to variable of type Int @0,1
 refused 36 2 3 4 TypeError: condition must be Bool
 accepted 0 0 40
 refused 20 1 0 5 SyntaxError: 'break' outside loop
@@ -119,6 +119,52 @@ words() { $oracle judge --full < "$scratch/runs.batch" | sed -n "$1p" | cut -f5;
 [ "$(words 2)" = "0100000000000000280000000000000028000000010000002800000001000000340000003500000000000000010000000100000078" ] || fail "run 2's sheet"
 [ "$(words 12)" = "010000000200000028000000020000004000000002000000480000000200000060000000620000000800000004000000000000000a000000000000000200000001000000080000000000000001000000090000000100000001000000080000007071" ] || fail "run 12's sheet"
 
+# The full line has the second span last, behind the engine.
+[ "$($oracle judge --full < "$scratch/runs.batch" | cut -f1,8,9 | tr '\t' ' ' | grep -v ' 0 0$')" = "25 0 1" ] || fail "the full line's second span"
+# Document 01's line alone.
+sed 's/ @[0-9]*,[0-9]*$//' "$scratch/wanted.txt" > "$scratch/alone.txt"
+for who in judge reference; do
+    $oracle $who --no-checksum < "$scratch/runs.batch" | cmp - "$scratch/alone.txt" || fail "$who does not give document 01's line alone"
+done
+
+say "25 and 23 point at the node that first made the old type known"
+# A program, and its code and second span in plain and in strict, counted by hand. u is nowhere bound. Lines are parted by |.
+while IFS='~' read -r program plain strict; do
+    printf '%s\n' "$program" | tr '|' '\n' | $oracle encode > "$scratch/first.batch"
+    for who in judge reference; do
+        for setting in "" --strict; do
+            $oracle $who $setting < "$scratch/first.batch" | sed 's/^accepted.*/accepted/; s/^refused \([0-9]*\) [^@]*/\1 /; s/ *$//'
+        done | tr '\n' '~'
+    done > "$scratch/said.txt"
+    [ "$(cat "$scratch/said.txt")" = "$plain~$strict~$plain~$strict~" ] || fail "$program: $(cat "$scratch/said.txt")"
+done <<'FIRST'
+x = 1|x = "s"~25 @0,1~25 @0,1
+x = u|x = 1|x = 2|x = u|x = "s"~25 @6,7~25 @6,7
+(x, x) = (1, "s")~25 @1,2~25 @1,2
+(x, (y, z)) = [[1, 2], [3, 4]]|z = "s"~25 @8,9~25 @8,9
+(x, y) = (1, [2, 3])|(x, (x, x)) = (4, y)|(x, x) = (5, y)~25 @1,2~25 @1,2
+for i in [1]: i = "s"~25 @9,12~25 @9,12
+p = [1]|for i in p: i = "s"~25 @17,18~25 @17,18
+i = 1|for i in [2]: i = "s"~25 @15,18~25 @15,18
+i = 1|for i in [2]: pass|i = "s"~25 @0,1~25 @0,1
+i = 1|for i in u:| i = "s"| i = 2~25 @19,20~25 @19,20
+x = 1|def f():| x = 2| x = "s"~25 @0,1~25 @0,1
+x = 1|def f(x):| x = 2| x = "s"~25 @17,18~25 @17,18
+x = 1|if True:| def f(x):|  x = 2|  break|x = "s"~25 @0,1~20
+if True: x = u|elif True: x = 1|else: x = 2|x = "s"~25 @26,27~25 @26,27
+x = 1|if True:| def f(x):|  x = "s"|  1 + "a"|x = 2~25 @28,29~29
+x = 1|def f():| if True:|  def g(x):|   x = 2|   break| else: x = 3| x = "s"~25 @40,41~20
+if True: x = 1|else: x = "s"~23 @9,10~23 @9,10
+if True: (b, a) = (1, 2)|else: (a, b) = ("s", "t")~23 @13,14~23 @13,14
+x = 1|def f():| if True: x = 2| else:|  def g(x):|   x = "s"|   break~23 @0,1~20
+x = 1|def f():| if True:|  def g(x):|   x = "s"|   break| else: x = 2~23 @40,41~20
+while True: x = 1|x = 2|x = "s"~25 @18,19~25 @18,19
+if True: (x, x) = (1, "s")|x = "t"~25 @10,11~25 @10,11
+x = 1|if True: x = "s"|while True:| if True: y = 1| else: y = "s"~accepted~25 @0,1
+x = 1|(x, y) = (1, 2, 3)~26~26
+x = 1|x = x + "s"~29~29
+FIRST
+
 say "the sheet lists what a module may bind"
 # A program, and one that binds the same names at module level, with the same types: their sheets are equal. u is nowhere bound.
 # Lines are parted by |.
@@ -143,11 +189,11 @@ if True:| x = 1| def f(): break~x = u
 LISTED
 
 say "images shown as text and read again are judged the same, spans apart"
-for family in well small stray dropped calls types bound; do
+for family in well small stray dropped calls types bound first; do
     $oracle generate --seed 3 --family $family --count 200 > "$scratch/programs.batch"
     $oracle show --source < "$scratch/programs.batch" | $oracle encode > "$scratch/again.batch"
     for list in programs again; do
-        $oracle judge < "$scratch/$list.batch" | sed 's/^\(refused [0-9]* [0-9]*\) [0-9]* [0-9]* /\1 /' > "$scratch/$list.txt"
+        $oracle judge < "$scratch/$list.batch" | sed 's/^\(refused [0-9]* [0-9]*\) [0-9]* [0-9]* /\1 /; s/ @[0-9]*,[0-9]*$//' > "$scratch/$list.txt"
     done
     cmp "$scratch/programs.txt" "$scratch/again.txt" || fail "text of $family"
 done
@@ -168,7 +214,7 @@ for file in images.batch answers.txt strict-answers.txt notes.txt tight-images.b
     cmp "$scratch/$file" "$stored/$file" || fail "$stored/$file is not what seed $seed makes"
 done
 images_and_answers="$stored/images.batch $stored/answers.txt $stored/strict-answers.txt $stored/notes.txt $stored/tight-images.batch $stored/tight-answers.txt $stored/tight-notes.txt"
-[ "$(cat $images_and_answers | wc -c)" -lt 3300000 ] || fail "the stored lists are 3.3 MB or more"
+[ "$(cat $images_and_answers | wc -c)" -lt 3600000 ] || fail "the stored lists are 3.6 MB or more"
 
 say "the stored answers are T's, and the reference's"
 $oracle judge --rules < $stored/images.batch | cmp - $stored/answers.txt || fail "T answers otherwise"
@@ -176,6 +222,15 @@ $oracle reference < $stored/images.batch | cmp - $stored/answers.txt || fail "th
 $oracle judge --strict --rules < $stored/images.batch | cmp - $stored/strict-answers.txt || fail "T answers otherwise in strict"
 $oracle reference --strict < $stored/images.batch | cmp - $stored/strict-answers.txt || fail "the reference answers otherwise in strict"
 [ "$(diff $stored/answers.txt $stored/strict-answers.txt | grep -c '^>')" -ge 300 ] || fail "fewer than 300 answers differ in strict"
+for list in answers strict-answers; do
+    # 25 and 23, often enough, each with its second span; and no other line with one.
+    [ "$(grep -c '^refused 2[53] .* @[0-9]*,[0-9]*$' $stored/$list.txt)" -ge 400 ] || fail "fewer than 400 second spans in $list"
+    if grep '^refused 2[53] ' $stored/$list.txt | grep -qv ' @[0-9]*,[0-9]*$'; then fail "a 25 or 23 without a second span in $list"; fi
+    if grep -v '^refused 2[53] ' $stored/$list.txt | grep -q ' @[0-9]*,[0-9]*$'; then fail "another code with a second span in $list"; fi
+done
+for form in '^refused 25 .* - @[1-9]' '^refused 23 .* - @[1-9]' '^refused 25 .*[a-z)] @[1-9]' '^refused 23 .*[a-z)] @[1-9]'; do
+    grep -q "$form" $stored/tight-answers.txt || fail "no line of the form $form in tight rooms"
+done
 for who in "judge --rules" reference; do
     $oracle $who --sheet-room 98 --message-room 69 < $stored/tight-images.batch | cmp - $stored/tight-answers.txt || fail "$who, tight rooms"
 done
@@ -216,12 +271,25 @@ frame-unlisted 293
 strict-frame-only 149 --strict
 elif-dropped 319 --strict
 if-clears-flag 245 --strict
+first-is-value 221
+loop-at-for 221
+equal-replaces 293
+merge-lowest-node 605
+clash-at-lowest 533
+assigned-by-node 461
+strict-has-none 221 --strict
 PLANTED
 
+say "compare tells a program without second spans, and takes it with --no-checksum"
+if ORACLE="$oracle" $oracle compare --show 0 sh -c '"$ORACLE" reference | sed "s/ @[0-9,]*$//"' < $stored/images.batch > "$scratch/compare.txt"; then fail "no second span is needed"; fi
+count=$(grep -c '^refused 2[53] ' $stored/answers.txt)
+grep -q "^[0-9]* images, $count differ" "$scratch/compare.txt" || { cat "$scratch/compare.txt"; fail "not each 25 and 23 needs its second span"; }
+$oracle compare --no-checksum $oracle reference --no-checksum < $stored/images.batch > "$scratch/compare.txt" || { cat "$scratch/compare.txt"; fail "document 01's lines alone"; }
+
 say "compare tells a program that ends without a line"
-head -c 20000 $stored/tight-images.batch > "$scratch/few.batch"
-if $oracle compare --show 0 true < "$scratch/few.batch" > "$scratch/compare.txt"; then fail "a silent program passes"; fi
-grep -q "^31 images, 31 differ" "$scratch/compare.txt" || fail "a silent program passes in part"
+if $oracle compare --show 0 true < $stored/tight-images.batch > "$scratch/compare.txt"; then fail "a silent program passes"; fi
+count=$(wc -l < $stored/tight-answers.txt)
+grep -q "^$count images, $count differ" "$scratch/compare.txt" || fail "a silent program passes in part"
 
 say "compare takes a program that judges one image at a time"
 cat > "$scratch/one.sh" <<'ONE'
@@ -231,7 +299,7 @@ image=$(mktemp)
 cat > "$image"
 size=$(wc -c < "$image")
 { printf "$(printf '\\%03o\\%03o\\%03o\\%03o' $((size % 256)) $((size / 256 % 256)) $((size / 65536 % 256)) $((size / 16777216)))"; cat "$image"; } |
-    "$ORACLE" reference | sed 's/ #[0-9a-f]*$//'
+    "$ORACLE" reference --no-checksum
 rm -f "$image"
 ONE
 ORACLE="$(pwd)/$oracle" $oracle compare --single sh "$scratch/one.sh" < "$scratch/runs.batch" > "$scratch/compare.txt" || { cat "$scratch/compare.txt"; fail "one image at a time"; }

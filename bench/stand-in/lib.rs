@@ -46,6 +46,8 @@ pub struct CablebirchAnswer {
     code: u32,
     span_start: u32,
     span_end: u32,
+    second_start: u32,
+    second_end: u32,
     place: usize,
     sheet_length: usize,
     message_length: usize,
@@ -73,6 +75,8 @@ pub unsafe extern "C" fn cablebirch_check(
         place: told.place as usize,
         span_start: told.span_start,
         span_end: told.span_end,
+        second_start: told.second.0,
+        second_end: told.second.1,
         sheet_length: told.sheet.len(),
         message_length: told.message.len(),
     }

@@ -1,6 +1,6 @@
 //! The stored list: images that cover every code, place rule and quirk, and T's answers.
 
-use crate::answer::{Rooms, Setting};
+use crate::answer::{has_second, Rooms, Setting};
 use crate::batch;
 use crate::generate::{self, calls, damage, limits};
 use crate::image::kind::*;
@@ -40,8 +40,9 @@ const DRAWN: [Draw; 16] = [
     ("large", 1, 60_000),
 ];
 
-/// Drawn behind all that stood before there was this family, so that each image keeps its number.
+/// Drawn behind all that stood before there were these families, so that each image keeps its number.
 const DRAWN_LAST: Draw = ("bound", 60, 700);
+const DRAWN_FIRST: Draw = ("first", 200, 620);
 
 /// The list that a seed makes, without duplicates.
 pub fn stored_list(seed: u64) -> List {
@@ -70,6 +71,11 @@ pub fn stored_list(seed: u64) -> List {
         list.push((format!("bound: {}", title), generate::quirk(text).image()));
     }
     drawn(&mut list, seed, DRAWN_LAST);
+    for (title, text) in generate::first_known() {
+        list.push((format!("first: {}", title), generate::quirk(text).image()));
+    }
+    first_spans(&mut list);
+    drawn_first(&mut list, seed, DRAWN_FIRST);
     let mut seen: HashSet<Vec<u8>> = HashSet::new();
     list.retain(|(_, image)| seen.insert(image.clone()));
     list
@@ -79,6 +85,32 @@ fn drawn(list: &mut List, seed: u64, (family, wanted, largest): Draw) {
     let images = (0..).map(|number| (number, generate::image(seed, family, number)));
     let small = images.filter(|(_, image)| image.len() <= largest).take(wanted);
     list.extend(small.map(|(number, image)| (format!("{} {}", family, number), image)));
+}
+
+/// As `drawn`, but only images that are refused with 25 or 23, plain or in strict.
+fn drawn_first(list: &mut List, seed: u64, (family, wanted, largest): Draw) {
+    let images = (0..).map(|number| (number, generate::image(seed, family, number)));
+    let told = |image: &[u8], setting: Setting| has_second(judge::judge(image, setting, Rooms::default()).answer.code);
+    let small = images
+        .filter(|(_, image)| image.len() <= largest && (told(image, Setting::Plain) || told(image, Setting::Strict)));
+    list.extend(small.take(wanted).map(|(number, image)| (format!("{} {}", family, number), image)));
+}
+
+/// Spans are carried unread, so the second one may be any two words.
+fn first_spans(list: &mut List) {
+    for (text, node) in
+        [("x = 1\nx = \"s\"", 2), ("for i in [1]: i = \"s\"", 2), ("if True: x = 1\nelse: x = \"s\"", 5)].iter()
+    {
+        let image = source::parse(text).expect("it is a program").image();
+        let nodes_at = word(&image, 16) as usize;
+        for (start, end) in [(0, 0), (9, 3), (0, u32::MAX), (u32::MAX, 0), (1 << 31, (1 << 31) + 1)].iter() {
+            let mut changed = image.clone();
+            let at = nodes_at + 24 * node + 16;
+            changed[at..at + 4].copy_from_slice(&u32::to_le_bytes(*start));
+            changed[at + 4..at + 8].copy_from_slice(&u32::to_le_bytes(*end));
+            list.push((format!("first: the span of node {} is {},{}; {}", node, start, end, text), changed));
+        }
+    }
 }
 
 /// Every operator on every pair of kinds, and everything that takes one operand on every operand.
@@ -374,6 +406,18 @@ pub fn tight_list() -> List {
         "a = 1\nb = 2\nc = 3\nfor abcdefg in u: pass",
         "a = 1\nb = 2\nc = 3\nfor abcdefgh in u: pass",
         "if True: (a, (b, c), d, e) = u",
+    ] {
+        texts.push(text.to_string());
+    }
+    // Second spans, with and without their messages.
+    for text in [
+        "x = u\nx = 1\nx = 2.0",
+        "x = u\nx = 1\nx = (3, 4)",
+        "for i in [1]: i = \"s\"",
+        "for i in [1]: i = 2.0",
+        "(x, x) = (1.0, \"s\")",
+        "if True: nnnnnnnn = u\nelif True: nnnnnnnn = 1\nelse: nnnnnnnn = \"a\"",
+        "if True: nnnnnnnnn = u\nelif True: nnnnnnnnn = 1\nelse: nnnnnnnnn = \"a\"",
     ] {
         texts.push(text.to_string());
     }

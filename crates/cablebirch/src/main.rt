@@ -293,7 +293,7 @@ fn is_changed(status: Status) -> bool {
 fn run_help() -> Status {
     print(
         b"usage: cablebirch VERB ..   (a file `-` is standard input)\n  \
-          check [--strict] IMAGE          the answer to a script's image, one line\n  \
+          check [--strict] IMAGE          accepted, or why not, and where a type was first set\n  \
           sheet [--strict] IMAGE          the type sheet of an accepted script\n  \
           show SHEET                      a sheet's names and types\n  \
           changes OLD NEW                 what changed between two sheets\n  \

@@ -12,12 +12,13 @@ use lib.ListN.{length, getD, length-map}
 use Rattle.meaning.specs.Base.{count}
 use Rattle.meaning.specs.Types.{Ty}
 use Rattle.meaning.specs.Image.{nodeCount, namesOf}
-use Rattle.meaning.specs.Frames.{Frame, Frames}
+use Rattle.meaning.specs.Frames.{Binding, binding, Frame, Frames}
 use Rattle.meaning.specs.Walk.{Setting, End}
 use Rattle.meaning.specs.Answer.{walked}
 use Rattle.meaning.proofs.Choices.{count-long}
 use Rattle.types.specs.Table.{Tab, Grown, denote}
-use Rattle.frames.specs.Env.{Rows, slot, frameOf, below, framesOf, Fit}
+use Rattle.frames.specs.Env.{Rows, typeIn, nodeIn, nodeFrom, slotAs, frameOf, below, framesOf, Fit}
+use Rattle.state.specs.Notes.{Places}
 use Rattle.targets.proofs.Endings.{ended-well, ended-deep, ended-wrong}
 use Rattle.stmt.specs.Contract.{Started, Ran}
 use Rattle.checker.specs.Module.{framesAt}
@@ -29,17 +30,21 @@ formed t = map (denote t) (count 0 t.n)
 
 -- ---- a frame's types have numbers
 
-row-formed : (t : Tab) (row : List ℕ) → ((x : ℕ) → getD row x 0 ≤ t.n) → (ty : Ty) → List·Memᴰ (some ty) (frameOf t row) → List·Memᴰ ty (formed t)
-unfolding frameOf slot
-row-formed t [] k ty m = absurd (List·Memᴰ·not-nil m)
-row-formed t (zero ∷ row) k ty m =
-    ⊎-elim (λ e. absurd (Option·none-ne-some _ (sym e))) (λ r. row-formed t row (λ x. k (suc x)) ty r) (List·Memᴰ·cases-cons m)
-row-formed t (suc c ∷ row) k ty m =
-    ⊎-elim (λ e. Memᴰ·cast (Option·some-injective ty (denote t c) e) (Memᴰ·map (denote t) (in-count 0 t.n c (omega arith) (omega (arith, k 0)))))
-    (λ r. row-formed t row (λ x. k (suc x)) ty r) (List·Memᴰ·cases-cons m)
+row-formed : (t : Tab) (row : List ℕ) → ((x : ℕ) → typeIn (getD row x 0) ≤ t.n) → (b : Binding) → List·Memᴰ (some b) (frameOf t row)
+    → List·Memᴰ (b .type) (formed t)
+unfolding frameOf slotAs
+row-formed t [] k b m = absurd (List·Memᴰ·not-nil m)
+row-formed t (c ∷ row) k b m =
+    ⊎-elim (λ e. here (typeIn c) (nodeIn c) (k 0) e) (λ r. row-formed t row (λ x. k (suc x)) b r) (List·Memᴰ·cases-cons m)
+  where
+    here : (h n : ℕ) → h ≤ t.n → some b ≡ slotAs t h n → List·Memᴰ (b .type) (formed t)
+    here zero n l e = absurd (Option·none-ne-some b (sym e))
+    here (suc h) n l e =
+        Memᴰ·cast (ap (λ (d : Binding). d .type) (Option·some-injective b (binding (denote t h) (nodeFrom n)) e))
+        (Memᴰ·map (denote t) (in-count 0 t.n h (omega arith) (omega arith)))
 
-below-formed : {t : Tab} {fs : Rows} {top : ℕ} → Fit t fs top → (n : ℕ) → n ≤ suc top → (f : Frame) → List·Memᴰ f (below t fs n) → (ty : Ty) → List·Memᴰ (some ty) f
-    → List·Memᴰ ty (formed t)
+below-formed : {t : Tab} {fs : Rows} {top : ℕ} → Fit t fs top → (n : ℕ) → n ≤ suc top → (f : Frame) → List·Memᴰ f (below t fs n) → (ty : Binding) → List·Memᴰ (some ty) f
+    → List·Memᴰ (ty .type) (formed t)
 unfolding below
 below-formed {t} {fs} a zero h f m ty i = absurd (List·Memᴰ·not-nil m)
 below-formed {t} {fs} a (suc n) h f m ty i =
@@ -48,7 +53,7 @@ below-formed {t} {fs} a (suc n) h f m ty i =
 
 -- ---- a walk from the plain types on
 
-module _ {bs : List ℕ} {setting : Setting} {fs gs : Rows} {t u : Tab} {st su : List ℕ} {top code place a b : ℕ} (s : Started bs fs t st)
+module _ {bs : List ℕ} {setting : Setting} {fs gs : Rows} {t u : Tab} {st su : List ℕ} {top code : ℕ} {place : Places} {a b : ℕ} (s : Started bs fs t st)
     (r : Ran bs setting t u gs top su code place a b) where
   -- what had a number keeps it
   pub none-forgotten : Grown t u
@@ -63,7 +68,7 @@ module _ {bs : List ℕ} {setting : Setting} {fs gs : Rows} {t u : Tab} {st su :
       ]
 
   -- each type of each frame where the walk stood is among them
-  pub frames-formed : (f : Frame) → List·Memᴰ f (framesAt (walked setting bs)) → (ty : Ty) → List·Memᴰ (some ty) f → List·Memᴰ ty (formed u)
+  pub frames-formed : (f : Frame) → List·Memᴰ f (framesAt (walked setting bs)) → (ty : Binding) → List·Memᴰ (some ty) f → List·Memᴰ (ty .type) (formed u)
   unfolding framesAt framesOf
   frames-formed f m ty i = elim (ℕ-discrete code 9) [
     | yes n ↦ absurd (List·Memᴰ·not-nil (rw (r .says, ended-deep (namesOf bs) u gs top (r .returns) code place a b n) at m))

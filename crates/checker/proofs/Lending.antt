@@ -8,12 +8,13 @@ use Rattle.meaning.specs.Limits.{mostFrames, mostNodes, mostNames}
 use Rattle.types.specs.Table.{tab, capacity, Fresh, Wf}
 use Rattle.types.proofs.Room.{capacity-as}
 use Rattle.stmt.specs.Contract.{Started}
+use Rattle.frames.specs.Env.{absentRow}
 use Rattle.stmt.proofs.Modules.{fresh-fit, fresh-frames}
 use Rattle.checker.specs.Steps.{Sized, Lent}
 
 module _ {bs cs : List ℕ} {nodes : ℕ} (l : Lent bs nodes cs) where
   pub lent-started : {ds : List ℕ} → length ds ≡ length cs → Wf (tab ds 8 0)
-      → Started bs (replicate mostFrames (replicate mostNames 0)) (tab ds 8 0) (replicate mostNodes 1)
+      → Started bs (replicate mostFrames absentRow) (tab ds 8 0) (replicate mostNodes 1)
   lent-started {ds} e w = record {
     sound = l .sound;
     wf = w;

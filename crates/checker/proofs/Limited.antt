@@ -26,7 +26,8 @@ use Rattle.meaning.proofs.Listed.{listingOf, listing-lists}
 use Rattle.types.specs.Table.{Tab, denote, Means, Wf}
 use Rattle.types.proofs.Parts.{part-number, plain-kind-of}
 use Rattle.types.proofs.Elements.{elements-few}
-use Rattle.frames.specs.Env.{Rows, slot, frameOf, Fit}
+use Rattle.meaning.specs.Frames.{Binding, binding}
+use Rattle.frames.specs.Env.{Rows, typeIn, nodeIn, nodeFrom, slotAs, frameOf, Fit}
 
 -- ---- lists
 
@@ -71,20 +72,24 @@ module _ {t : Tab} (w : Wf t) where
       means-held (record { below = n .below; means = n .means ∙ a .1 .1 }) k
 
   -- what a row's cell holds is a type of the table
-  cell-held : (row : List ℕ) → ((x : ℕ) → getD row x 0 ≤ t.n) → (x : ℕ) (ty : Ty) → getD (frameOf t row) x none ≡ some ty → 8 ≤ kind ty → List·Memᴰ ty held
-  unfolding frameOf slot
-  cell-held [] k x ty e h = absurd (Option·none-ne-some ty e)
-  cell-held (zero ∷ row) k zero ty e h = absurd (Option·none-ne-some ty e)
-  cell-held (suc c ∷ row) k zero ty e h = means-held (record { below = omega (arith, k 0); means = Option·some-injective (denote t c) ty e }) h
-  cell-held (c ∷ row) k (suc x) ty e h = cell-held row (λ y. k (suc y)) x ty e h
+  cell-held : (row : List ℕ) → ((x : ℕ) → typeIn (getD row x 0) ≤ t.n) → (x : ℕ) (b : Binding) → getD (frameOf t row) x none ≡ some b → 8 ≤ kind (b .type)
+      → List·Memᴰ (b .type) held
+  unfolding frameOf slotAs
+  cell-held [] k x b e h = absurd (Option·none-ne-some b e)
+  cell-held (c ∷ row) k zero b e h = here (typeIn c) (nodeIn c) (k 0) e
+    where
+      here : (i n : ℕ) → i ≤ t.n → slotAs t i n ≡ some b → List·Memᴰ (b .type) held
+      here zero n l q = absurd (Option·none-ne-some b q)
+      here (suc i) n l q = means-held (record { below = l; means = ap (λ (d : Binding). d .type) (Option·some-injective (binding (denote t i) (nodeFrom n)) b q) }) h
+  cell-held (c ∷ row) k (suc x) b e h = cell-held row (λ y. k (suc y)) x b e h
 
   -- so the names that are listed over a row have types of the table: what is added is Unknown
-  listed-held : {bs : List ℕ} → Sound bs → (row : List ℕ) → ((x : ℕ) → getD row x 0 ≤ t.n) → Known held (map (λ e. e .1) (listingOf bs (frameOf t row)))
+  listed-held : {bs : List ℕ} → Sound bs → (row : List ℕ) → ((x : ℕ) → typeIn (getD row x 0) ≤ t.n) → Known held (map (λ e. e .1) (listingOf bs (frameOf t row)))
   unfolding kind
   listed-held {bs} s row k ty m h =
       let f = Memᴰ·of-map (λ (e : Entry). e .1) (listingOf bs (frameOf t row)) m in
       let l = listing-lists bs s (frameOf t row) (f .0 .0) (f .0 .1) .0 (f .1) in
-      ⊎-elim (λ a. cell-held row k (l .slot) ty (a ∙ ap some (f .2)) h) (λ a. absurd (omega (arith, h, ap kind (sym (f .2) ∙ a .2)))) (l .typed)
+      ⊎-elim (λ a. cell-held row k (l .slot) (binding ty (a .0)) (a .1 ∙ ap (λ (y : Ty). some (binding y (a .0))) (f .2)) h) (λ a. absurd (omega (arith, h, ap kind (sym (f .2) ∙ a .2)))) (l .typed)
 
 module _ {bs : List ℕ} {t : Tab} {fs : Rows} {top : ℕ} (s : Sound bs) (w : Wf t) (f : Fit t fs top) (few : t.m ≤ mostElements) where
   pub sheet-within : withinLimits (listingOf bs (frameOf t (getD fs top []))) ≡ true

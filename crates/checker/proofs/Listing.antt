@@ -15,6 +15,7 @@ use Rattle.meaning.specs.Walk.{strict, start}
 use Rattle.meaning.specs.Sheet.{Entry}
 use Rattle.meaning.specs.Read.{entriesIn}
 use Rattle.meaning.specs.Answer.{Answer as Meant, walked, answer}
+use Rattle.meaning.specs.Frames.{blank}
 use Rattle.meaning.proofs.Faults.{Sound}
 use Rattle.meaning.proofs.SheetSame.{Held}
 use Rattle.meaning.proofs.Answers.{strict-is}
@@ -49,7 +50,7 @@ module _ (setting : ℕ) (image : List ℕ) (room told : ℕ) {n : Numbers} {old
 
   -- Every name that the module may bind stands there, with the frame's type or as Unknown. (False of one that misses an elif body.)
   pub bound-in-sheet : (y : ℕ) → List·Memᴰ y (mayBind (treeOf (nodesOf image)))
-      → List·Memᴰ (nameOf (namesOf image) y .spelling, orElse (getD (moduleFrame image) y none) unknown) said
+      → List·Memᴰ (nameOf (namesOf image) y .spelling, orElse (getD (moduleFrame image) y none) blank .type) said
   bound-in-sheet y m = rw (sheet-tells-listed setting image room told x c) (bound-listed image sound-image (moduleFrame image) y m)
 
   -- A known type is the module frame's. (False of one that takes a type from a body: i in `for i in [1]: pass`.)

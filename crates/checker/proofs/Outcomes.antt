@@ -18,7 +18,10 @@ use Rattle.meaning.proofs.Faults.{Sound, sizes, fault-told}
 use Rattle.meaning.proofs.Listed.{listingOf}
 use Rattle.meaning.proofs.Answers.{overlaid-none, plain-is, strict-is, no-setting}
 use Rattle.types.specs.Table.{Tab}
-use Rattle.frames.specs.Env.{Rows, framesOf}
+use Rattle.frames.specs.Env.{Rows, framesOf, firstNode, firstNumber}
+use Rattle.frames.specs.declared.First.{First}
+use Rattle.state.specs.Notes.{places}
+use Rattle.targets.specs.Ending.{firstAt}
 use Rattle.stmt.specs.Contract.{settingIf, Ran}
 use Rattle.checker.specs.Answers.{Answers, Wrote, Told, Numbers, bareNumbers, numbersOf, Stands, Replies, replyMeans}
 use Rattle.checker.specs.Steps.{Accepting, Refusing, refusedAs}
@@ -29,7 +32,7 @@ use Rattle.checker.proofs.Places.{fault-near}
 use Rattle.checker.proofs.Limited.{sheet-within}
 use Rattle.checker.proofs.Readable.{message-legible}
 use Rattle.checker.proofs.Written.{no-message, no-place, written-roomy, written-form}
-use Rattle.checker.proofs.Ends.{newest-row, answer-fault, ran-well, ran-deep, ran-ill, ran-typing}
+use Rattle.checker.proofs.Ends.{newest-row, answer-fault, ran-well, ran-deep, ran-ill, ran-typing, ran-near}
 
 -- a buffer that nothing was written to
 kept : (m : List ℕ) → m ≡ overlaid [] m
@@ -57,7 +60,8 @@ answers-fault setting bs x y {f} {q} {s} {m} e n t =
       stands = t;
     }
 
-module _ {bs : List ℕ} {setting : Setting} {t u : Tab} {gs : Rows} {top : ℕ} {su : List ℕ} {code place a b : ℕ} (h : Sound bs) (r : Ran bs setting t u gs top su code place a b) where
+module _ {bs : List ℕ} {setting : Setting} {t u : Tab} {gs : Rows} {top : ℕ} {su : List ℕ} {code place a b : ℕ} (first : First) (h : Sound bs)
+    (r : Ran bs setting t u gs top su code (places place (firstNumber first)) a b) where
   pub ran-accepting : t .m ≡ 0 → code ≡ 0 → Accepting bs u gs top
   ran-accepting m z =
       let l = r .left (λ n. absurd (omega arith)) in
@@ -75,7 +79,7 @@ module _ {bs : List ℕ} {setting : Setting} {t u : Tab} {gs : Rows} {top : ℕ}
       let es = listingOf bs (newest (framesOf u gs top)) in
       let a = ran-accepting k z in
       let l : withinLimits es ≡ true = rw (newest-row u gs top) (sheet-within (a .sound) (a .wf) (a .fit) (a .few)) in
-      rw (ran-well h r z (length old) (length m)) record {
+      rw (ran-well first h r z (length old) (length m)) record {
         replies = record {
           numbers = w .numbers;
           near = rw (no-place (length old) (sheetOf es)) (omega arith);
@@ -90,32 +94,35 @@ module _ {bs : List ℕ} {setting : Setting} {t u : Tab} {gs : Rows} {top : ℕ}
 
   pub answers-deep : (x y : ℕ) {s m : List ℕ} → (code ≡ 0 → ⊥) → code ≡ 9 → Answers (answerUnder setting bs x y) (NinthFrame place) s s m m
   answers-deep x y {s} {m} z n =
-      rw (ran-deep h r z n x y) record {
+      rw (ran-deep first h r z n x y) record {
         replies = bare-replies 9 place s m refl (omega (arith, r .deep n .placed, sizes (h .headed) .nodes)) (omega arith) (λ t. omega (arith, t));
         stands = tt;
       }
 
-  pub ran-refusing : {nodes : ℕ} → nodes ≡ nodesFrom bs → (code ≡ 0 → ⊥) → (code ≡ 9 → ⊥) → Refusing bs nodes u code place a b
-  ran-refusing e z n = record {
+  pub ran-refusing : {nodes : ℕ} → nodes ≡ nodesFrom bs → (code ≡ 0 → ⊥) → (code ≡ 9 → ⊥) → firstNode first ≡ firstAt code (firstNumber first)
+      → Refusing bs nodes u code place first a b
+  ran-refusing e z n p = record {
     sound = h;
     nodes-at = e;
     wf = r .left n .grown .wf;
     named = r .named n;
-    typing = ran-typing h r z n;
+    near = ran-near first h r z n p;
+    typing = ran-typing first h r z n;
   }
 
-  pub answers-refused : (x : ℕ) {q : Answer} {s old new : List ℕ} → (code ≡ 0 → ⊥) → (code ≡ 9 → ⊥) → Told (refusedAs bs u code place a b (length old)) q old new
+  pub answers-refused : (x : ℕ) {q : Answer} {s old new : List ℕ} → (code ≡ 0 → ⊥) → (code ≡ 9 → ⊥) → firstNode first ≡ firstAt code (firstNumber first)
+      → Told (refusedAs bs u code place (firstNode first) a b (length old)) q old new
       → Answers (answerUnder setting bs x (length old)) q s s old new
   unfolding refusedAs
-  answers-refused x {q} {s} {old} {new} z n w =
-      let k = ran-typing h r z n in
-      rw (ran-ill h r z n x (length old)) record {
+  answers-refused x {q} {s} {old} {new} z n p w =
+      let k = ran-typing first h r z n in
+      rw (ran-ill first h r z n p x (length old)) record {
         replies = record {
           numbers = w .numbers;
           near = omega (arith, r .named n .placed z, sizes (h .headed) .nodes);
           roomy = λ l t. omega (arith, t, k);
           form = λ t. absurd (omega (arith, t, k));
-          legible = message-legible h u code place a b (length old);
+          legible = message-legible h u code place (firstNode first) a b (length old);
           sheet = kept s;
           message = w .message;
         };
@@ -145,7 +152,7 @@ answers-none n bs x y {s} {m} p q =
 unfoldable answerFrom : Numbers → Answer
 answerFrom n =
     choose (n .code)
-    (Typing (record { code = n .code; place = n .place; begins = n .spanStart; ends = n .spanEnd; message = n .message }))
+    (Typing (record { code = n .code; place = n .place; begins = n .spanStart; ends = n .spanEnd; «second_begins» = n .secondStart; «second_ends» = n .secondEnd; message = n .message }))
     ((0, Accepted (n .sheet)) ∷ (1, BadHead) ∷ (2, BadCount) ∷ (3, BadOffset) ∷ (4, BadName (n .place)) ∷ (5, UnsafeName (n .place)) ∷ (6, BadNode (n .place))
     ∷ (7, BadNesting (n .place)) ∷ (8, TooDeep (n .place)) ∷ (9, NinthFrame (n .place)) ∷ (10, ShortBuffer) ∷ (13, NoSetting) ∷ [])
 
@@ -193,6 +200,8 @@ replyFrom n =
       code = n .code;
       «span_start» = n .spanStart;
       «span_end» = n .spanEnd;
+      «second_start» = n .secondStart;
+      «second_end» = n .secondEnd;
       place = n .place;
       «sheet_length» = n .sheet;
       «message_length» = n .message;

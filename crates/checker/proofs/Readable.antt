@@ -2,7 +2,7 @@
 use mathlib.Core.Path.{_≡_, refl}
 use mathlib.Core.Bool.{Bool, true, false}
 use mathlib.Core.List.{List, [], _∷_, _++_, map}
-use mathlib.Core.Option.{none}
+use mathlib.Core.Option.{Option, none}
 use Prim.Native.Nat.{ℕ, zero, suc, _+_, _/_, _%_, _≤_}
 use Prim.Native.String.{String}
 use native.Mathlib.Omega.{arith}
@@ -14,7 +14,7 @@ use Rattle.meaning.specs.Base.{_and_, if_then_else_, choose, all, bytes, digits
 use Rattle.meaning.specs.Types.{Ty, Tys, no-types, _⊕_, unknown, int, bool, string, float, nonetype, range, function, list, dict, tuple, mapIter, filterIter, text, texts, others}
 use Rattle.meaning.specs.Image.{NameRecord, Name, Role, plain, exactly, between, any, takes, printable, textStands, wrongName, brokenName, nameRecords, nameFrom, namesOf, nameOf, textsOf}
 use Rattle.meaning.specs.Rules.{described}
-use Rattle.meaning.specs.Message.{Piece, refusal, template, said, fill, message}
+use Rattle.meaning.specs.Message.{Piece, conflict, template, said, fill, message}
 use Rattle.meaning.specs.Answer.{fitting}
 use Rattle.meaning.proofs.Choices.{and-left, and-right, both, if-none}
 use Rattle.meaning.proofs.Faults.{Sound}
@@ -174,8 +174,8 @@ pieces-legible {bs} s t c a b =
     (both _ _ (both _ _ (text-legible (denote t a)) (both _ _ (text-legible (denote t b)) refl)) refl))
 
 -- whatever a refusal tells of a sound image
-pub message-legible : {bs : List ℕ} → Sound bs → (t : Tab) (c n a b room : ℕ)
-    → all readable (fitting room (message (refusal c n (pieces (namesOf bs) t c a b)))) ≡ true
+pub message-legible : {bs : List ℕ} → Sound bs → (t : Tab) (c n : ℕ) (f : Option ℕ) (a b room : ℕ)
+    → all readable (fitting room (message (conflict c n f (pieces (namesOf bs) t c a b)))) ≡ true
 unfolding fitting message all
-message-legible {bs} s t c n a b room =
+message-legible {bs} s t c n f a b room =
     if-passes (all readable) _ _ [] (fill-legible (bytes (template c)) (pieces (namesOf bs) t c a b) (template-legible c) (pieces-legible s t c a b)) refl

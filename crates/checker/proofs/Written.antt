@@ -16,13 +16,13 @@ use Rattle.meaning.proofs.SheetForm.{is-sheet, sheet-length}
 
 -- what holds of both ends
 pub by-room : (P : Answer → Type 0) (room : ℕ) (bs : List ℕ)
-    → (length bs ≤ room → P (record { code = 0; place = 0; spanStart = 0; spanEnd = 0; sheet = bs; message = [] }))
+    → (length bs ≤ room → P (record { code = 0; place = 0; spanStart = 0; spanEnd = 0; secondStart = 0; secondEnd = 0; sheet = bs; message = [] }))
     → (room < length bs → P (bare 10 0)) → P (written room bs)
 unfolding written if_then_else_
 by-room P room bs f g = by (leb (length bs) room) refl
   where
     by : (b : Bool) → leb (length bs) room ≡ b
-        → P (if b then record { code = 0; place = 0; spanStart = 0; spanEnd = 0; sheet = bs; message = [] } else bare 10 0)
+        → P (if b then record { code = 0; place = 0; spanStart = 0; spanEnd = 0; secondStart = 0; secondEnd = 0; sheet = bs; message = [] } else bare 10 0)
     by true e = f (leb-true (length bs) room e)
     by false e = g (leb-false (length bs) room e)
 

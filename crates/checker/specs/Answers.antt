@@ -20,21 +20,23 @@ use Rattle.checker.specs.declared.Rewriting.the-variants.{Written, NoRoo
 use Rattle.checker.specs.declared.Answer.{Answer}
 use Rattle.checker.specs.declared.Answer.the-variants.{Accepted, BadHead, BadCount, BadOffset, BadName, UnsafeName, BadNode, BadNesting, TooDeep, NinthFrame, ShortBuffer, NoSetting, Typing}
 
--- "Code, place, span, sheet length, message length."
+-- "Code, place, span, sheet length, message length", and the second span of document 02
 pub record Numbers : Type 0 where
   pub code : ℕ
   pub place : ℕ
   pub spanStart : ℕ
   pub spanEnd : ℕ
+  pub secondStart : ℕ
+  pub secondEnd : ℕ
   pub sheet : ℕ
   pub message : ℕ
 
 abbrev pub bareNumbers : ℕ → ℕ → Numbers
-bareNumbers c n = record { code = c; place = n; spanStart = 0; spanEnd = 0; sheet = 0; message = 0 }
+bareNumbers c n = record { code = c; place = n; spanStart = 0; spanEnd = 0; secondStart = 0; secondEnd = 0; sheet = 0; message = 0 }
 
 -- code 0, with the length of the sheet
 abbrev pub sheetNumbers : ℕ → Numbers
-sheetNumbers n = record { code = 0; place = 0; spanStart = 0; spanEnd = 0; sheet = n; message = 0 }
+sheetNumbers n = record { code = 0; place = 0; spanStart = 0; spanEnd = 0; secondStart = 0; secondEnd = 0; sheet = n; message = 0 }
 
 -- the numbers of each case
 abbrev pub numbersOf : Answer → Numbers
@@ -51,7 +53,16 @@ numbersOf (NinthFrame i) = bareNumbers 9 i
 numbersOf ShortBuffer = bareNumbers 10 0
 numbersOf NoSetting = bareNumbers 13 0
 numbersOf (Typing r) =
-    record { code = r .code; place = r .place; spanStart = r .begins; spanEnd = r .ends; sheet = 0; message = r .message }
+    record {
+      code = r .code;
+      place = r .place;
+      spanStart = r .begins;
+      spanEnd = r .ends;
+      secondStart = r .«second_begins»;
+      secondEnd = r .«second_ends»;
+      sheet = 0;
+      message = r .message;
+    }
 
 -- a typing refusal has a typing code
 abbrev pub Stands : Answer → Type 0
@@ -77,6 +88,8 @@ numbersIn a =
       place = a .place;
       spanStart = a .spanStart;
       spanEnd = a .spanEnd;
+      secondStart = a .secondStart;
+      secondEnd = a .secondEnd;
       sheet = length (a .sheet);
       message = length (a .message);
     }
@@ -148,6 +161,8 @@ replyMeans r =
       place = r .place;
       spanStart = r .«span_start»;
       spanEnd = r .«span_end»;
+      secondStart = r .«second_start»;
+      secondEnd = r .«second_end»;
       sheet = r .«sheet_length»;
       message = r .«message_length»;
     }

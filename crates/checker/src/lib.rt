@@ -3,18 +3,21 @@
 ghost use mathlib.Core.Path.{_≡_};
 ghost use lib.ListN.{length};
 ghost use Rattle.meaning.specs.Limits.{mostNodes};
+ghost use Rattle.meaning.specs.Image.{nodeCount, nodesFrom, nodesOf};
 ghost use Rattle.meaning.specs.Frames.{newest};
 ghost use Rattle.meaning.specs.Sheet.{sheetOf};
 ghost use Rattle.meaning.specs.Answer.{answer, written, readAnswer};
-ghost use Rattle.meaning.proofs.Faults.{Sound};
+ghost use Rattle.meaning.proofs.Faults.{Headed, Sound};
 ghost use Rattle.meaning.proofs.Listed.{listingOf};
 ghost use Rattle.types.specs.Table.{tab};
-ghost use Rattle.frames.specs.Env.{framesOf};
+ghost use Rattle.frames.specs.Env.{framesOf, firstNode, FirstBelow};
 ghost use Rattle.checker.specs.Answers.{Answers, AnswersUnder, Wrote, Told, numbersOf, numbersIn, bareNumbers};
 ghost use Rattle.checker.specs.Answers.{readingNumbers, rewritingNumbers, rewritten, replyMeans};
 ghost use Rattle.checker.specs.Answers.{Replies, Relaid, sheetNumbers};
 ghost use Rattle.checker.specs.Steps.{Sized, Lent, Accepting, Refusing, refusedAs};
+ghost use Rattle.checker.specs.Steps.{firstStart, firstEnd};
 use frames::EMPTY;
+use frames::First;
 use frames::Frames;
 use image::Judged;
 use image::areas;
@@ -41,11 +44,14 @@ pub const PLAIN: u32 = 0;
 pub const STRICT: u32 = 1;
 
 // A typing refusal: its code, 20 to 50, its node with its span, and the length of its message, 0 if that did not fit.
+// For 25 and 23, the second span is that of the node which first made the old type known; for every other code, 0,0.
 pub struct Refusal {
     pub code: u32,
     pub place: usize,
     pub begins: u32,
     pub ends: u32,
+    pub second_begins: u32,
+    pub second_ends: u32,
     pub message: usize,
 }
 
@@ -94,6 +100,31 @@ fn accept(
 
 // ---- a typing refusal
 
+// A span as the image has it.
+struct Span {
+    begins: u32,
+    ends: u32,
+}
+
+// The span of a first node, and 0,0 where there is none.
+fn span_of(image: &[u8], nodes: usize, first: First) -> Span
+    requires { ⌜ Headed (now image) × (nodes ≡ nodesFrom (now image)) ⌝ }
+    requires { ⌜ FirstBelow (nodeCount (now image)) first ⌝ }
+    ensures { λ r. ⌜ (r .begins ≡ firstStart (nodesOf (now (image .entry))) (firstNode first))
+        × (r .ends ≡ firstEnd (nodesOf (now (image .entry))) (firstNode first)) ⌝ }
+{
+    match first {
+        First::Nowhere => Span { begins: 0, ends: 0 },
+        First::At(i) => {
+            let node = node_at(image, nodes, i);
+            Span {
+                begins: node.begins,
+                ends: node.ends,
+            }
+        }
+    }
+}
+
 fn refuse(
     image: &[u8],
     nodes: usize,
@@ -101,22 +132,27 @@ fn refuse(
     counts: Counts,
     code: u32,
     place: usize,
+    first: First,
     a: usize,
     b: usize,
     message: &mut [u8],
 ) -> Answer
-    requires { ⌜ Refusing (now image) nodes (tab (now table) (counts .types) (counts .elements)) code place a b ⌝ }
+    requires { ⌜ Refusing (now image) nodes (tab (now table) (counts .types) (counts .elements))
+        code place first a b ⌝ }
     ensures { λ r. ⌜ Told (refusedAs (now (image .entry)) (tab (now (table .entry)) (counts .types) (counts .elements))
-        code place a b (length (now (message .entry))))
+        code place (firstNode first) a b (length (now (message .entry))))
         r (now (message .entry)) (now (message .exit)) ⌝ }
 {
     let node = node_at(image, nodes, place);
+    let second = span_of(image, nodes, first);
     let length = message::write(image, table, counts, code, a, b, message);
     Answer::Typing(Refusal {
         code,
         place,
         begins: node.begins,
         ends: node.ends,
+        second_begins: second.begins,
+        second_ends: second.ends,
         message: length,
     })
 }
@@ -141,6 +177,7 @@ fn walk_in(
     let mut stack = [FRESH; MOST_NODES];
     let w = typecheck_program(image, &mut frames, table, &mut stack, plain);
     let end = w.end;
+    let first = w.first;
     match end {
         End::Done => accept(image, table, w.counts, &frames, w.top, sheet),
         End::Wrong => refuse(
@@ -150,6 +187,7 @@ fn walk_in(
             w.counts,
             w.code,
             w.place,
+            first,
             w.a,
             w.b,
             message,
@@ -313,6 +351,8 @@ pub struct Reply {
     pub code: u32,
     pub span_start: u32,
     pub span_end: u32,
+    pub second_start: u32,
+    pub second_end: u32,
     pub place: usize,
     pub sheet_length: usize,
     pub message_length: usize,
@@ -333,13 +373,15 @@ fn with_sheet(length: usize) -> Reply
         code: 0,
         span_start: 0,
         span_end: 0,
+        second_start: 0,
+        second_end: 0,
         place: 0,
         sheet_length: length,
         message_length: 0,
     }
 }
 
-// A code with a place, and no span.
+// A code with a place, and no spans.
 fn bare(code: u32, place: usize) -> Reply
     ensures { λ r. ⌜ replyMeans r ≡ bareNumbers code place ⌝ }
 {
@@ -347,6 +389,8 @@ fn bare(code: u32, place: usize) -> Reply
         code,
         span_start: 0,
         span_end: 0,
+        second_start: 0,
+        second_end: 0,
         place,
         sheet_length: 0,
         message_length: 0,
@@ -374,6 +418,8 @@ pub fn replied(a: Answer) -> Reply
             code: r.code,
             span_start: r.begins,
             span_end: r.ends,
+            second_start: r.second_begins,
+            second_end: r.second_ends,
             place: r.place,
             sheet_length: 0,
             message_length: r.message,

@@ -23,6 +23,8 @@ use Rattle.meaning.proofs.Decoding.{literal-at, variable-at}
 use Rattle.types.specs.Table.{Tab, Means}
 use Rattle.types.proofs.Laws.{plain-number}
 use Rattle.frames.specs.Env.{Rows, framesOf, Looked}
+use Rattle.frames.specs.declared.Binding.{Binding as Found}
+use Rattle.frames.proofs.Laws.{looked-type}
 use Rattle.nodes.specs.Operands.{literalNumber}
 use Rattle.nodes.proofs.Laws.{literal-means}
 use Rattle.expr.specs.Contract.{Ready, At, Done}
@@ -108,11 +110,11 @@ module _ {bs : List ℕ} {nodes : ℕ} {fs : Rows} {top : ℕ} {t : Tab} {st : L
       let q : nodeOf (nodesOf bs) i .arg < nameCount bs = rw w at (node-stands (sound-nested (r .sound)) i inside .arg) in
       (r .fit .high, rw (e, o) (omega (arith, q, sizes (r .sound .headed) .names)))
 
-  pub variable-done : {x v code place number a b : ℕ} → node .kind ≡ 21 → x ≡ node .arg → code ≡ 0 → number ≡ v → Looked fs top x v
+  pub variable-done : {x code place number a b : ℕ} {v : Found} → node .kind ≡ 21 → x ≡ node .arg → code ≡ 0 → number ≡ v .ty → Looked fs top x v
       → Done (namesOf bs) (check (namesOf bs) (framesOf t fs top) (exprAt (nodesOf bs) d i)) t t st st sp i (stopOf (nodesOf bs) i) (nodeCount bs) code place number a b
   unfolding checkForm
   variable-done {x} k e z n w =
-      leaf-done (lookup (framesOf t fs top) x) z (rw n (w .says t (r .wf) (r .fit)))
+      leaf-done (lookup (framesOf t fs top) x .type) z (rw n (looked-type w (r .wf) (r .fit)))
       (rw (variable-at (nodesOf bs) (λ j. exprAt (nodesOf bs) (d - 1) j) i (rw o at k), e, o))
 
   pub lambda-done : {code place number a b : ℕ} → (node .kind < 20) ⊎ (31 < node .kind) → code ≡ 0 → number ≡ 7

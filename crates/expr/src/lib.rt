@@ -67,7 +67,10 @@ pub fn tc_expr(
     let kind = node.kind;
     match kind {
         kinds::LITERAL => Typed::Ok(literal(node.arg)),
-        kinds::VARIABLE => Typed::Ok(lookup(frames, top, node.arg as usize)),
+        kinds::VARIABLE => {
+            let known = lookup(frames, top, node.arg as usize);
+            Typed::Ok(known.ty)
+        }
         kinds::BINARY => binary(image, here, frames, top, table, notes, stack, sp, depth - 1),
         kinds::CALL => call(image, here, frames, top, table, notes, stack, sp, depth - 1),
         kinds::LIST => list(image, here, frames, top, table, notes, stack, sp, depth - 1),
@@ -103,7 +106,8 @@ fn child(
         return Typed::Ok(literal(node.arg));
     }
     if node.kind == kinds::VARIABLE {
-        return Typed::Ok(lookup(frames, top, node.arg as usize));
+        let known = lookup(frames, top, node.arg as usize);
+        return Typed::Ok(known.ty);
     }
     tc_expr(image, here, frames, top, table, notes, stack, sp, depth)
 }

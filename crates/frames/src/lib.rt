@@ -1,33 +1,56 @@
-// Frames as eight rows of 128 cells: a cell is 0 for absent, and a type's number + 1 otherwise.
+// Frames as eight rows of 128 cells. A cell has two halves: a type's number + 1, or 0 where the name is absent; and the
+// number + 1 of the node that first made the type known, or 0 where none did. Only this file knows that.
 ghost use mathlib.Core.Path.{_≡_};
 ghost use mathlib.Core.Bool.{Bool, true, false};
+ghost use mathlib.Core.Option.{none};
 ghost use Prim.Native.Nat.{ℕ, suc, _+_, _<_, _≤_};
-ghost use lib.ListN.{length, getD, set, replicate};
+ghost use lib.ListN.{length, getD, set};
 ghost use mathlib.Core.List.{List, [], _∷_};
 ghost use Rattle.meaning.specs.Limits.{mostNames, mostFrames};
-ghost use Rattle.frames.specs.Env.{cellRoom, Holds, Looked, Bound, noteCell, clashCell, Noted, Committed};
+ghost use Rattle.frames.specs.Env.{cellRoom, typeIn, nodeIn, nodeFrom, firstNode, firstNumber};
+ghost use Rattle.frames.specs.Env.{FirstBelow, Holds, Looked};
+ghost use Rattle.frames.specs.Env.{Known, Bound, absentRow, noteCell, clashCell, Noted, Committed};
 use limits::MOST_FRAMES;
 use limits::MOST_NAMES;
 use types;
 
 // "Eight rows of 128 type numbers, copied whole": a frame for each Def around a statement and one for the module, and a
-// cell for each name.
-pub type Row = [u16; MOST_NAMES];
+// cell for each name. What is kept beside a type stands in its cell, and so is copied with it.
+pub type Row = [u32; MOST_NAMES];
 
 pub type Frames = [Row; MOST_FRAMES];
 
 // A yes or no per name.
 pub type Marks = [bool; MOST_NAMES];
 
-// A cell of no type, and one of Unknown; every other holds a known type.
-const ABSENT: u16 = 0;
+// What a cell counts its nodes by.
+const HALF: u32 = 65536;
 
-const UNKNOWN: u16 = 1;
+// The half for the type where there is none, and where it is Unknown; every other is that of a known type.
+const ABSENT: u32 = 0;
+
+const UNKNOWN: u32 = 1;
+
+// The cell of an absent name. Its half for the node is of no matter and not 0, since a row of zeros is filled by a call
+// of the C library that stores byte by byte, and any other 16 bytes at a time.
+const NO_TYPE: u32 = HALF + ABSENT;
 
 // A frame in which every name is absent, and eight of them.
-pub const NO_NAMES: Row = [ABSENT; MOST_NAMES];
+pub const NO_NAMES: Row = [NO_TYPE; MOST_NAMES];
 
 pub const EMPTY: Frames = [NO_NAMES; MOST_FRAMES];
+
+// "the node that first made it known: the Variable assigned, or the iterable for a loop name. Unknown has none".
+pub enum First {
+    Nowhere,
+    At(usize),
+}
+
+// A type's number, and its first node.
+pub struct Binding {
+    pub ty: usize,
+    pub first: First,
+}
 
 // What one frame holds for a name: nothing, or a type's number. The sheet tells an absent name from one of type
 // Unknown.
@@ -36,20 +59,89 @@ pub enum Held {
     OfType(usize),
 }
 
-// The type in a cell that holds one, and the cell of a type.
-fn type_in(cell: u16) -> usize
-    requires { ⌜ 0 < cell ⌝ }
-    ensures { λ r. ⌜ (suc r ≡ cell) × (r < cellRoom) ⌝ }
+// ---- bindings
+
+// What a name has that nothing is known of.
+pub fn blank() -> Binding
+    ensures { λ r. ⌜ (r .ty ≡ 0) × (firstNode (r .first) ≡ none) ⌝ }
 {
-    (cell - 1) as usize
+    Binding {
+        ty: types::UNKNOWN,
+        first: First::Nowhere,
+    }
 }
 
-fn cell_of(ty: usize) -> u16
-    requires { ⌜ ty < cellRoom ⌝ }
-    ensures { λ r. ⌜ r ≡ suc ty ⌝ }
+// `ty`, known since the old node, or since `node` where there is none: "an equal or Unknown assignment keeps the old
+// node".
+pub fn since(old: First, node: usize, ty: usize) -> Binding
+    ensures { λ r. ⌜ Known old node ty r ⌝ }
 {
-    ty as u16 + 1
+    match old {
+        First::At(kept) => Binding {
+            ty: ty,
+            first: First::At(kept),
+        },
+        First::Nowhere => {
+            if ty == types::UNKNOWN {
+                return blank();
+            }
+            Binding {
+                ty: ty,
+                first: First::At(node),
+            }
+        }
+    }
 }
+
+// A first node as a number: the node's + 1, or 0 for none; and back.
+pub fn number_of(first: First) -> u32
+    requires { ⌜ FirstBelow cellRoom first ⌝ }
+    ensures { λ r. ⌜ (r ≡ firstNumber first) × (r ≤ cellRoom) ⌝ }
+{
+    match first {
+        First::Nowhere => 0,
+        First::At(node) => node as u32 + 1,
+    }
+}
+
+pub fn first_of(number: u32) -> First
+    ensures { λ r. ⌜ (firstNode r ≡ nodeFrom number) × (number ≤ cellRoom → FirstBelow cellRoom r) ⌝ }
+{
+    if number == 0 {
+        return First::Nowhere;
+    }
+    First::At((number - 1) as usize)
+}
+
+// ---- cells
+
+// The first node in a cell, the binding in one that is not absent, and the cell of a binding.
+fn first_in(cell: u32) -> First
+    ensures { λ r. ⌜ (firstNode r ≡ nodeFrom (nodeIn cell)) × FirstBelow cellRoom r ⌝ }
+{
+    first_of(cell / HALF)
+}
+
+fn binding_in(cell: u32) -> Binding
+    requires { ⌜ 0 < typeIn cell ⌝ }
+    ensures { λ r. ⌜ (suc (r .ty) ≡ typeIn cell) × (r .ty < cellRoom)
+        × (firstNode (r .first) ≡ nodeFrom (nodeIn cell)) × FirstBelow cellRoom (r .first) ⌝ }
+{
+    Binding {
+        ty: (cell % HALF - 1) as usize,
+        first: first_in(cell),
+    }
+}
+
+fn cell_of(b: Binding) -> u32
+    requires { ⌜ (b .ty < cellRoom) × FirstBelow cellRoom (b .first) ⌝ }
+    ensures { λ r. ⌜ (typeIn r ≡ suc (b .ty)) × (nodeFrom (nodeIn r) ≡ firstNode (b .first)) ⌝ }
+{
+    let first = b.first;
+    number_of(first) * HALF + (b.ty as u32 + 1)
+}
+
+// ---- frames
 
 // What the newest frame itself holds for a name.
 pub fn held_in(frames: &Frames, top: usize, name: usize) -> Held
@@ -57,14 +149,15 @@ pub fn held_in(frames: &Frames, top: usize, name: usize) -> Held
     ensures { λ r. ⌜ Holds (now (frames .entry)) top name r ⌝ }
 {
     let own = frames[top][name];
-    if own == ABSENT {
+    if own % HALF == ABSENT {
         return Held::Absent;
     }
-    Held::OfType(type_in(own))
+    Held::OfType((own % HALF - 1) as usize)
 }
 
-// The type of a name: "from the newest frame down; absent is Unknown".
-pub fn lookup(frames: &Frames, top: usize, name: usize) -> usize
+// "A lookup shall give the type and the node that first made it known", "from the newest frame down; absent is
+// Unknown".
+pub fn lookup(frames: &Frames, top: usize, name: usize) -> Binding
     requires { ⌜ (top < mostFrames) × (name < mostNames) ⌝ }
     ensures { λ r. ⌜ Looked (now (frames .entry)) top name r ⌝ }
 {
@@ -72,38 +165,42 @@ pub fn lookup(frames: &Frames, top: usize, name: usize) -> usize
     while 0 < i {
         i -= 1;
         let cell = frames[i][name];
-        if cell != ABSENT {
-            return type_in(cell);
+        if cell % HALF != ABSENT {
+            return binding_in(cell);
         }
     }
-    types::UNKNOWN
+    blank()
 }
 
 // "Assignment writes the newest frame."
-pub fn bind(frames: &mut Frames, top: usize, name: usize, ty: usize)
-    requires { ⌜ (top < mostFrames) × (name < mostNames) × (ty < cellRoom) ⌝ }
-    ensures { λ _. ⌜ Bound (now (frames .entry)) (now (frames .exit)) top name ty ⌝ }
+pub fn bind(frames: &mut Frames, top: usize, name: usize, b: Binding)
+    requires { ⌜ (top < mostFrames) × (name < mostNames) ⌝ }
+    requires { ⌜ (b .ty < cellRoom) × FirstBelow cellRoom (b .first) ⌝ }
+    ensures { λ _. ⌜ Bound (now (frames .entry)) (now (frames .exit)) top name b ⌝ }
 {
-    frames[top][name] = cell_of(ty);
+    frames[top][name] = cell_of(b);
 }
 
 // A frame in which every name is absent.
 pub fn clear(frames: &mut Frames, top: usize)
     requires { ⌜ top < mostFrames ⌝ }
-    ensures { λ _. ⌜ now (frames .exit) ≡ set (now (frames .entry)) top (replicate mostNames 0) ⌝ }
+    ensures { λ _. ⌜ now (frames .exit) ≡ set (now (frames .entry)) top absentRow ⌝ }
 {
     frames[top] = NO_NAMES;
 }
 
-// A name's first known type, after a branch that leaves `v` over `b` at entry.
-fn note(b: u16, v: u16, m: u16) -> u16
+// ---- merging
+
+// What a name is first known as, after a branch that leaves `v` over `b` at entry: "Whether a branch assigned a name
+// still goes by type alone."
+fn note(b: u32, v: u32, m: u32) -> u32
     ensures { λ r. ⌜ r ≡ noteCell b v m ⌝ }
 {
-    if UNKNOWN < v {
-        if v == b {
+    if UNKNOWN < v % HALF {
+        if v % HALF == b % HALF {
             return m;
         }
-        if m == ABSENT {
+        if m % HALF == ABSENT {
             return v;
         }
         return m;
@@ -112,17 +209,17 @@ fn note(b: u16, v: u16, m: u16) -> u16
 }
 
 // Whether a name's types disagree, after a branch that leaves `v` over `b` at entry.
-fn clash(b: u16, v: u16, m: u16, c: bool) -> bool
+fn clash(b: u32, v: u32, m: u32, c: bool) -> bool
     ensures { λ r. ⌜ r ≡ clashCell b v m c ⌝ }
 {
-    if UNKNOWN < v {
-        if v == b {
+    if UNKNOWN < v % HALF {
+        if v % HALF == b % HALF {
             return c;
         }
-        if m == ABSENT {
+        if m % HALF == ABSENT {
             return c;
         }
-        if m == v {
+        if m % HALF == v % HALF {
             return c;
         }
         return true;
@@ -130,7 +227,7 @@ fn clash(b: u16, v: u16, m: u16, c: bool) -> bool
     c
 }
 
-// A branch told of: for each name the first known type and whether a later one differs.
+// A branch told of: for each name what it is first known as and whether a later type differs.
 pub fn note_branch(
     base: &Frames,
     top: usize,
@@ -156,10 +253,16 @@ pub fn note_branch(
     }
 }
 
+// The name whose types clash, and the first node "of the first type found".
+pub struct Disagreement {
+    pub name: usize,
+    pub first: First,
+}
+
 // How a merge ended: with every name, or at the first whose types clash, which is code 23.
 pub enum Merge {
     Whole,
-    Clash(usize),
+    Clash(Disagreement),
 }
 
 // Writes the merged names in order, up to the first that clashes.
@@ -171,9 +274,12 @@ pub fn commit(frames: &mut Frames, top: usize, merged: &Row, clashes: &Marks) ->
     let mut x = 0;
     while x < MOST_NAMES {
         let m = merged[x];
-        if m != ABSENT {
+        if m % HALF != ABSENT {
             if clashes[x] {
-                return Merge::Clash(x);
+                return Merge::Clash(Disagreement {
+                    name: x,
+                    first: first_in(m),
+                });
             }
             frames[top][x] = m;
         }

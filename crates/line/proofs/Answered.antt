@@ -16,13 +16,13 @@ use Rattle.meaning.specs.Frames.{newest}
 use Rattle.meaning.specs.Message.{Refusal}
 use Rattle.meaning.specs.Walk.{Setting, State, End, done, wrong, tooDeep}
 use Rattle.meaning.specs.Answer.{Answer, bare, written, ended, walked, answerUnder, settingOf, answer, overlaid}
-use Rattle.meaning.specs.Line.{lineOf}
+use Rattle.meaning.specs.Line.{refusedLine, lineOf}
 use Rattle.meaning.proofs.Faults.{fault-told}
 use Rattle.meaning.proofs.Kept.{refused-typing}
 use Rattle.meaning.proofs.Answers.{overlaid-length, overlaid-front}
 use Rattle.meaning.proofs.Answers.{answered as bounds}
 use Rattle.meaning.proofs.SheetForm.{sheet-size}
-use Rattle.line.specs.Printing.{Printable, answered, Fronted, Lined}
+use Rattle.line.specs.Printing.{Printable, answered, Fronted, Lined, SecondTold}
 use Rattle.checker.specs.Answers.{Numbers, Replies}
 use Rattle.checker.proofs.Demand.{reply-short}
 
@@ -38,7 +38,7 @@ pub written-header : (room : ℕ) (bs : List ℕ) → 40 ≤ length bs → Heade
 unfolding written if_then_else_
 written-header room bs h = by (leb (length bs) room)
   where
-    by : (b : Bool) → Header (if b then record { code = 0; place = 0; spanStart = 0; spanEnd = 0; sheet = bs; message = [] } else bare 10 0)
+    by : (b : Bool) → Header (if b then record { code = 0; place = 0; spanStart = 0; spanEnd = 0; secondStart = 0; secondEnd = 0; sheet = bs; message = [] } else bare 10 0)
     by true = record { forty = λ e. h }
     by false = bare-header 10 0 (omega arith)
 
@@ -73,6 +73,11 @@ within old {new} {size} w e f kept =
 
 pub fronted : (old : List ℕ) {new : List ℕ} {size : ℕ} (w : List ℕ) → new ≡ overlaid w old → size ≡ length w → length new ≡ length old → Fronted w old new size
 fronted old w e f kept = record { line = e; ends = f; long = kept; inside = omega (arith, kept, within old w e f kept) }
+
+-- the line tells no second span
+line-only : (a : Answer) → lineOf (answered (a .code) (a .place) (a .spanStart) (a .spanEnd) (a .sheet) (a .message)) ≡ lineOf a
+unfolding lineOf refusedLine
+line-only a = refl
 
 -- ---- the buffers
 
@@ -130,7 +135,7 @@ module _ (setting : ℕ) (bs : List ℕ) {n : Numbers} (s s₁ m m₁ : List ℕ
       → Lined (answer setting bs (length s) (length m)) old new s s₁ m m₁ size (n .code) (n .sheet)
   lined {old} {new} {size} {p} e w kept =
       let l : lineOf (answered (n .code) p (n .spanStart) (n .spanEnd) (take (n .sheet) s₁) (take (n .message) m₁)) ≡ lineOf (answer setting bs (length s) (length m)) =
-      rw (e, sheet-part, message-part, r .numbers) in
+      rw (e, sheet-part, message-part, r .numbers) (line-only (answer setting bs (length s) (length m))) in
       record {
         front = fronted old (lineOf (answer setting bs (length s) (length m))) (w .0 ∙ rw l) (w .1 ∙ ap length l) kept;
         sheet = r .sheet;
@@ -139,3 +144,9 @@ module _ (setting : ℕ) (bs : List ℕ) {n : Numbers} (s s₁ m m₁ : List ℕ
         counted = size-is;
         roomy = r .roomy;
       }
+
+  pub line-short : {r : ℕ} → r ≤ 64 + length (take (n .message) m₁) → r ≤ 64 + length m
+  line-short h = omega (arith, h, length-take-le (n .message) m₁ message-in, message-in, long-m)
+
+  pub seconds : SecondTold (answer setting bs (length s) (length m)) (n .secondStart) (n .secondEnd)
+  seconds = record { from = ap (λ k. k .secondStart) (r .numbers); to = ap (λ k. k .secondEnd) (r .numbers) }

@@ -15,10 +15,10 @@ pub record Printable (code : ℕ) (sheet message out : List ℕ) : Type 0 where
   pub short : length sheet < 4294967296
   pub room : 64 + length message ≤ length out
 
--- the answer whose sheet and message are the written parts of the two buffers
+-- the answer whose sheet and message are the written parts of the two buffers; its line has no second span
 abbrev pub answered : ℕ → ℕ → ℕ → ℕ → List ℕ → List ℕ → Answer
 answered code place begins ends sheet message =
-    record { code = code; place = place; spanStart = begins; spanEnd = ends; sheet = sheet; message = message }
+    record { code = code; place = place; spanStart = begins; spanEnd = ends; secondStart = 0; secondEnd = 0; sheet = sheet; message = message }
 
 -- "message or `-`"
 unfoldable pub orDash : List ℕ → List ℕ
@@ -40,3 +40,8 @@ pub record Lined (a : Answer) (old new oldSheet newSheet oldMessage newMessage :
   pub told : code ≡ a .code
   pub counted : count ≡ length (a .sheet)
   pub roomy : largestSheet ≤ length oldSheet → a .code ≡ 10 → ⊥
+
+-- the answer's second span, which the line does not tell
+pub record SecondTold (a : Answer) (start end : ℕ) : Type 0 where
+  pub from : start ≡ a .secondStart
+  pub to : end ≡ a .secondEnd

@@ -5,7 +5,7 @@ ghost use Prim.Native.Nat.{_+_, _<_, _≤_};
 ghost use lib.ListN.{length};
 ghost use Rattle.meaning.specs.Answer.{answer, overlaid};
 ghost use Rattle.meaning.specs.Line.{spaced, acceptedLine, refusedLine, lineOf};
-ghost use Rattle.line.specs.Printing.{Printable, answered, orDash, Lined};
+ghost use Rattle.line.specs.Printing.{Printable, answered, orDash, Lined, SecondTold};
 ghost use Rattle.words.specs.Words.{Wrote};
 use checker::cablebirch_check;
 use sheet::header;
@@ -53,6 +53,7 @@ fn accepted_line(sheet: &[u8], out: &mut [u8]) -> usize
     requires { ⌜ length (now sheet) < 4294967296 ⌝ }
     requires { ⌜ 64 ≤ length (now out) ⌝ }
     ensures { λ r. ⌜ Wrote (now (out .entry)) 0 (acceptedLine (now (sheet .entry))) (now (out .exit)) r ⌝ }
+    ensures { λ r. ⌜ r ≤ 64 ⌝ }
 {
     let names = get_word(sheet, header::NAME_COUNT);
     let types = get_word(sheet, header::TYPE_COUNT);
@@ -72,6 +73,7 @@ fn refused_line(
     requires { ⌜ 64 + length (now message) ≤ length (now out) ⌝ }
     ensures { λ r. ⌜ Wrote (now (out .entry)) 0
         (refusedLine (answered code place begins ends [] (now (message .entry)))) (now (out .exit)) r ⌝ }
+    ensures { λ r. ⌜ r ≤ 64 + length (now (message .entry)) ⌝ }
 {
     let numbers = put(out, 0, b"refused");
     let others = put_spaced(out, numbers, code);
@@ -96,6 +98,7 @@ pub fn write(
         (lineOf (answered code place begins ends (now (sheet .entry)) (now (message .entry)))) (now (out .entry)) ⌝ }
     ensures { λ r. ⌜ r ≡ length
         (lineOf (answered code place begins ends (now (sheet .entry)) (now (message .entry)))) ⌝ }
+    ensures { λ r. ⌜ r ≤ 64 + length (now (message .entry)) ⌝ }
 {
     if code == 0 {
         return accepted_line(sheet, out);
@@ -105,10 +108,12 @@ pub fn write(
 
 // ---- the line of an image
 
-// How long the line is, and the answer's code and sheet length, for whoever goes on with them.
+// How long the line is, and the answer's code, second span and sheet length, for whoever goes on with them.
 pub struct Printed {
     pub length: usize,
     pub code: u32,
+    pub second_start: u32,
+    pub second_end: u32,
     pub sheet: usize,
 }
 
@@ -134,6 +139,10 @@ pub fn of_image(
         (answer setting (now (image .entry)) (length (now (sheet .entry))) (length (now (message .entry))))
         (now (out .entry)) (now (out .exit)) (now (sheet .entry)) (now (sheet .exit))
         (now (message .entry)) (now (message .exit)) (r .length) (r .code) (r .sheet) ⌝ }
+    ensures { λ r. ⌜ SecondTold
+        (answer setting (now (image .entry)) (length (now (sheet .entry))) (length (now (message .entry))))
+        (r .«second_start») (r .«second_end») ⌝ }
+    ensures { λ r. ⌜ r .length ≤ 64 + length (now (message .entry)) ⌝ }
 {
     let a = cablebirch_check(setting, image, sheet, message);
     let length = write(
@@ -148,6 +157,8 @@ pub fn of_image(
     Printed {
         length,
         code: a.code,
+        second_start: a.second_start,
+        second_end: a.second_end,
         sheet: a.sheet_length,
     }
 }

@@ -51,6 +51,8 @@ verdictMeans v =
       place = v .place;
       spanStart = v .«span_start»;
       spanEnd = v .«span_end»;
+      secondStart = v .«second_start»;
+      secondEnd = v .«second_end»;
       sheet = v .«sheet_length»;
       message = v .«message_length»;
     }

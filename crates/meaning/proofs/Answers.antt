@@ -28,6 +28,8 @@ pub record Answered (sheetRoom messageRoom : ℕ) (a : Answer) : Type 0 where
   pub code : ((a .code ≤ 10) ⊎ (a .code ≡ 13)) ⊎ ((20 ≤ a .code) × (a .code ≤ 50))
   -- "Codes outside 20..50 have span 0,0"
   pub span : a .code < 20 → (a .spanStart ≡ 0) × (a .spanEnd ≡ 0)
+  -- "Codes 25 and 23 answer with a second span .. ; every other code has 0,0 there."
+  pub second : (a .code ≡ 23 → ⊥) → (a .code ≡ 25 → ⊥) → (a .secondStart ≡ 0) × (a .secondEnd ≡ 0)
   -- "and place 0 where none is told"
   pub place : (a .code < 4) ⊎ ((a .code ≡ 10) ⊎ (a .code ≡ 13)) → a .place ≡ 0
   -- "every other code has sheet length 0"
@@ -43,6 +45,7 @@ module _ (sheetRoom messageRoom : ℕ) where
       record {
         code = inl h;
         span = λ l. (refl, refl);
+        second = λ p q. (refl, refl);
         place = p;
         sheet = λ l. refl;
         message = λ l. refl;
@@ -51,11 +54,12 @@ module _ (sheetRoom messageRoom : ℕ) where
       }
 
   full-answered : (bs : List ℕ) → length bs ≤ sheetRoom
-      → Answered sheetRoom messageRoom (record { code = 0; place = 0; spanStart = 0; spanEnd = 0; sheet = bs; message = [] })
+      → Answered sheetRoom messageRoom (record { code = 0; place = 0; spanStart = 0; spanEnd = 0; secondStart = 0; secondEnd = 0; sheet = bs; message = [] })
   full-answered bs h =
       record {
         code = inl (inl (omega arith));
         span = λ l. (refl, refl);
+        second = λ p q. (refl, refl);
         place = λ l. refl;
         sheet = λ l. absurd (omega arith);
         message = λ l. refl;
@@ -84,13 +88,14 @@ module _ (sheetRoom messageRoom : ℕ) where
 
   ended-answered : (ws : List Name) (ds : List Node) (e : End) → ((r : Refusal) (s : State) → e ≡ wrong r s → Typing r)
       → Answered sheetRoom messageRoom (ended ws ds sheetRoom messageRoom e)
-  unfolding ended
+  unfolding ended ifSome
   ended-answered ws ds (done s) h = written-answered _
   ended-answered ws ds (wrong r s) h =
       let t = h r s refl in
       record {
         code = inr (t .above, t .below);
         span = λ l. absurd (omega (arith, t .above));
+        second = λ p q. rw (t .alone p q) (refl, refl);
         place = λ l. absurd (⊎-elim (λ a. omega (arith, t .above)) (λ a. ⊎-elim (λ b. omega (arith, t .above)) (λ b. omega (arith, t .above)) a) l);
         sheet = λ l. refl;
         message = λ l. absurd (omega (arith, t .above));

@@ -1,6 +1,7 @@
 -- Document 02: "plain is unchanged". Here is document 01's walk as the definitions had it before there was a setting, word for word but for
--- the subscripts and the argument `ws`, and the answer made of it, with the sheet of today. Plain's answer to every image, for every pair of
--- rooms, is that one. (False of a plain that returns an error of a While's body, or that keeps an If's branch which was refused.)
+-- the subscripts and the argument `ws`, and the answer made of it, with the sheet of today. It stands over BeforeWalk, since a slot was a
+-- type then. Plain's answer to every image, for every pair of rooms, is that one, and so is today's but for the second span. (False of a
+-- plain that returns an error of a While's body, or that keeps an If's branch which was refused.)
 use mathlib.Core.Path.{_≡_, refl, _∙_, ap}
 use mathlib.Core.Bool.{Bool, true, false}
 use mathlib.Core.List.{List, [], _∷_, _++_}
@@ -12,11 +13,15 @@ use Rattle.meaning.specs.Tree.{Expr, place, Stmt, line, Act, break, cont
 use Rattle.meaning.specs.Image.{Name, imageFault, namesOf, nodesOf}
 use Rattle.meaning.specs.Decode.{treeOf}
 use Rattle.meaning.specs.Message.{Refusal}
-use Rattle.meaning.specs.Frames.{Frames}
 use Rattle.meaning.specs.Operators.{Checked, ok, refused}
 use Rattle.meaning.specs.Rules.{elementOf}
-use Rattle.meaning.specs.Walk.{plain, dropping, State, End, done, wrong, tooDeep, _>>=_, onward, after, onCopy, typed, withFrames, withReturns, bind, returnRule, merge, enter, popped, ifRoom, onlyIn, overElements, checked, condition, assignTo, walk, act, body, arm, branches, program, start}
-use Rattle.meaning.specs.Answer.{Answer, bare, ended, walked, answerUnder, settingOf, answer}
+use Rattle.meaning.specs.Walk.{plain, dropping}
+use Rattle.meaning.specs.Answer.{Answer, bare, settingOf}
+use Rattle.meaning.specs.Answer as Today
+use Rattle.meaning.proofs.Rows.{asBefore}
+use Rattle.meaning.proofs.BeforeRules.{Frames}
+use Rattle.meaning.proofs.BeforeWalk.{State, End, done, wrong, tooDeep, _>>=_, onward, after, onCopy, typed, withFrames, withReturns, bind, returnRule, merge, enter, popped, ifRoom, onlyIn, overElements, checked, condition, assignTo, walk, act, body, arm, branches, program, start, ended, walked, answerUnder, answer}
+use Rattle.meaning.proofs.AsBefore.{as-before}
 
 -- ---- the walk and the answer before there was a setting
 
@@ -116,7 +121,7 @@ module _ (ws : List Name) where
 
 -- ---- the walks are equal
 
-pub then-same : (e : End) (k l : State → End) → ((s : State) → k s ≡ l s) → (e >>= k) ≡ (e >>= l)
+then-same : (e : End) (k l : State → End) → ((s : State) → k s ≡ l s) → (e >>= k) ≡ (e >>= l)
 unfolding _>>=_
 then-same (done s) k l h = h s
 then-same (wrong r s) k l h = refl
@@ -186,3 +191,7 @@ module _ (ws : List Name) where
 pub plain-unchanged : (bs : List ℕ) (sheetRoom messageRoom : ℕ) → answer 0 bs sheetRoom messageRoom ≡ answerBefore bs sheetRoom messageRoom
 unfolding answer settingOf choose ifSome if_then_else_ answerUnder walked answerBefore
 plain-unchanged bs sheetRoom messageRoom = rw (program-same (namesOf bs) (treeOf (nodesOf bs)) start)
+
+-- and today's, which has a second span beside it
+pub plain-as-before : (bs : List ℕ) (sheetRoom messageRoom : ℕ) → asBefore (Today.answer 0 bs sheetRoom messageRoom) ≡ answerBefore bs sheetRoom messageRoom
+plain-as-before bs sheetRoom messageRoom = as-before 0 bs sheetRoom messageRoom ∙ plain-unchanged bs sheetRoom messageRoom

@@ -10,7 +10,7 @@ use native.Mathlib.Omega.{arith}
 use borrow.Author.Tests.{eqb-true, eq-eqb, ne-eqb}
 use lib.Dec.{eqb}
 use lib.ListN.{length, getD, drop}
-use Rattle.meaning.specs.Base.{_and_, _or_, if_then_else_, ifSome, sameText, count, records}
+use Rattle.meaning.specs.Base.{_and_, _or_, if_then_else_, choose, ifSome, sameText, count, records}
 use Rattle.meaning.specs.Types.{Ty, Ty-discrete, unknown, int, bool, string, float, nonetype, range, function, list, dict, tuple, mapIter, filterIter, same, kind, plain}
 use Rattle.meaning.specs.Image.{firstNot}
 
@@ -162,3 +162,19 @@ same-plain t p h = elim (Ty-discrete t p) [
   | yes e ↦ same-yes t p e ∙ sym (eq-eqb (kind t) (kind p) (ap kind e))
   | no q ↦ same-no t p q ∙ sym (ne-eqb (kind t) (kind p) (λ e. q (plain-one t p e (omega arith))))
 ]
+
+-- ---- a choice by a number, row by row: what each row has if its number is k, the chosen one has
+
+unfoldable pub RowsHave : {A : Type 0} → (A → Type 0) → ℕ → List (ℕ × A) → Type 0
+RowsHave Q k [] = Unit {0}
+RowsHave Q k (r ∷ rs) = (k ≡ r .0 → Q (r .1)) × RowsHave Q k rs
+
+if-has : {A : Type 0} (Q : A → Type 0) (b : Bool) (x y : A) → (b ≡ true → Q x) → Q y → Q (if b then x else y)
+unfolding if_then_else_
+if-has Q true x y f h = f refl
+if-has Q false x y f h = h
+
+pub choose-has : {A : Type 0} (Q : A → Type 0) (k : ℕ) (d : A) (rs : List (ℕ × A)) → Q d → RowsHave Q k rs → Q (choose k d rs)
+unfolding choose RowsHave
+choose-has Q k d [] h p = h
+choose-has Q k d (r ∷ rs) h p = if-has Q (eqb k (r .0)) _ _ (λ e. p .0 (eqb-true k (r .0) e)) (choose-has Q k d rs h (p .1))

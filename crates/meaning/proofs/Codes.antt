@@ -1,4 +1,4 @@
--- An expression's refusal has a typing code, 20 to 50.
+-- An expression's refusal has a code from 29 to 50 and no first place; every typing refusal has a code from 20 to 50.
 use mathlib.Core.Path.{_≡_, refl, _∙_, ap, sym}
 use mathlib.Core.Bool.{Bool, true, false, false≢true}
 use mathlib.Core.Logic.{_⊎_, inl, inr, ⊎-elim}
@@ -22,25 +22,37 @@ use Rattle.meaning.proofs.Operators.{Range, answer-range, UnaryRange, u
 pub record Typing (r : Refusal) : Type 0 where
   pub above : 20 ≤ r .code
   pub below : r .code ≤ 50
+  -- only 25 and 23 point at a first place
+  pub alone : (r .code ≡ 23 → ⊥) → (r .code ≡ 25 → ⊥) → r .first ≡ none
+
+-- an expression's
+pub record Judged (r : Refusal) : Type 0 where
+  pub above : 29 ≤ r .code
+  pub below : r .code ≤ 50
+  pub alone : r .first ≡ none
 
 pub Fair : Checked → Type 0
 Fair (ok t) = Unit {0}
-Fair (refused r) = Typing r
+Fair (refused r) = Judged r
 
 pub typing : (c n : ℕ) (ps : List Piece) → 20 ≤ c → c ≤ 50 → Typing (refusal c n ps)
-typing c n ps l u = record { above = l; below = u }
+typing c n ps l u = record { above = l; below = u; alone = λ p q. refl }
 
 ok-fair : (t : Ty) → Fair (ok t)
 unfolding Fair
 ok-fair t = tt
 
-refused-fair : (c n : ℕ) (ps : List Piece) → 20 ≤ c → c ≤ 50 → Fair (refused (refusal c n ps))
+refused-fair : (c n : ℕ) (ps : List Piece) → 29 ≤ c → c ≤ 50 → Fair (refused (refusal c n ps))
 unfolding Fair
-refused-fair c n ps l u = typing c n ps l u
+refused-fair c n ps l u = record { above = l; below = u; alone = refl }
+
+pub fair-judged : {r : Refusal} → Fair (refused r) → Judged r
+unfolding Fair
+fair-judged f = f
 
 pub fair-typing : {r : Refusal} → Fair (refused r) → Typing r
 unfolding Fair
-fair-typing f = f
+fair-typing f = record { above = omega (arith, f .above); below = f .below; alone = λ p q. f .alone }
 
 -- ---- one law for each way to put results together
 
@@ -59,7 +71,7 @@ unfolding if_then_else_
 if-told true c d f g = f refl
 if-told false c d f g = g refl
 
-when-fair : (b : Bool) (t : Ty) (c n : ℕ) (ps : List Piece) → 20 ≤ c → c ≤ 50 → Fair (when b t c n ps)
+when-fair : (b : Bool) (t : Ty) (c n : ℕ) (ps : List Piece) → 29 ≤ c → c ≤ 50 → Fair (when b t c n ps)
 unfolding when
 when-fair b t c n ps l u = if-fair b _ _ (ok-fair t) (refused-fair c n ps l u)
 
@@ -94,7 +106,7 @@ answered-fair n a b x r =
     if-told (ltb x 8) _ _ (λ l. ok-fair _)
     (λ l. if-told (eqb x 8) _ _ (λ e. when-fair _ _ 32 n _ (omega arith) (omega arith)) (λ e. let h = code l e in refused-fair x n _ (h .0) (h .1)))
   where
-    code : ltb x 8 ≡ false → eqb x 8 ≡ false → (20 ≤ x) × (x ≤ 50)
+    code : ltb x 8 ≡ false → eqb x 8 ≡ false → (29 ≤ x) × (x ≤ 50)
     code l e = ⊎-elim (λ h. absurd (eqb-false x 8 e (omega (arith, ltb-false x 8 l)))) (λ h. omega arith) (r .says)
 
 binary-fair : (n : ℕ) (o : BinaryOp) (a b : Ty) → Fair (binaryRule n o a b)
@@ -108,7 +120,7 @@ unary-fair n o t = if-told (ltb x 8) _ _ (λ l. ok-fair _) (λ l. let h = code l
     x : ℕ
     x = unaryAnswer o (kind t)
 
-    code : ltb x 8 ≡ false → (20 ≤ x) × (x ≤ 50)
+    code : ltb x 8 ≡ false → (29 ≤ x) × (x ≤ 50)
     code l = ⊎-elim (λ h. absurd (omega (arith, ltb-false x 8 l))) (λ h. omega arith) (unary-range o (kind t) .says)
 
 -- ---- rules over children
@@ -180,7 +192,7 @@ range-fair n [] a = ok-fair _
 range-fair n (c ∷ cs) a =
     then-fair (c .1) _ (a .0) (λ t. then-fair _ _ (when-fair _ _ 41 n _ (omega arith) (omega arith)) (λ u. range-fair n cs (a .1)))
 
-stream-fair : (c : ℕ) (f : Ty → Ty) (cs : Children) → 20 ≤ c → suc c ≤ 50 → AllFair cs → Fair (streamRule c f cs)
+stream-fair : (c : ℕ) (f : Ty → Ty) (cs : Children) → 29 ≤ c → suc c ≤ 50 → AllFair cs → Fair (streamRule c f cs)
 unfolding streamRule
 stream-fair c f cs l u a =
     then-fair (child 0 cs .1) _ (child-fair 0 cs a)

@@ -15,8 +15,8 @@ use Rattle.meaning.specs.Tree.{Expr, at, Form, literal, variable, unary,
 use Rattle.meaning.specs.Bound.{targets, targetsIn, targetsAmong, mayBind, bindsBy, bindsIn, bindsAmong, bindsUnder}
 use Rattle.meaning.specs.Image.{Name, namesOf, nodesOf}
 use Rattle.meaning.specs.Decode.{treeOf}
-use Rattle.meaning.specs.Message.{Piece}
-use Rattle.meaning.specs.Frames.{Frame, Frames, empty, newest, slotIn, write}
+use Rattle.meaning.specs.Message.{Piece, Refusal}
+use Rattle.meaning.specs.Frames.{Binding, binding, blank, Frame, Frames, empty, newest, slotIn, write}
 use Rattle.meaning.specs.Operators.{Checked, ok, refused}
 use Rattle.meaning.specs.Rules.{elementOf}
 use Rattle.meaning.specs.Walk.{strict, dropping, State, End, done, wrong, tooDeep, refuse, _>>=_, onward, after, onCopy, typed, withFrames, withReturns, bind, agreed, assignName, unpacked, unpackInto, returnRule, tells, assigned, mergeName, mergeNames, merge, enter, popped, ifRoom, onlyIn, overElements, checked, condition, assignTo, assignForm, assignEach, walk, act, body, arm, branches, program, start}
@@ -26,11 +26,11 @@ use Rattle.meaning.proofs.Listed.{ProgramLists}
 -- ---- what is in the newest frame of Δ was there in Γ or is one of xs; the older frames are the same
 
 held : Frames → ℕ → Type 0
-held Γ x = (t : Ty) × (slotIn Γ x ≡ some t)
+held Γ x = (b : Binding) × (slotIn Γ x ≡ some b)
 
 record Only (xs : List ℕ) (Γ Δ : Frames) : Type 0 where
   older : tail Δ ≡ tail Γ
-  slots : (x : ℕ) (t : Ty) → slotIn Δ x ≡ some t → held Γ x ⊎ List·Memᴰ x xs
+  slots : (x : ℕ) (b : Binding) → slotIn Δ x ≡ some b → held Γ x ⊎ List·Memᴰ x xs
 
 only-same : (xs : List ℕ) (Γ : Frames) → Only xs Γ Γ
 unfolding held
@@ -47,7 +47,7 @@ only-then xs ys h k =
       slots = λ x t e. ⊎-elim (λ a. ⊎-elim (λ b. inl b) (λ m. inr (Memᴰ·append-left ys m)) (h .slots x (a .0) (a .1))) (λ m. inr (Memᴰ·append-right xs m)) (k .slots x t e);
     }
 
-only-write : (xs : List ℕ) (x : ℕ) (u : Ty) (Γ Δ : Frames) → Only xs Γ Δ → held Γ x ⊎ List·Memᴰ x xs → Only xs Γ (write x u Δ)
+only-write : (xs : List ℕ) (x : ℕ) (u : Binding) (Γ Δ : Frames) → Only xs Γ Δ → held Γ x ⊎ List·Memᴰ x xs → Only xs Γ (write x u Δ)
 unfolding write slotIn newest
 only-write xs x u Γ [] h o = h
 only-write xs x u Γ (f ∷ fs) h o =
@@ -73,9 +73,12 @@ adds-done xs Γ s h = h
 adds-is : {xs ys : List ℕ} (Γ : Frames) (e : End) → xs ≡ ys → Adds xs Γ e → Adds ys Γ e
 adds-is Γ e p h = subst (λ (zs : List ℕ). Adds zs Γ e) p h
 
-adds-refuse : (xs : List ℕ) (Γ : Frames) (c m : ℕ) (ps : List Piece) (s : State) → Adds xs Γ (refuse c m ps s)
+adds-wrong : (xs : List ℕ) (Γ : Frames) (r : Refusal) (s : State) → Adds xs Γ (wrong r s)
 unfolding Adds
-adds-refuse xs Γ c m ps s = tt
+adds-wrong xs Γ r s = tt
+
+adds-refuse : (xs : List ℕ) (Γ : Frames) (c m : ℕ) (ps : List Piece) (s : State) → Adds xs Γ (refuse c m ps s)
+adds-refuse xs Γ c m ps s = adds-wrong xs Γ _ s
 
 then-adds : (xs ys : List ℕ) (Γ : Frames) (e : End) (k : State → End) → Adds xs Γ e → ((s : State) → Adds ys (s .frames) (k s)) → Adds (xs ++ ys) Γ (e >>= k)
 unfolding Adds _>>=_
@@ -154,8 +157,8 @@ module _ (ws : List Name) where
   unfolding assignName
   name-adds m x t s =
       some-adds (x ∷ []) _ (agreed _ t) _ _
-      (λ u. adds-done _ _ _ (only-write (x ∷ []) x u (s .frames) (s .frames) (only-same (x ∷ []) (s .frames)) (inr (List·Memᴰ·head refl))))
-      (adds-refuse _ _ _ m _ s)
+      (λ u. adds-done _ _ _ (only-write (x ∷ []) x _ (s .frames) (s .frames) (only-same (x ∷ []) (s .frames)) (inr (List·Memᴰ·head refl))))
+      (adds-wrong _ _ _ s)
 
   checked-adds : (xs : List ℕ) (Γ : Frames) (e : Expr) (s : State) (k : Ty → End) → ((t : Ty) → Adds xs Γ (k t)) → Adds xs Γ (checked ws e s k)
   unfolding checked
@@ -208,29 +211,29 @@ all-more xs ys Γ [] Δ h k =
     (record { older = k .older; slots = λ x t e. ⊎-elim (λ a. inl a) (λ m. inr (Memᴰ·append-right xs m)) (k .slots x t e) }, tt)
 all-more xs ys Γ (Θ ∷ Δs) Δ h k = (only-more xs ys (h .0), all-more xs ys Γ Δs Δ (h .1) k)
 
-tells-some : (base o : Option Ty) → tells base o ≡ true → (t : Ty) × (o ≡ some t)
+tells-some : (base o : Option Binding) → tells base o ≡ true → (b : Binding) × (o ≡ some b)
 unfolding tells
 tells-some base none e = absurd (false≢true e)
-tells-some base (some t) e = (t, refl)
+tells-some base (some b) e = (b, refl)
 
 -- a name that some branch assigned was held, or is one of xs
-assigned-one : (xs : List ℕ) (Γ : Frames) (x : ℕ) (Δs : List Frames) (t : Ty) (ts : List Ty) → AllOnly xs Γ Δs → assigned Γ x Δs ≡ t ∷ ts → held Γ x ⊎ List·Memᴰ x xs
+assigned-one : (xs : List ℕ) (Γ : Frames) (x : ℕ) (Δs : List Frames) (t : Binding) (ts : List Binding) → AllOnly xs Γ Δs → assigned Γ x Δs ≡ t ∷ ts → held Γ x ⊎ List·Memᴰ x xs
 unfolding assigned AllOnly if_then_else_
 assigned-one xs Γ x [] t ts h e = let l = ap length e in absurd (omega arith)
 assigned-one xs Γ x (Δ ∷ Δs) t ts h e = by (tells (slotIn Γ x) (slotIn Δ x)) refl (λ q. assigned-one xs Γ x Δs t ts (h .1) q) e
   where
     by : (b : Bool) → tells (slotIn Γ x) (slotIn Δ x) ≡ b → (assigned Γ x Δs ≡ t ∷ ts → held Γ x ⊎ List·Memᴰ x xs)
-        → (if b then orElse (slotIn Δ x) unknown ∷ assigned Γ x Δs else assigned Γ x Δs) ≡ t ∷ ts → held Γ x ⊎ List·Memᴰ x xs
+        → (if b then orElse (slotIn Δ x) blank ∷ assigned Γ x Δs else assigned Γ x Δs) ≡ t ∷ ts → held Γ x ⊎ List·Memᴰ x xs
     by true p g q = let o = tells-some (slotIn Γ x) (slotIn Δ x) p in h .0 .slots x (o .0) (o .1)
     by false p g q = g q
 
 module _ (ws : List Name) where
-  merge-name-adds : (xs : List ℕ) (Γ : Frames) (c x : ℕ) (ts : List Ty) (s : State) → Only xs Γ (s .frames)
-      → ((t : Ty) (us : List Ty) → ts ≡ t ∷ us → held Γ x ⊎ List·Memᴰ x xs) → Adds xs Γ (mergeName ws c x ts s)
+  merge-name-adds : (xs : List ℕ) (Γ : Frames) (c x : ℕ) (ts : List Binding) (s : State) → Only xs Γ (s .frames)
+      → ((t : Binding) (us : List Binding) → ts ≡ t ∷ us → held Γ x ⊎ List·Memᴰ x xs) → Adds xs Γ (mergeName ws c x ts s)
   unfolding mergeName
   merge-name-adds xs Γ c x [] s h f = adds-done xs Γ s h
   merge-name-adds xs Γ c x (t ∷ ts) s h f =
-      if-adds xs Γ _ _ _ (adds-done xs Γ _ (only-write xs x t Γ (s .frames) h (f t ts refl))) (adds-refuse xs Γ _ c _ s)
+      if-adds xs Γ _ _ _ (adds-done xs Γ _ (only-write xs x t Γ (s .frames) h (f t ts refl))) (adds-wrong xs Γ _ s)
 
   merge-names-adds : (xs : List ℕ) (Γ : Frames) (c : ℕ) (Δs : List Frames) (ns : List ℕ) (s : State) → AllOnly xs Γ Δs → Only xs Γ (s .frames)
       → Adds xs Γ (mergeNames ws c Γ Δs ns s)
@@ -304,7 +307,7 @@ module _ (ws : List Name) where
 
   -- ---- the program
 
-  none-at : (n x : ℕ) → _≡_ {A = Option Ty} (getD (replicate n none) x none) none
+  none-at : (n x : ℕ) → _≡_ {A = Option Binding} (getD (replicate n none) x none) none
   none-at zero x = refl
   none-at (suc n) zero = refl
   none-at (suc n) (suc x) = none-at n x
@@ -318,7 +321,7 @@ module _ (ws : List Name) where
   adds-end xs Γ e s h p = rw p at h
 
   -- what the module frame of a program that strict accepts holds, the module may bind
-  pub strict-formed : (b : Stmts) (s : State) → program ws strict b start ≡ done s → (x : ℕ) (t : Ty) → slotIn (s .frames) x ≡ some t → List·Memᴰ x (mayBind b)
+  pub strict-formed : (b : Stmts) (s : State) → program ws strict b start ≡ done s → (x : ℕ) (t : Binding) → slotIn (s .frames) x ≡ some t → List·Memᴰ x (mayBind b)
   strict-formed b s e x t h =
       ⊎-elim (λ a. absurd (start-lacks x a)) (λ m. m) (adds-end (mayBind b) (start .frames) (program ws strict b start) s (program-adds b start) e .slots x t h)
 
@@ -327,4 +330,4 @@ pub strict-lists : (bs : List ℕ) (s : State) → walked strict bs ≡ done s �
     → List·Memᴰ (l .slot) (mayBind (treeOf (nodesOf bs)))
 unfolding walked slotIn
 strict-lists bs s e f g {n} {t} l =
-    ⊎-elim (λ h. strict-formed (namesOf bs) (treeOf (nodesOf bs)) s e (l .slot) t (rw g h)) (λ h. h .0) (l .typed)
+    ⊎-elim (λ h. strict-formed (namesOf bs) (treeOf (nodesOf bs)) s e (l .slot) (binding t (h .0)) (rw g (h .1))) (λ h. h .0) (l .typed)

@@ -2,6 +2,7 @@
 -- with exactly one frame. All of it holds in plain and in strict; a body whose errors are dropped may leave more frames than it found.
 use mathlib.Core.Path.{_≡_, refl, _∙_, ap}
 use mathlib.Core.Bool.{Bool, true, false}
+use mathlib.Core.Logic.{_⊎_, inl, inr}
 use mathlib.Core.List.{List, [], _∷_, tail}
 use mathlib.Core.Option.{Option, none, some}
 use Prim.Native.Nat.{ℕ, suc, _≤_}
@@ -11,8 +12,8 @@ use Rattle.meaning.specs.Base.{if_then_else_, ifSome}
 use Rattle.meaning.specs.Types.{Ty}
 use Rattle.meaning.specs.Tree.{Expr, at, Form, literal, variable, unary, binary, call, attribute, listOf, dictOf, tupleOf, setOf, index, lambda, Exprs, no-exprs, _also_, Stmt, line, Act, break, continue, pass, class, assign, expr, return, ifThen, while, for, def, Stmts, no-stmts, _next_, Arms, no-arms, _or-else_, Arm, on, otherwise}
 use Rattle.meaning.specs.Image.{Name}
-use Rattle.meaning.specs.Message.{Piece, Refusal}
-use Rattle.meaning.specs.Frames.{Frames, write}
+use Rattle.meaning.specs.Message.{Piece, Refusal, conflict}
+use Rattle.meaning.specs.Frames.{Binding, Frames, write}
 use Rattle.meaning.specs.Operators.{Checked, ok, refused}
 use Rattle.meaning.specs.Rules.{elementOf}
 use Rattle.meaning.specs.Walk.{Setting, dropping, State, End, done, wrong, tooDeep, refuse, _>>=_, onward, after, onCopy, typed, withFrames, withReturns, bind, agreed, assignName, unpacked, unpackInto, returnRule, assigned, mergeName, mergeNames, merge, enter, popped, ifRoom, onlyIn, overElements, checked, condition, assignTo, assignForm, assignEach, walk, act, body, arm, branches, program, start}
@@ -39,6 +40,11 @@ done-kept n s h = h
 refuse-kept : (n c m : ℕ) (ps : List Piece) (s : State) → 20 ≤ c → c ≤ 50 → Kept n (refuse c m ps s)
 unfolding Kept
 refuse-kept n c m ps s l u = typing c m ps l u
+
+conflict-kept : (n c m : ℕ) (o : Option ℕ) (ps : List Piece) (s : State) → (c ≡ 23) ⊎ (c ≡ 25) → Kept n (wrong (conflict c m o ps) s)
+unfolding Kept
+conflict-kept n c m o ps s (inl e) = record { above = omega arith; below = omega arith; alone = λ p q. absurd (p e) }
+conflict-kept n c m o ps s (inr e) = record { above = omega arith; below = omega arith; alone = λ p q. absurd (q e) }
 
 -- what follows keeps the number whatever came before
 whatever : (n : ℕ) (e : End) (k : State → End) → Coded e → ((s : State) → Kept n (k s)) → Kept n (e >>= k)
@@ -146,13 +152,13 @@ onward-left false n (tooDeep m) k h g = tt
 
 -- ---- what writes
 
-write-kept : (x : ℕ) (t : Ty) (Γ : Frames) → length (write x t Γ) ≡ length Γ
+write-kept : (x : ℕ) (b : Binding) (Γ : Frames) → length (write x b Γ) ≡ length Γ
 unfolding write
-write-kept x t [] = refl
-write-kept x t (f ∷ fs) = refl
+write-kept x b [] = refl
+write-kept x b (f ∷ fs) = refl
 
-bind-kept : (n x : ℕ) (t : Ty) (s : State) → length (s .frames) ≡ n → Kept n (done (bind x t s))
-bind-kept n x t s h = done-kept n _ (write-kept x t (s .frames) ∙ h)
+bind-kept : (n x : ℕ) (b : Binding) (s : State) → length (s .frames) ≡ n → Kept n (done (bind x b s))
+bind-kept n x b s h = done-kept n _ (write-kept x b (s .frames) ∙ h)
 
 -- ---- what may refuse
 
@@ -187,10 +193,10 @@ unfolding Kept
 kept-wrong n k e = rw e at k
 
 module _ (ws : List Name) where
-  merge-name-kept : (n c x : ℕ) (ts : List Ty) (s : State) → length (s .frames) ≡ n → Kept n (mergeName ws c x ts s)
+  merge-name-kept : (n c x : ℕ) (bs : List Binding) (s : State) → length (s .frames) ≡ n → Kept n (mergeName ws c x bs s)
   unfolding mergeName
   merge-name-kept n c x [] s h = done-kept n s h
-  merge-name-kept n c x (t ∷ ts) s h = if-kept n _ _ _ (bind-kept n x t s h) (refuse-kept n _ c _ s (omega arith) (omega arith))
+  merge-name-kept n c x (b ∷ bs) s h = if-kept n _ _ _ (bind-kept n x b s h) (conflict-kept n _ c _ _ s (inl refl))
 
   merge-names-kept : (n c : ℕ) (Γ : Frames) (Δs : List Frames) (xs : List ℕ) (s : State) → length (s .frames) ≡ n
       → Kept n (mergeNames ws c Γ Δs xs s)
@@ -207,7 +213,7 @@ module _ (ws : List Name) where
   assign-name-kept : (n m x : ℕ) (t : Ty) (s : State) → length (s .frames) ≡ n → Kept n (assignName m x t s)
   unfolding assignName
   assign-name-kept n m x t s h =
-      some-kept n (agreed _ t) _ _ (λ u. bind-kept n x u s h) (refuse-kept n _ m _ s (omega arith) (omega arith))
+      some-kept n (agreed _ t) _ _ (λ u. bind-kept n x _ s h) (conflict-kept n _ m _ _ s (inr refl))
 
   return-kept : (n m : ℕ) (t : Ty) (s : State) → length (s .frames) ≡ n → Kept n (returnRule m t s)
   unfolding returnRule
@@ -275,7 +281,7 @@ module _ (ws : List Name) (setting : Setting) where
         (λ s₁ h₁. back-kept n s _ h (left-coded (dropping setting) n _ (body-left n true (dropping setting) b s₁ h₁)))
     act-kept n loop m (for x e b) s h =
         checked-kept ws n e s _ (λ t. over-kept n _ t s _
-        (λ u. back-kept n s _ h (left-coded false n _ (body-left n true false b _ (write-kept x u (s .frames) ∙ h)))))
+        (λ u. back-kept n s _ h (left-coded false n _ (body-left n true false b _ (write-kept x _ (s .frames) ∙ h)))))
     act-kept n loop m (def xs b) s h =
         room-kept n m s _ (returns-kept n (s .returns) _ (popped-kept n _ (left-kept (suc n) _ (body-left (suc n) false false b _ (enter-kept n xs s h)))))
 

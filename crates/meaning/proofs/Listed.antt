@@ -17,13 +17,13 @@ use Rattle.meaning.specs.Types.{Ty, unknown}
 use Rattle.meaning.specs.Image.{Name, nameOf, namesOf, nodesOf}
 use Rattle.meaning.specs.Bound.{mayBind}
 use Rattle.meaning.specs.Decode.{treeOf}
-use Rattle.meaning.specs.Frames.{Frame}
+use Rattle.meaning.specs.Frames.{Binding, binding, blank, Frame}
 use Rattle.meaning.specs.Sheet.{Entry, entries, listedSlot, listedFrame, listing, met, typesOf, textsStand}
 use Rattle.meaning.proofs.Choices.{and-right, or-either, count-long, counted-at}
 use Rattle.meaning.proofs.Faults.{Sound, sizes}
 use Rattle.meaning.proofs.Nesting.{names-many}
 use Rattle.meaning.proofs.SheetNames.{texts-stand}
-use Rattle.meaning.proofs.SheetSame.{before-not, all-after, told-by-members, Held, entry-held, held-entry}
+use Rattle.meaning.proofs.SheetSame.{before-not, all-after, told-by-members, HasType, Held, entry-held, held-entry}
 use Rattle.meaning.proofs.Scan.{bound-named}
 
 -- ---- the listed frame, slot by slot
@@ -50,22 +50,22 @@ in-is x (y ∷ ys) m = ⊎-elim (λ a. rw (eq-eqb x y a)) (λ b. or-second (eqb 
     or-second true b e = refl
     or-second false b e = e
 
-slot-tells : (b : Bool) (o : Option Ty) (t : Ty) → listedSlot b o ≡ some t → (o ≡ some t) ⊎ ((b ≡ true) × (o ≡ none) × (t ≡ unknown))
+slot-tells : (b : Bool) (o : Option Binding) (c : Binding) → listedSlot b o ≡ some c → (o ≡ some c) ⊎ ((b ≡ true) × (o ≡ none) × (c ≡ blank))
 unfolding listedSlot orElse
-slot-tells true none t e = inr (refl, refl, sym (Option·some-injective unknown t e))
-slot-tells true (some u) t e = inl e
-slot-tells false o t e = inl e
+slot-tells true none c e = inr (refl, refl, sym (Option·some-injective blank c e))
+slot-tells true (some u) c e = inl e
+slot-tells false o c e = inl e
 
-pub slot-has : (b : Bool) (o : Option Ty) (t : Ty) → o ≡ some t → listedSlot b o ≡ some t
+pub slot-has : (b : Bool) (o : Option Binding) (c : Binding) → o ≡ some c → listedSlot b o ≡ some c
 unfolding listedSlot orElse
-slot-has true o t e = rw e
-slot-has false o t e = e
+slot-has true o c e = ap (λ (p : Option Binding). some (orElse p blank)) e
+slot-has false o c e = e
 
-slot-lacks : (b : Bool) (o : Option Ty) (t : Ty) → (b ≡ true) × (o ≡ none) × (t ≡ unknown) → listedSlot b o ≡ some t
+slot-lacks : (b : Bool) (o : Option Binding) → (b ≡ true) × (o ≡ none) → listedSlot b o ≡ some blank
 unfolding listedSlot orElse
-slot-lacks b o t e = rw (e .0, e .1, e .2)
+slot-lacks b o e = rw (e .0, e .1)
 
-slot-bound : (b : Bool) (o : Option Ty) → b ≡ true → listedSlot b o ≡ some (orElse o unknown)
+slot-bound : (b : Bool) (o : Option Binding) → b ≡ true → listedSlot b o ≡ some (orElse o blank)
 unfolding listedSlot
 slot-bound b o e = rw e
 
@@ -75,18 +75,20 @@ pub record Lists (ws : List Name) (xs : List ℕ) (f : Frame) (s : List ℕ) (t 
   pub slot : ℕ
   pub named : slot < length ws
   pub spelled : nameOf ws slot .spelling ≡ s
-  pub typed : (getD f slot none ≡ some t) ⊎ (List·Memᴰ slot xs × (getD f slot none ≡ none) × (t ≡ unknown))
+  pub typed : HasType f slot t ⊎ (List·Memᴰ slot xs × (getD f slot none ≡ none) × (t ≡ unknown))
 
 module _ (ws : List Name) (xs : List ℕ) (f : Frame) (few : length ws ≤ mostNames) where
   entry-lists : (s : List ℕ) (t : Ty) → List·Memᴰ (s, t) (entries ws (listedFrame xs f)) → Lists ws xs f s t
   entry-lists s t m =
       let h = entry-held ws (listedFrame xs f) s t m in
-      let e = sym (frame-slot xs f (h .slot) (omega (arith, h .named))) ∙ h .typed in
+      let e = sym (frame-slot xs f (h .slot) (omega (arith, h .named))) ∙ h .typed .1 in
       record {
         slot = h .slot;
         named = h .named;
         spelled = h .spelled;
-        typed = ⊎-elim (λ a. inl a) (λ a. inr (is-in (h .slot) xs (a .0), a .1, a .2)) (slot-tells _ _ t e);
+        typed =
+            ⊎-elim (λ a. inl (h .typed .0, a)) (λ a. inr (is-in (h .slot) xs (a .0), a .1, ap (λ (c : Binding). c .type) (a .2)))
+            (slot-tells _ _ (binding t (h .typed .0)) e);
       }
 
   -- the slot of a listed name, in the listed frame
@@ -97,21 +99,22 @@ module _ (ws : List Name) (xs : List ℕ) (f : Frame) (few : length ws ≤ mostN
         named = h .named;
         spelled = h .spelled;
         typed =
-            frame-slot xs f (h .slot) (omega (arith, h .named))
-            ∙ ⊎-elim (λ a. slot-has _ _ t a) (λ a. slot-lacks _ _ t (in-is (h .slot) xs (a .0), a .1, a .2)) (h .typed);
+            let listed = frame-slot xs f (h .slot) (omega (arith, h .named)) in
+            ⊎-elim (λ a. (a .0, listed ∙ slot-has _ _ _ (a .1)))
+            (λ a. (none, listed ∙ slot-lacks _ _ (in-is (h .slot) xs (a .0), a .1) ∙ ap (λ (u : Ty). some (binding u none)) (sym (a .2)))) (h .typed);
       }
 
   lists-entry : {s : List ℕ} {t : Ty} → Lists ws xs f s t → List·Memᴰ (s, t) (entries ws (listedFrame xs f))
   lists-entry h = held-entry (lists-held h)
 
   -- what may be bound is listed, with the frame's type or as Unknown
-  bound-held : (x : ℕ) → x < length ws → List·Memᴰ x xs → List·Memᴰ (nameOf ws x .spelling, orElse (getD f x none) unknown) (entries ws (listedFrame xs f))
+  bound-held : (x : ℕ) → x < length ws → List·Memᴰ x xs → List·Memᴰ (nameOf ws x .spelling, orElse (getD f x none) blank .type) (entries ws (listedFrame xs f))
   bound-held x h m =
       held-entry (record {
         slot = x;
         named = h;
         spelled = refl;
-        typed = frame-slot xs f x (omega arith) ∙ slot-bound _ _ (in-is x xs m);
+        typed = (orElse (getD f x none) blank .first, frame-slot xs f x (omega arith) ∙ slot-bound _ _ (in-is x xs m));
       })
 
 -- ---- no name twice, and byte order
@@ -168,7 +171,7 @@ module _ (bs : List ℕ) (image : Sound bs) (f : Frame) where
 
   -- "each name that an Assign or a For at module level may bind", with the frame's type, or Unknown
   pub bound-listed : (x : ℕ) → List·Memᴰ x (mayBind (treeOf (nodesOf bs)))
-      → List·Memᴰ (nameOf (namesOf bs) x .spelling, orElse (getD f x none) unknown) (listingOf bs f)
+      → List·Memᴰ (nameOf (namesOf bs) x .spelling, orElse (getD f x none) blank .type) (listingOf bs f)
   unfolding listing
   bound-listed x m = bound-held (namesOf bs) _ f (names-few bs image) x (omega (arith, bound-named image x m, names-many bs)) m
 
@@ -213,7 +216,7 @@ module _ (bs : List ℕ) (image : Sound bs) (f : Frame) where
 
 -- g has what f has, or Unknown where f has nothing, for the first n names
 Adds : ℕ → Frame → Frame → Type 0
-Adds n f g = (k : ℕ) → k < n → (getD g k none ≡ getD f k none) ⊎ ((getD f k none ≡ none) × (getD g k none ≡ some unknown))
+Adds n f g = (k : ℕ) → k < n → (getD g k none ≡ getD f k none) ⊎ ((getD f k none ≡ none) × (getD g k none ≡ some blank))
 
 no-slots : (ws : List Name) → entries ws [] ≡ []
 unfolding entries
@@ -227,16 +230,16 @@ added-types (w ∷ ws) [] [] us h = refl
 added-types (w ∷ ws) [] (none ∷ g) us h = added-types ws [] g us (λ k l. h (suc k) (omega arith)) ∙ rw (no-slots ws)
 added-types (w ∷ ws) [] (some t ∷ g) us h =
     ⊎-elim (λ e. absurd (Option·none-ne-some t (sym e)))
-    (λ e. rw (Option·some-injective t unknown (e .1)) (added-types ws [] g us (λ k l. h (suc k) (omega arith)) ∙ rw (no-slots ws))) (h 0 (omega arith))
+    (λ e. rw (ap (λ (c : Binding). c .type) (Option·some-injective t blank (e .1))) (added-types ws [] g us (λ k l. h (suc k) (omega arith)) ∙ rw (no-slots ws))) (h 0 (omega arith))
 added-types (w ∷ ws) (none ∷ f) [] us h = rw (no-slots ws) at (added-types ws f [] us (λ k l. h (suc k) (omega arith)))
 added-types (w ∷ ws) (some u ∷ f) [] us h = absurd (⊎-elim (λ e. Option·none-ne-some u e) (λ e. Option·none-ne-some u (sym (e .0))) (h 0 (omega arith)))
 added-types (w ∷ ws) (none ∷ f) (none ∷ g) us h = added-types ws f g us (λ k l. h (suc k) (omega arith))
 added-types (w ∷ ws) (none ∷ f) (some t ∷ g) us h =
     ⊎-elim (λ e. absurd (Option·none-ne-some t (sym e)))
-    (λ e. rw (Option·some-injective t unknown (e .1)) (added-types ws f g us (λ k l. h (suc k) (omega arith)))) (h 0 (omega arith))
+    (λ e. rw (ap (λ (c : Binding). c .type) (Option·some-injective t blank (e .1))) (added-types ws f g us (λ k l. h (suc k) (omega arith)))) (h 0 (omega arith))
 added-types (w ∷ ws) (some u ∷ f) (none ∷ g) us h = absurd (⊎-elim (λ e. Option·none-ne-some u e) (λ e. Option·none-ne-some u (sym (e .0))) (h 0 (omega arith)))
 added-types (w ∷ ws) (some u ∷ f) (some t ∷ g) us h =
-    ⊎-elim (λ e. rw (Option·some-injective t u e) (added-types ws f g (met u us) (λ k l. h (suc k) (omega arith))))
+    ⊎-elim (λ e. rw (ap (λ (c : Binding). c .type) (Option·some-injective t u e)) (added-types ws f g (met (u .type) us) (λ k l. h (suc k) (omega arith))))
     (λ e. absurd (Option·none-ne-some u (sym (e .0)))) (h 0 (omega arith))
 
 -- (False of a sheet that gives i in `for i in [[1]]: pass` the type List(Int).)
@@ -247,7 +250,7 @@ listing-types bs image f =
     added-types (namesOf bs) f (listedFrame xs f) []
     (λ k l. by (isIn k xs) (getD f k none) (getD (listedFrame xs f) k none) (frame-slot xs f k (omega (arith, names-few bs image))))
   where
-    by : (b : Bool) (o p : Option Ty) → p ≡ listedSlot b o → (p ≡ o) ⊎ ((o ≡ none) × (p ≡ some unknown))
+    by : (b : Bool) (o p : Option Binding) → p ≡ listedSlot b o → (p ≡ o) ⊎ ((o ≡ none) × (p ≡ some blank))
     by true none p e = inr (refl, e)
     by false none p e = inl e
     by b (some t) p e = inl (e ∙ slot-has b (some t) t refl)

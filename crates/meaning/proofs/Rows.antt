@@ -39,8 +39,17 @@ image ns rows =
 
 -- accepted, with this sheet
 abbrev pub accepts : List ℕ → Answer
-accepts sheet = record { code = 0; place = 0; spanStart = 0; spanEnd = 0; sheet = sheet; message = [] }
+accepts sheet = record { code = 0; place = 0; spanStart = 0; spanEnd = 0; secondStart = 0; secondEnd = 0; sheet = sheet; message = [] }
 
 -- refused: code, place, span and message
 abbrev pub refuses : ℕ → ℕ → ℕ → ℕ → List ℕ → Answer
-refuses c n a b m = record { code = c; place = n; spanStart = a; spanEnd = b; sheet = []; message = m }
+refuses c n a b m = record { code = c; place = n; spanStart = a; spanEnd = b; secondStart = 0; secondEnd = 0; sheet = []; message = m }
+
+-- the same with a second span, d to e
+abbrev pub refusesOver : ℕ → ℕ → ℕ → ℕ → ℕ → ℕ → List ℕ → Answer
+refusesOver c n a b d e m = record { code = c; place = n; spanStart = a; spanEnd = b; secondStart = d; secondEnd = e; sheet = []; message = m }
+
+-- an answer as T gives it: it has no second span
+abbrev pub asBefore : Answer → Answer
+asBefore a =
+    record { code = a .code; place = a .place; spanStart = a .spanStart; spanEnd = a .spanEnd; secondStart = 0; secondEnd = 0; sheet = a .sheet; message = a .message }

@@ -8,7 +8,7 @@ use Rattle.meaning.specs.Limits.{sheetBuffer, messageBuffer}
 use Rattle.meaning.specs.Base.{bytes, words}
 use Rattle.meaning.specs.Answer.{Answer, answer, meaning-open}
 use Rattle.meaning.specs.Line.{printed, line-open}
-use Rattle.meaning.proofs.Rows.{Run, image, accepts, refuses}
+use Rattle.meaning.proofs.Rows.{Run, image, accepts, refuses, refusesOver}
 
 abbrev pub noNames : Answer
 noNames = accepts (words (1 ∷ 0 ∷ 40 ∷ 0 ∷ 40 ∷ 0 ∷ 40 ∷ 0 ∷ 40 ∷ 40 ∷ []) ++ bytes "")
@@ -28,8 +28,8 @@ runs =
     ∷ (
       image (("x", 0, 0, 0) ∷ [])
           ((12 ∷ 0 ∷ 2 ∷ 7 ∷ 0 ∷ 0 ∷ []) ∷ (5 ∷ 0 ∷ 2 ∷ 4 ∷ 0 ∷ 5 ∷ []) ∷ (21 ∷ 0 ∷ 0 ∷ 3 ∷ 0 ∷ 1 ∷ []) ∷ (20 ∷ 1 ∷ 0 ∷ 4 ∷ 4 ∷ 5 ∷ []) ∷ (5 ∷ 0 ∷ 2 ∷ 7 ∷ 6 ∷ 13 ∷ []) ∷ (21 ∷ 0 ∷ 0 ∷ 6 ∷ 6 ∷ 7 ∷ []) ∷ (20 ∷ 2 ∷ 0 ∷ 7 ∷ 10 ∷ 13 ∷ []) ∷ []),
-      refuses 25 5 6 7 (bytes "TypeError: cannot assign value of type String to variable of type Int"),
-    )  -- 3: x = 1, x = "a"
+      refusesOver 25 5 6 7 0 1 (bytes "TypeError: cannot assign value of type String to variable of type Int"),
+    )  -- 3: x = 1, x = "a"; the second span is the first x
     ∷ (
       image (("u", 0, 0, 0) ∷ [])
           ((12 ∷ 0 ∷ 1 ∷ 5 ∷ 0 ∷ 0 ∷ []) ∷ (8 ∷ 0 ∷ 2 ∷ 5 ∷ 0 ∷ 10 ∷ []) ∷ (21 ∷ 0 ∷ 0 ∷ 3 ∷ 3 ∷ 4 ∷ []) ∷ (12 ∷ 0 ∷ 1 ∷ 5 ∷ 0 ∷ 0 ∷ []) ∷ (3 ∷ 0 ∷ 0 ∷ 5 ∷ 6 ∷ 10 ∷ []) ∷ []),
@@ -103,8 +103,8 @@ also =
     ∷ (
       image (("a", 0, 0, 0) ∷ ("b", 0, 0, 0) ∷ [])
           ((12 ∷ 0 ∷ 1 ∷ 17 ∷ 0 ∷ 0 ∷ []) ∷ (8 ∷ 0 ∷ 3 ∷ 17 ∷ 0 ∷ 46 ∷ []) ∷ (20 ∷ 0 ∷ 0 ∷ 3 ∷ 3 ∷ 7 ∷ []) ∷ (12 ∷ 0 ∷ 2 ∷ 10 ∷ 0 ∷ 0 ∷ []) ∷ (5 ∷ 0 ∷ 2 ∷ 7 ∷ 10 ∷ 15 ∷ []) ∷ (21 ∷ 1 ∷ 0 ∷ 6 ∷ 10 ∷ 11 ∷ []) ∷ (20 ∷ 1 ∷ 0 ∷ 7 ∷ 14 ∷ 15 ∷ []) ∷ (5 ∷ 0 ∷ 2 ∷ 10 ∷ 17 ∷ 22 ∷ []) ∷ (21 ∷ 0 ∷ 0 ∷ 9 ∷ 17 ∷ 18 ∷ []) ∷ (20 ∷ 1 ∷ 0 ∷ 10 ∷ 21 ∷ 22 ∷ []) ∷ (12 ∷ 0 ∷ 2 ∷ 17 ∷ 0 ∷ 0 ∷ []) ∷ (5 ∷ 0 ∷ 2 ∷ 14 ∷ 30 ∷ 37 ∷ []) ∷ (21 ∷ 1 ∷ 0 ∷ 13 ∷ 30 ∷ 31 ∷ []) ∷ (20 ∷ 2 ∷ 0 ∷ 14 ∷ 34 ∷ 37 ∷ []) ∷ (5 ∷ 0 ∷ 2 ∷ 17 ∷ 39 ∷ 46 ∷ []) ∷ (21 ∷ 0 ∷ 0 ∷ 16 ∷ 39 ∷ 40 ∷ []) ∷ (20 ∷ 2 ∷ 0 ∷ 17 ∷ 43 ∷ 46 ∷ []) ∷ []),
-      refuses 23 2 3 7 (bytes "TypeError: variable 'a' has incompatible types across branches"),
-    )  -- branches that differ on b and a: a is named
+      refusesOver 23 2 3 7 17 18 (bytes "TypeError: variable 'a' has incompatible types across branches"),
+    )  -- branches that differ on b and a: a is named, and the second span is the a of the first branch
     ∷ (
       image (("f0", 4, 0, 0) ∷ ("f1", 4, 0, 0) ∷ ("f2", 4, 0, 0) ∷ ("f3", 4, 0, 0) ∷ ("f4", 4, 0, 0) ∷ ("f5", 4, 0, 0) ∷ ("f6", 4, 0, 0) ∷ [])
           ((12 ∷ 0 ∷ 1 ∷ 16 ∷ 0 ∷ 0 ∷ []) ∷ (11 ∷ 0 ∷ 1 ∷ 16 ∷ 0 ∷ 102 ∷ []) ∷ (12 ∷ 0 ∷ 1 ∷ 16 ∷ 0 ∷ 0 ∷ []) ∷ (11 ∷ 1 ∷ 1 ∷ 16 ∷ 11 ∷ 102 ∷ []) ∷ (12 ∷ 0 ∷ 1 ∷ 16 ∷ 0 ∷ 0 ∷ []) ∷ (11 ∷ 2 ∷ 1 ∷ 16 ∷ 23 ∷ 102 ∷ []) ∷ (12 ∷ 0 ∷ 1 ∷ 16 ∷ 0 ∷ 0 ∷ []) ∷ (11 ∷ 3 ∷ 1 ∷ 16 ∷ 36 ∷ 102 ∷ []) ∷ (12 ∷ 0 ∷ 1 ∷ 16 ∷ 0 ∷ 0 ∷ []) ∷ (11 ∷ 4 ∷ 1 ∷ 16 ∷ 50 ∷ 102 ∷ []) ∷ (12 ∷ 0 ∷ 1 ∷ 16 ∷ 0 ∷ 0 ∷ []) ∷ (11 ∷ 5 ∷ 1 ∷ 16 ∷ 65 ∷ 102 ∷ []) ∷ (12 ∷ 0 ∷ 1 ∷ 16 ∷ 0 ∷ 0 ∷ []) ∷ (11 ∷ 6 ∷ 1 ∷ 16 ∷ 81 ∷ 102 ∷ []) ∷ (12 ∷ 0 ∷ 1 ∷ 16 ∷ 0 ∷ 0 ∷ []) ∷ (3 ∷ 0 ∷ 0 ∷ 16 ∷ 98 ∷ 102 ∷ []) ∷ []),

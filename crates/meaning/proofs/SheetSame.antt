@@ -11,7 +11,7 @@ use lib.ListN.{length, getD}
 use Rattle.meaning.specs.Base.{_and_, if_then_else_, ifSome, before}
 use Rattle.meaning.specs.Types.{Ty}
 use Rattle.meaning.specs.Image.{Name, nameOf, textStands}
-use Rattle.meaning.specs.Frames.{Frame}
+use Rattle.meaning.specs.Frames.{Binding, binding, Frame}
 use Rattle.meaning.specs.Sheet.{Entry, textsStand, entries}
 use Rattle.meaning.proofs.Choices.{and-left, and-right}
 use Rattle.meaning.proofs.SheetNames.{before-trans}
@@ -66,14 +66,18 @@ told-by-members last prev (d ∷ es) (c ∷ fs) h k f g =
 
 -- ---- the entries of a frame
 
+-- the slot of name x has the type t, since whichever node
+abbrev pub HasType : Frame → ℕ → Ty → Type 0
+HasType f x t = (m : Option ℕ) × (getD f x none ≡ some (binding t m))
+
 -- the frame has this type in the slot of a name that is spelled so
 pub record Held (ws : List Name) (f : Frame) (s : List ℕ) (t : Ty) : Type 0 where
   pub slot : ℕ
   pub named : slot < length ws
   pub spelled : nameOf ws slot .spelling ≡ s
-  pub typed : getD f slot none ≡ some t
+  pub typed : HasType f slot t
 
-held-later : {w : Name} {ws : List Name} {o : Option Ty} {f : Frame} {s : List ℕ} {t : Ty} → Held ws f s t → Held (w ∷ ws) (o ∷ f) s t
+held-later : {w : Name} {ws : List Name} {o : Option Binding} {f : Frame} {s : List ℕ} {t : Ty} → Held ws f s t → Held (w ∷ ws) (o ∷ f) s t
 unfolding nameOf
 held-later h = record { slot = suc (h .slot); named = omega (arith, h .named); spelled = h .spelled; typed = h .typed }
 
@@ -82,18 +86,24 @@ unfolding entries ifSome nameOf
 entry-held [] f s t m = absurd (List·Memᴰ·not-nil m)
 entry-held (w ∷ ws) [] s t m = absurd (List·Memᴰ·not-nil m)
 entry-held (w ∷ ws) (none ∷ f) s t m = held-later (entry-held ws f s t m)
-entry-held (w ∷ ws) (some u ∷ f) s t m =
-    ⊎-elim (λ p. record { slot = 0; named = omega arith; spelled = sym (ap (λ (e : Entry). e .0) p); typed = ap (λ (e : Entry). some (e .1)) (sym p) })
+entry-held (w ∷ ws) (some b ∷ f) s t m =
+    ⊎-elim
+    (λ p. record {
+      slot = 0;
+      named = omega arith;
+      spelled = sym (ap (λ (e : Entry). e .0) p);
+      typed = (b .first, ap (λ (e : Entry). some (binding (e .1) (b .first))) (sym p));
+    })
     (λ r. held-later (entry-held ws f s t r)) (List·Memᴰ·cases-cons m)
 
-held-at : (ws : List Name) (f : Frame) (i : ℕ) (t : Ty) → i < length ws → getD f i none ≡ some t → List·Memᴰ (nameOf ws i .spelling, t) (entries ws f)
+held-at : (ws : List Name) (f : Frame) (i : ℕ) (b : Binding) → i < length ws → getD f i none ≡ some b → List·Memᴰ (nameOf ws i .spelling, b .type) (entries ws f)
 unfolding entries ifSome nameOf
-held-at [] f i t h e = absurd (omega arith)
-held-at (w ∷ ws) [] i t h e = absurd (Option·none-ne-some t e)
-held-at (w ∷ ws) (none ∷ f) zero t h e = absurd (Option·none-ne-some t e)
-held-at (w ∷ ws) (some u ∷ f) zero t h e = List·Memᴰ·head (ap (λ x. (w .spelling, x)) (sym (Option·some-injective u t e)))
-held-at (w ∷ ws) (none ∷ f) (suc i) t h e = held-at ws f i t (omega arith) e
-held-at (w ∷ ws) (some u ∷ f) (suc i) t h e = List·Memᴰ·tail (held-at ws f i t (omega arith) e)
+held-at [] f i b h e = absurd (omega arith)
+held-at (w ∷ ws) [] i b h e = absurd (Option·none-ne-some b e)
+held-at (w ∷ ws) (none ∷ f) zero b h e = absurd (Option·none-ne-some b e)
+held-at (w ∷ ws) (some a ∷ f) zero b h e = List·Memᴰ·head (ap (λ (x : Binding). (w .spelling, x .type)) (sym (Option·some-injective a b e)))
+held-at (w ∷ ws) (none ∷ f) (suc i) b h e = held-at ws f i b (omega arith) e
+held-at (w ∷ ws) (some a ∷ f) (suc i) b h e = List·Memᴰ·tail (held-at ws f i b (omega arith) e)
 
 pub held-entry : {ws : List Name} {f : Frame} {s : List ℕ} {t : Ty} → Held ws f s t → List·Memᴰ (s, t) (entries ws f)
-held-entry {ws} {f} {s} {t} h = subst (λ (x : List ℕ). List·Memᴰ (x, t) (entries ws f)) (h .spelled) (held-at ws f (h .slot) t (h .named) (h .typed))
+held-entry {ws} {f} {s} {t} h = subst (λ (x : List ℕ). List·Memᴰ (x, t) (entries ws f)) (h .spelled) (held-at ws f (h .slot) (binding t (h .typed .0)) (h .named) (h .typed .1))

@@ -13,7 +13,7 @@ use Rattle.meaning.specs.Types.{Ty, unknown}
 use Rattle.meaning.specs.Tree.{Expr, Stmt, Stmts, no-stmts, _next_, Arms, no-arms, _or-else_, Arm, on, otherwise, firstCondition, assign, expr, return, ifThen, while, for, def, place}
 use Rattle.meaning.specs.Image.{Name}
 use Rattle.meaning.specs.Message.{Refusal}
-use Rattle.meaning.specs.Frames.{Frames}
+use Rattle.meaning.specs.Frames.{since, Frames}
 use Rattle.meaning.specs.Operators.{Checked, ok, refused}
 use Rattle.meaning.specs.Rules.{elementOf, check}
 use Rattle.meaning.specs.Walk.{Setting, dropping, State, state, withFrames, withReturns, bind, End, done, wrong, tooDeep, _>>=_, onward, after, onCopy, typed, merge, enter, popped, ifRoom, overElements, checked, condition, assignTo, returnRule, walk, act, body, arm, branches}
@@ -41,6 +41,13 @@ deep-done e = false≢true (ap isDone e)
 pub done-is : {s s₁ : State} → done s ≡ done s₁ → s ≡ s₁
 unfolding stateIn
 done-is {s} e = ap (stateIn s) e
+
+-- what goes on alike ends alike
+pub then-same : (e : End) (k l : State → End) → ((s : State) → k s ≡ l s) → (e >>= k) ≡ (e >>= l)
+unfolding _>>=_
+then-same (done s) k l h = h s
+then-same (wrong r s) k l h = refl
+then-same (tooDeep n) k l h = refl
 
 -- what is done one after the other is done each
 pub then-done : (d : End) (k : State → End) (s : State) → (d >>= k) ≡ done s → (s₁ : State) × ((d ≡ done s₁) × (k s₁ ≡ done s))
@@ -113,13 +120,13 @@ module _ (ws : List Name) (setting : Setting) where
   while-fails loop n c b s s₁ r h e = rw (h, e)
 
   pub for-done : (loop : Bool) (n x : ℕ) (e : Expr) (b : Stmts) (s s₁ : State) (t u : Ty) → check ws (s .frames) e ≡ ok t → elementOf t ≡ some u
-      → body ws setting true false b (bind x u s) ≡ done s₁
+      → body ws setting true false b (bind x (since none (place e) u) s) ≡ done s₁
       → act ws setting loop n (for x e b) s ≡ done (state (s .frames) (s₁ .returns))
   unfolding act checked typed overElements ifSome after
   for-done loop n x e b s s₁ t u p q h = rw (p, q, h)
 
   pub for-fails : (loop : Bool) (n x : ℕ) (e : Expr) (b : Stmts) (s s₁ : State) (t u : Ty) (r : Refusal) → check ws (s .frames) e ≡ ok t
-      → elementOf t ≡ some u → body ws setting true false b (bind x u s) ≡ wrong r s₁
+      → elementOf t ≡ some u → body ws setting true false b (bind x (since none (place e) u) s) ≡ wrong r s₁
       → act ws setting loop n (for x e b) s ≡ wrong r (state (s .frames) (s₁ .returns))
   unfolding act checked typed overElements ifSome after
   for-fails loop n x e b s s₁ t u r p q h = rw (p, q, h)

@@ -1,4 +1,4 @@
--- What comes back: "Code, place, span, sheet length, message length."
+-- What comes back: "Code, place, span, sheet length, message length", and the second span of "point at the first place too".
 use mathlib.Core.Bool.{true, false}
 use mathlib.Core.List.{List, [], _∷_, _++_}
 use mathlib.Core.Option.{Option, none, some}
@@ -25,25 +25,27 @@ pub record Answer : Type 0 where
   pub place : ℕ
   pub spanStart : ℕ
   pub spanEnd : ℕ
+  pub secondStart : ℕ
+  pub secondEnd : ℕ
   pub sheet : List ℕ
   pub message : List ℕ
 
 -- "Codes outside 20..50 have span 0,0"; "every other code has sheet length 0"
 abbrev pub bare : ℕ → ℕ → Answer
-bare c n = record { code = c; place = n; spanStart = 0; spanEnd = 0; sheet = []; message = [] }
+bare c n = record { code = c; place = n; spanStart = 0; spanEnd = 0; secondStart = 0; secondEnd = 0; sheet = []; message = [] }
 
 -- "Code 0 writes the sheet"; 10: "accepted, but the sheet buffer is too short"
 unfoldable pub written : ℕ → List ℕ → Answer
 written room bs =
     if leb (length bs) room
-    then record { code = 0; place = 0; spanStart = 0; spanEnd = 0; sheet = bs; message = [] }
+    then record { code = 0; place = 0; spanStart = 0; spanEnd = 0; secondStart = 0; secondEnd = 0; sheet = bs; message = [] }
     else bare 10 0
 
 -- "Codes 20..50 write the message at the front of the message buffer if it fits; if not, .. length is 0 and no byte changes."
 unfoldable pub fitting : ℕ → List ℕ → List ℕ
 fitting room bs = if leb (length bs) room then bs else []
 
--- how the walk ended, over the image's names and nodes
+-- how the walk ended, over the image's names and nodes. "Codes 25 and 23 answer with a second span .. ; every other code has 0,0 there."
 unfoldable pub ended : List Name → List Node → ℕ → ℕ → End → Answer
 ended ws ds sheetRoom messageRoom (done s) = written sheetRoom (sheetOf (listing ws (treeOf ds) (newest (s .frames))))
 ended ws ds sheetRoom messageRoom (wrong r s) =
@@ -52,6 +54,8 @@ ended ws ds sheetRoom messageRoom (wrong r s) =
       place = r .node;
       spanStart = nodeOf ds (r .node) .spanStart;
       spanEnd = nodeOf ds (r .node) .spanEnd;
+      secondStart = ifSome (r .first) (λ m. nodeOf ds m .spanStart) 0;
+      secondEnd = ifSome (r .first) (λ m. nodeOf ds m .spanEnd) 0;
       sheet = [];
       message = fitting messageRoom (message r);
     }

@@ -1,6 +1,7 @@
 -- A typing refusal and its message: "Texts and spans are T's".
 use mathlib.Core.Bool.{true, false}
 use mathlib.Core.List.{List, [], _∷_, _++_}
+use mathlib.Core.Option.{Option, none}
 use Prim.Native.Nat.{ℕ}
 use Prim.Native.String.{String}
 use lib.Dec.{eqb}
@@ -13,14 +14,19 @@ pub data Piece : Type 0 where
   aText : List ℕ → Piece
   aNumber : ℕ → Piece
 
--- a code, the "node whose span it gives", and what its message names
+-- a code, the "node whose span it gives", the node whose span is the second, and what its message names
 pub record Refusal : Type 0 where
   pub code : ℕ
   pub node : ℕ
+  pub first : Option ℕ
   pub names : List Piece
 
 abbrev pub refusal : ℕ → ℕ → List Piece → Refusal
-refusal c n ps = record { code = c; node = n; names = ps }
+refusal c n ps = record { code = c; node = n; first = none; names = ps }
+
+-- 25 and 23 "point at the first place too"
+abbrev pub conflict : ℕ → ℕ → Option ℕ → List Piece → Refusal
+conflict c n m ps = record { code = c; node = n; first = m; names = ps }
 
 -- T's format strings, with `_` for each part that is put in
 unfoldable pub template : ℕ → String

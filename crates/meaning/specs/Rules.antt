@@ -172,7 +172,7 @@ module _ (ws : List Name) where
 
     pub checkForm : Frames → ℕ → Form → Checked
     checkForm Γ n (literal t) = ok t
-    checkForm Γ n (variable x) = ok (lookup Γ x)
+    checkForm Γ n (variable x) = ok (lookup Γ x .type)
     checkForm Γ n (unary o e) = do
       t ← check Γ e
       unaryRule n o t

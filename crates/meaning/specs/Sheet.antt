@@ -11,7 +11,7 @@ use Rattle.meaning.specs.Types.{Ty, unknown, int, bool, string, float, n
 use Rattle.meaning.specs.Tree.{Stmts}
 use Rattle.meaning.specs.Bound.{mayBind}
 use Rattle.meaning.specs.Image.{Name, textStands}
-use Rattle.meaning.specs.Frames.{Frame}
+use Rattle.meaning.specs.Frames.{Binding, blank, Frame}
 
 -- a name's text and its type
 abbrev pub Entry : Type 0
@@ -21,11 +21,11 @@ Entry = List ℕ × Ty
 unfoldable pub entries : List Name → Frame → List Entry
 entries [] f = []
 entries (w ∷ ws) [] = []
-entries (w ∷ ws) (slot ∷ f) = let later = entries ws f in ifSome slot (λ t. (w .spelling, t) ∷ later) later
+entries (w ∷ ws) (slot ∷ f) = let later = entries ws f in ifSome slot (λ b. (w .spelling, b .type) ∷ later) later
 
 -- "A listed name that the frame lacks is Unknown": a slot, by whether the module may bind its name
-unfoldable pub listedSlot : Bool → Option Ty → Option Ty
-listedSlot true slot = some (orElse slot unknown)
+unfoldable pub listedSlot : Bool → Option Binding → Option Binding
+listedSlot true slot = some (orElse slot blank)
 listedSlot false slot = slot
 
 -- the names xs, which the module may bind, "together with all names of the module frame" f

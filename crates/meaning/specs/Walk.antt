@@ -10,8 +10,8 @@ use Rattle.meaning.specs.Base.{_or_, if_then_else_, choose, ifSome, orEl
 use Rattle.meaning.specs.Types.{Ty, unknown, bool, same, kind, parts, part}
 use Rattle.meaning.specs.Tree.{Expr, at, Form, literal, variable, unary, binary, call, attribute, listOf, dictOf, tupleOf, setOf, index, lambda, Exprs, no-exprs, _also_, place, size, Stmt, line, Act, break, continue, pass, class, assign, expr, return, ifThen, while, for, def, Stmts, no-stmts, _next_, Arms, no-arms, _or-else_, Arm, on, otherwise, firstCondition}
 use Rattle.meaning.specs.Image.{Name, nameOf}
-use Rattle.meaning.specs.Message.{Piece, aType, aText, aNumber, Refusal, refusal}
-use Rattle.meaning.specs.Frames.{Frame, Frames, empty, slotIn, lookup, write}
+use Rattle.meaning.specs.Message.{Piece, aType, aText, aNumber, Refusal, refusal, conflict}
+use Rattle.meaning.specs.Frames.{Binding, blank, since, Frame, Frames, empty, slotIn, lookup, write}
 use Rattle.meaning.specs.Operators.{Checked, ok, refused}
 use Rattle.meaning.specs.Rules.{elementOf, check}
 
@@ -70,17 +70,19 @@ typed (refused r) s k = wrong r s
 
 -- ---- assignment: "Absent or Unknown takes the new type; Unknown keeps the old one; otherwise equal or 25."
 
-abbrev pub bind : ℕ → Ty → State → State
-bind x t s = withFrames (write x t (s .frames)) s
+abbrev pub bind : ℕ → Binding → State → State
+bind x b s = withFrames (write x b (s .frames)) s
 
 -- what an old and a new type agree on (T's unify_return too): none where they differ
 unfoldable pub agreed : Ty → Ty → Option Ty
 agreed old t = if same old unknown or same old t then some t else if same t unknown then some old else none
 
+-- n is the Variable
 unfoldable pub assignName : ℕ → ℕ → Ty → State → End
 assignName n x t s =
-    let old : Ty = lookup (s .frames) x in
-    ifSome (agreed old t) (λ u. done (bind x u s)) (refuse 25 n (aType t ∷ aType old ∷ []) s)
+    let old : Binding = lookup (s .frames) x in
+    ifSome (agreed (old .type) t) (λ u. done (bind x (since (old .first) n u) s))
+    (wrong (conflict 25 n (old .first) (aType t ∷ aType (old .type) ∷ [])) s)
 
 -- the types that k targets get; none where the type cannot be unpacked
 unfoldable pub unpacked : ℕ → Ty → Option (List Ty)
@@ -106,30 +108,35 @@ returnRule n t s =
 
 -- ---- If: "A name counts as assigned if the branch's newest frame holds it and the base's newest frame doesn't hold it with that same
 -- type. Merging goes by name in byte order: among assigning branches ignore Unknown; disagreement is 23, and names merged before it
--- stay; Unknown alone commits nothing."
+-- stay; Unknown alone commits nothing." "Whether a branch assigned a name still goes by type alone."
 
-unfoldable pub sameSlot : Option Ty → Option Ty → Bool
+unfoldable pub sameType : Binding → Binding → Bool
+sameType a b = same (a .type) (b .type)
+
+unfoldable pub sameSlot : Option Binding → Option Binding → Bool
 sameSlot none none = true
 sameSlot none (some b) = false
 sameSlot (some a) none = false
-sameSlot (some a) (some b) = same a b
+sameSlot (some a) (some b) = sameType a b
 
 -- a branch's slot tells of a type: it is there, it is known, and it is not what the base's slot has
-unfoldable pub tells : Option Ty → Option Ty → Bool
+unfoldable pub tells : Option Binding → Option Binding → Bool
 tells base none = false
-tells base (some t) = if same t unknown or sameSlot (some t) base then false else true
+tells base (some b) = if same (b .type) unknown or sameSlot (some b) base then false else true
 
--- the known types that the branches Δs assign to x, over the base Γ
-unfoldable pub assigned : Frames → ℕ → List Frames → List Ty
+-- what the branches Δs assign to x, over the base Γ, where its type is known
+unfoldable pub assigned : Frames → ℕ → List Frames → List Binding
 assigned Γ x [] = []
 assigned Γ x (Δ ∷ Δs) =
-    let later : List Ty = assigned Γ x Δs in
-    if tells (slotIn Γ x) (slotIn Δ x) then orElse (slotIn Δ x) unknown ∷ later else later
+    let later : List Binding = assigned Γ x Δs in
+    if tells (slotIn Γ x) (slotIn Δ x) then orElse (slotIn Δ x) blank ∷ later else later
 
--- c is the first condition's node
-unfoldable pub mergeName : List Name → ℕ → ℕ → List Ty → State → End
+-- c is the first condition's node. "A merge takes the first assigning branch, in program order, that knows it"; the second span is "for 23
+-- that of the first type found".
+unfoldable pub mergeName : List Name → ℕ → ℕ → List Binding → State → End
 mergeName ws c x [] s = done s
-mergeName ws c x (t ∷ ts) s = if all (same t) ts then done (bind x t s) else refuse 23 c (aText (nameOf ws x .spelling) ∷ []) s
+mergeName ws c x (b ∷ bs) s =
+    if all (sameType b) bs then done (bind x b s) else wrong (conflict 23 c (b .first) (aText (nameOf ws x .spelling) ∷ [])) s
 
 unfoldable pub mergeNames : List Name → ℕ → Frames → List Frames → List ℕ → State → End
 mergeNames ws c Γ Δs [] s = done s
@@ -142,7 +149,7 @@ merge ws c Δs s = mergeNames ws c (s .frames) Δs (count 0 mostNames) s
 
 unfoldable pub withParams : List ℕ → Frame → Frame
 withParams [] f = f
-withParams (x ∷ xs) f = withParams xs (set f x (some unknown))
+withParams (x ∷ xs) f = withParams xs (set f x (some blank))
 
 -- a new frame that holds the parameters as Unknown, and a return type of its own
 unfoldable pub enter : List ℕ → State → State
@@ -229,7 +236,8 @@ module _ (ws : List Name) (setting : Setting) where
     act loop n (ifThen arms) s = branches loop (firstCondition arms) [] arms s
     -- "While and For commit nothing."
     act loop n (while c b) s = condition ws c s >>= λ s′. after (withFrames (s .frames)) (body true (dropping setting) b s′)
-    act loop n (for x e b) s = checked ws e s λ t. overElements (place e) t s λ u. after (withFrames (s .frames)) (body true false b (bind x u s))
+    act loop n (for x e b) s =
+        checked ws e s λ t. overElements (place e) t s λ u. after (withFrames (s .frames)) (body true false b (bind x (since none (place e) u) s))
     act loop n (def xs b) s = ifRoom n s (after (withReturns (s .returns)) (popped (body false false b (enter xs s))))
 
     -- "Bodies of If and While run on copies and drop their typing errors, statement by statement. A For body's errors and a Def body's
@@ -258,5 +266,5 @@ unfoldable pub start : State
 start = state (empty ∷ []) unknown
 
 unfoldable pub walk-open : Unit {0}
-unfolding _>>=_ onward after onCopy typed agreed assignName unpacked unpackInto returnRule sameSlot tells assigned mergeName mergeNames merge withParams enter popped ifRoom onlyIn overElements checked condition assignTo dropping walk program start
+unfolding _>>=_ onward after onCopy typed agreed assignName unpacked unpackInto returnRule sameType sameSlot tells assigned mergeName mergeNames merge withParams enter popped ifRoom onlyIn overElements checked condition assignTo dropping walk program start
 walk-open = tt

@@ -2,7 +2,7 @@
 use mathlib.Core.Path.{_≡_, refl, sym, ap, _∙_, subst}
 use mathlib.Core.Bool.{Bool, true, false}
 use mathlib.Core.List.{List, [], _∷_, _++_, map, map-append, append-assoc, append-nil}
-use mathlib.Core.Option.{none, some}
+use mathlib.Core.Option.{Option, none, some, Option·none-ne-some}
 use Prim.Native.Nat.{ℕ, zero, suc, _+_, _-_, _≤_, _<_}
 use native.Mathlib.Nat.{add-zero, zero-add, not-suc-le-zero, le-of-suc-le-suc}
 use native.Mathlib.Numerals.{add-one}
@@ -13,18 +13,18 @@ use borrow.Author.Count.{below-more}
 use borrow.Author.Tests.{eqb-true, leb-true}
 use Rattle.meaning.specs.Base.{ifSome, orElse, isIn, count}
 use Rattle.meaning.specs.Limits.{mostNames, longestName}
-use Rattle.meaning.specs.Types.{Ty}
+use Rattle.meaning.specs.Types.{Ty, unknown}
 use Rattle.meaning.specs.Image.{Name, NameRecord, nameRecords, nameCount, textsFrom, textsOf, namesOf, nodesOf, nameOf, plain, textStands, wrongName, brokenName}
-use Rattle.meaning.specs.Frames.{Frame, newest, slotIn}
+use Rattle.meaning.specs.Frames.{Binding, Frame, newest, slotIn}
 use Rattle.meaning.specs.Bound.{mayBind}
 use Rattle.meaning.specs.Decode.{treeOf}
 use Rattle.meaning.specs.Sheet.{Entry, entries, listedSlot, listedFrame, listing}
 use Rattle.meaning.proofs.Choices.{and-left, and-right, if-none}
 use Rattle.meaning.proofs.Faults.{Sound, sizes}
-use Rattle.meaning.proofs.Listed.{frame-slot, frame-long, slot-has}
+use Rattle.meaning.proofs.Listed.{frame-slot, frame-long}
 use Rattle.types.specs.Table.{Tab, Wf, denote}
 use Rattle.types.proofs.Laws.{unknown-number}
-use Rattle.frames.specs.Env.{Rows, cellRoom, framesOf, heldType, HeldBelow, Fit, Holds}
+use Rattle.frames.specs.Env.{Rows, cellRoom, framesOf, slotType, heldType, HeldBelow, Fit, Holds}
 use Rattle.frames.specs.declared.Held.{Held}
 use Rattle.frames.specs.declared.Held.the-variants.{Absent, OfType}
 use Rattle.image.specs.Parts.{recordOf, nameStands}
@@ -57,39 +57,60 @@ pub text-short : (bs : List ℕ) → brokenName bs ≡ none → (k : ℕ) → k 
 unfolding brokenName
 text-short bs e k h = names-short (textsOf bs) 0 0 [] (nameRecords bs) e k (rw records-count h)
 
--- ---- the entries from name k on
+-- ---- the entries from name k on: a slot's type is all that they take
+
+by-type : (n : List ℕ) (later : List Entry) (o : Option Binding)
+    → ifSome o (λ b. (n, b .type) ∷ later) later ≡ ifSome (slotType o) (λ y. (n, y) ∷ later) later
+unfolding ifSome
+by-type n later none = refl
+by-type n later (some b) = refl
 
 module _ (ws : List Name) (f : Frame) (k : ℕ) (hw : k < length ws) (hf : k < length f) where
-  entries-skip : getD f k none ≡ none → entries (drop k ws) (drop k f) ≡ entries (drop (k + 1) ws) (drop (k + 1) f)
-  unfolding entries ifSome
-  entries-skip e = rw (drop-cons ws k (record { spelling = []; role = plain }) hw, drop-cons f k none hf, e, add-one)
+  entries-by : entries (drop k ws) (drop k f)
+      ≡ ifSome (slotType (getD f k none)) (λ y. (nameOf ws k .spelling, y) ∷ entries (drop (k + 1) ws) (drop (k + 1) f)) (entries (drop (k + 1) ws) (drop (k + 1) f))
+  unfolding entries nameOf
+  entries-by = rw (drop-cons ws k (record { spelling = []; role = plain }) hw, drop-cons f k none hf, add-one) (by-type _ _ (getD f k none))
 
-  entries-more : (y : Ty) → getD f k none ≡ some y
+  entries-skip : slotType (getD f k none) ≡ none → entries (drop k ws) (drop k f) ≡ entries (drop (k + 1) ws) (drop (k + 1) f)
+  unfolding ifSome
+  entries-skip e = rw e at entries-by
+
+  entries-more : (y : Ty) → slotType (getD f k none) ≡ some y
       → entries (drop k ws) (drop k f) ≡ (nameOf ws k .spelling, y) ∷ entries (drop (k + 1) ws) (drop (k + 1) f)
-  unfolding entries ifSome nameOf
-  entries-more y e = rw (drop-cons ws k (record { spelling = []; role = plain }) hw, drop-cons f k none hf, e, add-one)
+  unfolding ifSome
+  entries-more y e = rw e at entries-by
 
 -- ---- what the sheet tells of a name, by what the newest frame holds for it
+
+listed-held : (bound : Bool) (o : Option Binding) (y : Ty) → slotType o ≡ some y → slotType (listedSlot bound o) ≡ some y
+unfolding listedSlot orElse
+listed-held true none y e = absurd (Option·none-ne-some y e)
+listed-held true (some b) y e = e
+listed-held false o y e = e
+
+listed-bound : (o : Option Binding) → slotType o ≡ none → slotType (listedSlot true o) ≡ some unknown
+unfolding listedSlot orElse
+listed-bound none e = refl
+listed-bound (some b) e = absurd (Option·none-ne-some (b .type) (sym e))
 
 module _ {fs : Rows} {top x : ℕ} {h : Held} (m : Holds fs top x h) (bound : Bool) where
   pub told-held : {r : ℕ} → h ≡ OfType r → ToldOf fs top x bound (OfType r)
   told-held {r} e = record {
-    says = λ t w. slot-has bound _ _ (rw e at (m .says t));
+    says = λ t w. listed-held bound _ _ (rw e at (m .says t));
     known = λ t w f. subst (HeldBelow (t.n)) e (m .known t f);
     small = subst (HeldBelow cellRoom) e (m .small);
   }
 
   pub told-bound : h ≡ Absent → bound ≡ true → ToldOf fs top x bound (OfType 0)
-  unfolding listedSlot orElse
   told-bound e b = record {
-    says = λ t w. rw (b, rw e at (m .says t), unknown-number w);
+    says = λ t w. rw (b, unknown-number w) (listed-bound _ (rw e at (m .says t)));
     known = λ t w f. omega (arith, w .base);
     small = omega arith;
   }
 
   pub told-absent : h ≡ Absent → bound ≡ false → ToldOf fs top x bound Absent
   unfolding listedSlot
-  told-absent e b = record { says = λ t w. rw (b, rw e at (m .says t)); known = λ t w f. tt; small = tt }
+  told-absent e b = record { says = λ t w. rw b (rw e at (m .says t)); known = λ t w f. tt; small = tt }
 
 -- ---- the frame that the sheet lists, by the module's own and what the module may bind
 
@@ -102,11 +123,11 @@ shown bs t fs top = listedFrame (boundIn bs) (newest (framesOf t fs top))
 -- what the sheet tells of name k
 module _ (bs : List ℕ) {fs : Rows} {top k : ℕ} {marks : List Bool} {h : Held} (l : k < mostNames) (b : marks ≡ marksOf (boundIn bs))
     (m : ToldOf fs top k (getD marks k false) h) where
-  told-slot : (t : Tab) → Wf t → getD (shown bs t fs top) k none ≡ heldType t h
+  told-slot : (t : Tab) → Wf t → slotType (getD (shown bs t fs top) k none) ≡ heldType t h
   unfolding slotIn
   told-slot t w =
       let e : isIn k (boundIn bs) ≡ getD marks k false = sym (marks-at (boundIn bs) k l) ∙ ap (λ (ms : List Bool). getD ms k false) (sym b) in
-      frame-slot (boundIn bs) (newest (framesOf t fs top)) k l ∙ rw e (m .says t w)
+      ap slotType (frame-slot (boundIn bs) (newest (framesOf t fs top)) k l) ∙ rw e (m .says t w)
 
 module _ {fs : Rows} {top k : ℕ} {bound : Bool} {h : Held} (m : ToldOf fs top k bound h) where
   told-known : {r : ℕ} → h ≡ OfType r → (t : Tab) → Wf t → Fit t fs top → r < t.n
@@ -189,7 +210,7 @@ naming-skip {bs} {fs} {top} {cells} {k} {c} s n l b m a = record {
   short = n .short;
   known = n .known;
   answer = λ t w f.
-      let lacks : getD (shown bs t fs top) k none ≡ none = told-slot bs (name-low s k l) b m t w ∙ ap (heldType t) a in
+      let lacks : slotType (getD (shown bs t fs top) k none) ≡ none = told-slot bs (name-low s k l) b m t w ∙ ap (heldType t) a in
       rw (entries-skip (namesOf bs) (shown bs t fs top) k (name-here s k l) (slot-here s k l t fs top) lacks) at (n .answer t w f);
 }
 
@@ -203,7 +224,7 @@ module _ {bs : List ℕ} (s : Sound bs) {fs : Rows} {top k c : ℕ} {cs ds : Lis
   answer-put : (t : Tab) → Wf t → Fit t fs top
       → listed bs t ds (c + 1) ++ entries (drop (k + 1) (namesOf bs)) (drop (k + 1) (shown bs t fs top)) ≡ entries (namesOf bs) (shown bs t fs top)
   answer-put t w f =
-      let has : getD (shown bs t fs top) k none ≡ some (denote t ty) = told-slot bs (name-low s k l) b m t w ∙ ap (heldType t) a in
+      let has : slotType (getD (shown bs t fs top) k none) ≡ some (denote t ty) = told-slot bs (name-low s k l) b m t w ∙ ap (heldType t) a in
       let more = entries-more (namesOf bs) (shown bs t fs top) k (name-here s k l) (slot-here s k l t fs top) (denote t ty) has in
       let old : listed bs t ds c ≡ listed bs t cs c = listed-same bs t cs ds c (p .before) in
       let new : listed bs t ds (c + 1) ≡ listed bs t cs c ++ ((nameOf (namesOf bs) k .spelling, denote t ty) ∷ []) =

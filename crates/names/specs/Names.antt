@@ -8,13 +8,13 @@ use Rattle.meaning.specs.Decode.{treeOf}
 use Rattle.meaning.specs.Frames.{newest, slotIn}
 use Rattle.meaning.specs.Sheet.{listedSlot, listing}
 use Rattle.types.specs.Table.{Tab, Wf}
-use Rattle.frames.specs.Env.{Rows, framesOf, heldType, HeldBelow, cellRoom, Fit}
+use Rattle.frames.specs.Env.{Rows, framesOf, slotType, heldType, HeldBelow, cellRoom, Fit}
 use Rattle.frames.specs.declared.Held.{Held}
 use Rattle.sheet.specs.Listing.{Listing, listed}
 
 -- h is what the sheet tells of name x, by whether the module may bind it, whatever the table
 pub record ToldOf (fs : Rows) (top x : ℕ) (bound : Bool) (h : Held) : Type 0 where
-  pub says : (t : Tab) → Wf t → listedSlot bound (slotIn (framesOf t fs top) x) ≡ heldType t h
+  pub says : (t : Tab) → Wf t → slotType (listedSlot bound (slotIn (framesOf t fs top) x)) ≡ heldType t h
   pub known : (t : Tab) → Wf t → Fit t fs top → HeldBelow (t.n) h
   pub small : HeldBelow cellRoom h
 

@@ -1,33 +1,35 @@
--- The lines: digits, a checksum in the place of a line's end, and what the check left in the buffers. Assumes nothing.
+-- The lines: digits, a checksum or a second span in the place of a line's end, and what the check left in the buffers. Assumes nothing.
 use mathlib.Core.Path.{_≡_, refl, sym, ap, _∙_}
 use mathlib.Core.Bool.{Bool, true, false}
 use mathlib.Core.List.{List, [], _∷_, _++_}
+use mathlib.Core.Logic.{_⊎_, inl, inr}
 use mathlib.Core.Option.{Option, none, some}
 use Prim.Native.Nat.{ℕ, suc, _+_, _-_, _^_, _≤_, _<_}
 use native.Mathlib.Nat.{pow-le-pow-right, zero-add}
 use native.Mathlib.Decide.{decLt}
 use native.Mathlib.Omega.{arith}
-use lib.Dec.{leb}
+use lib.Dec.{eqb, leb}
 use lib.ListN.{length, take, drop, replicate, length-append, length-replicate}
-use lib.Seq.{take-append-le, drop-append-add, drop-drop, length-take-le}
+use lib.Seq.{take-append-le, take-append-seam, drop-append-add, drop-drop, length-take-le}
 use borrow.Author.Tests.{eq-eqb, ne-eqb}
 use Rattle.io.specs.Digits.{digits, Fewest}
-use Rattle.meaning.specs.Base.{if_then_else_, ifSome, bytes, decimal, word}
+use Rattle.meaning.specs.Base.{if_then_else_, choose, ifSome, bytes, decimal, word}
 use Rattle.meaning.specs.Sheet.{Entry, sheetOf}
 use Rattle.meaning.specs.Read.{readSheet}
 use Rattle.meaning.specs.Answer.{Answer, answer, bare, written, writeAnswer, overlaid}
-use Rattle.meaning.specs.Line.{spaced, acceptedLine, lineOf}
+use Rattle.meaning.specs.Line.{spaced, acceptedLine, refusedLine, lineOf}
 use Rattle.meaning.proofs.Answers.{overlaid-length, written-answered, overlaid-front}
+use Rattle.meaning.proofs.Answers.{answered as bounds}
 use Rattle.meaning.proofs.SheetForm.{sheet-size}
 use Rattle.words.specs.Words.{putAt, Wrote}
 use Rattle.words.proofs.Laws.{decimal-length, put-overlaid, wrote, and-then}
 use Rattle.checker.specs.Answers.{Numbers, rewritten, Relaid}
-use Rattle.line.specs.Printing.{Printable, Fronted, Lined, answered}
+use Rattle.line.specs.Printing.{Printable, Fronted, Lined, SecondTold, answered, orDash}
 use Rattle.line.proofs.Pieces.{spaced-next}
 use Rattle.line.proofs.Answered.{Header, bare-header, written-header}
 use Rattle.line.proofs.Answered.{fronted as to-front}
 use Rattle.line.proofs.One.{sheet-is}
-use Rattle.replay.specs.Lines.{fnvOf, hexOf, checksum, summedLine, readLine, rewrittenLine, sheetLine}
+use Rattle.replay.specs.Lines.{fnvOf, hexOf, checksum, secondSpan, behind, summedLine, readLine, rewrittenLine, sheetLine}
 
 -- ---- sixteen digits
 
@@ -70,42 +72,79 @@ read-wrote sheet names types p q a b c s = rw (← p, ← q) (and-then (and-then
 
 -- ---- sizes
 
-space-long : length (bytes " ") ≡ 1
-unfolding bytes
-space-long = refl
-
 end-long : length (bytes "\n") ≡ 1
 unfolding bytes
 end-long = refl
 
-accepted-long : length (bytes "accepted") ≡ 8
-unfolding bytes
-accepted-long = refl
-
-spaced-long : (n : ℕ) (ns : List ℕ) → length (spaced (n ∷ ns)) ≤ 11 + length (spaced ns)
-unfolding spaced
-spaced-long n ns = rw (length-append, length-append, space-long) (omega (arith, decimal-length n .1))
-
-none-long : length (spaced []) ≡ 0
-unfolding spaced
-none-long = refl
-
-accepted-sum : (s : List ℕ) → length (acceptedLine s) ≡ 8 + length (spaced (word s 20 ∷ word s 4 ∷ length s ∷ [])) + 1
+accepted-some : (s : List ℕ) → 1 ≤ length (acceptedLine s)
 unfolding acceptedLine
-accepted-sum s = rw (length-append, length-append, accepted-long, end-long)
+accepted-some s = rw (length-append, end-long) (omega arith)
 
-accepted-size : (s : List ℕ) → (1 ≤ length (acceptedLine s)) × (length (acceptedLine s) ≤ 42)
-accepted-size s =
-    let a = spaced-long (word s 20) (word s 4 ∷ length s ∷ []) in
-    let b = spaced-long (word s 4) (length s ∷ []) in
-    let c = spaced-long (length s) [] in
-    (omega (arith, accepted-sum s), omega (arith, accepted-sum s, a, b, c, none-long))
+refused-some : (a : Answer) → 1 ≤ length (refusedLine a)
+unfolding refusedLine
+refused-some a = rw (length-append, end-long) (omega arith)
+
+-- of the two lines one
+abbrev either : Bool → Answer → List ℕ
+either b a = if b then acceptedLine (a .sheet) else refusedLine a
+
+either-some : (b : Bool) (a : Answer) → 1 ≤ length (either b a)
+unfolding if_then_else_
+either-some true a = accepted-some (a .sheet)
+either-some false a = refused-some a
+
+line-some : (a : Answer) → 1 ≤ length (lineOf a)
+unfolding lineOf
+line-some a = either-some (eqb (a .code) 0) a
 
 checksum-size : (s : List ℕ) → 1 ≤ length (checksum s)
 unfolding checksum
 checksum-size s = rw (length-append, end-long) (omega arith)
 
--- ---- the checksum in the place of the line's end
+-- ---- the second span
+
+at-long : length (bytes " @") ≡ 2
+unfolding bytes
+at-long = refl
+
+comma-long : length (bytes ",") ≡ 1
+unfolding bytes
+comma-long = refl
+
+module _ (d : List ℕ) {e : List ℕ} (at : ℕ) {m : ℕ} (start end : ℕ) (room : at + 24 ≤ length d) (w : e ≡ putAt d at (bytes " @")) (p : m ≡ at + length (bytes " @")) where
+  sign : Wrote d at (bytes " @") e m
+  sign = wrote (bytes " @") (omega (arith, at-long, room)) w p
+
+  pub start-fits : m + length (decimal start) ≤ length e
+  start-fits = omega (arith, p, at-long, sign .long, room, decimal-length start .1)
+
+  module _ {f : List ℕ} {n : ℕ} (w₁ : f ≡ putAt e m (decimal start)) (p₁ : n ≡ m + length (decimal start)) where
+    from : Wrote d at (bytes " @" ++ decimal start) f n
+    from = and-then sign (wrote (decimal start) start-fits w₁ p₁)
+
+    pub comma-fits : n + length (bytes ",") ≤ length f
+    comma-fits = omega (arith, p₁, p, at-long, comma-long, from .long, room, decimal-length start .1)
+
+    module _ {g : List ℕ} {o : ℕ} (w₂ : g ≡ putAt f n (bytes ",")) (p₂ : o ≡ n + length (bytes ",")) where
+      comma : Wrote d at (bytes " @" ++ decimal start ++ bytes ",") g o
+      comma = and-then from (wrote (bytes ",") comma-fits w₂ p₂)
+
+      pub end-fits : o + length (decimal end) ≤ length g
+      end-fits = omega (arith, p₂, p₁, p, at-long, comma-long, comma .long, room, decimal-length start .1, decimal-length end .1)
+
+      module _ {h : List ℕ} {q : ℕ} (w₃ : h ≡ putAt g o (decimal end)) (p₃ : q ≡ o + length (decimal end)) where
+        to : Wrote d at (bytes " @" ++ decimal start ++ bytes "," ++ decimal end) h q
+        to = and-then comma (wrote (decimal end) end-fits w₃ p₃)
+
+        pub last-fits : q + length (bytes "\n") ≤ length h
+        last-fits =
+            omega (arith, p₃, p₂, p₁, p, at-long, comma-long, end-long, to .long, room, decimal-length start .1, decimal-length end .1)
+
+        pub second-wrote : {i : List ℕ} {r : ℕ} → i ≡ putAt h q (bytes "\n") → r ≡ q + length (bytes "\n") → Wrote d at (secondSpan start end) i r
+        unfolding secondSpan
+        second-wrote w₄ p₄ = and-then to (wrote (bytes "\n") last-fits w₄ p₄)
+
+-- ---- what takes the place of the line's end
 
 -- what is written over the end of what was laid over a buffer
 over : (d s t : List ℕ) (m : ℕ) → m ≤ length s → length s ≤ m + length t → putAt (overlaid s d) m t ≡ overlaid (take m s ++ t) d
@@ -118,48 +157,78 @@ over d s t m h k =
     ∙ ap (λ (n : ℕ). drop n d) (sym e) in
     rw (take-append-le m s (drop (length s) d) h, tail, length-append, length-take-le m s h)
 
-is-accepted : (a : Answer) → a .code ≡ 0 → lineOf a ≡ acceptedLine (a .sheet)
-unfolding lineOf if_then_else_
-is-accepted a z = rw (eq-eqb _ _ z)
+cut-end : (w : List ℕ) → take (length (w ++ bytes "\n") - 1) (w ++ bytes "\n") ++ bytes "\n" ≡ w ++ bytes "\n"
+cut-end w =
+    let e : length (w ++ bytes "\n") - 1 ≡ length w = rw length-append (omega (arith, end-long)) in
+    rw (e, take-append-seam w (bytes "\n"))
 
-is-summed : (a : Answer) → a .code ≡ 0 → summedLine a ≡ take (length (lineOf a) - 1) (lineOf a) ++ checksum (a .sheet)
-unfolding summedLine if_then_else_
-is-summed a z = rw (eq-eqb _ _ z)
+accepted-cut : (s : List ℕ) → take (length (acceptedLine s) - 1) (acceptedLine s) ++ bytes "\n" ≡ acceptedLine s
+unfolding acceptedLine
+accepted-cut s = cut-end (bytes "accepted" ++ spaced (word s 20 ∷ word s 4 ∷ length s ∷ []))
 
-not-summed : (a : Answer) → (a .code ≡ 0 → ⊥) → summedLine a ≡ lineOf a
-unfolding summedLine if_then_else_
-not-summed a nz = rw (ne-eqb _ _ nz)
+refused-cut : (a : Answer) → take (length (refusedLine a) - 1) (refusedLine a) ++ bytes "\n" ≡ refusedLine a
+unfolding refusedLine orDash
+refused-cut a = cut-end (bytes "refused" ++ spaced (a .code ∷ a .place ∷ a .spanStart ∷ a .spanEnd ∷ []) ++ bytes " " ++ orDash (a .message))
+
+either-cut : (b : Bool) (a : Answer) → take (length (either b a) - 1) (either b a) ++ bytes "\n" ≡ either b a
+unfolding if_then_else_
+either-cut true a = accepted-cut (a .sheet)
+either-cut false a = refused-cut a
+
+line-cut : (a : Answer) → take (length (lineOf a) - 1) (lineOf a) ++ bytes "\n" ≡ lineOf a
+unfolding lineOf
+line-cut a = either-cut (eqb (a .code) 0) a
+
+-- ---- what stands there, by the code
+
+summed-behind : (a : Answer) → a .code ≡ 0 → checksum (a .sheet) ≡ behind a
+unfolding behind choose if_then_else_
+summed-behind a z = rw z
+
+second-behind : (a : Answer) → (a .code ≡ 23) ⊎ (a .code ≡ 25) → secondSpan (a .secondStart) (a .secondEnd) ≡ behind a
+unfolding behind choose if_then_else_
+second-behind a (inl z) = rw z
+second-behind a (inr z) = rw z
+
+end-behind : (a : Answer) → (a .code ≡ 0 → ⊥) → ((a .code ≡ 23) ⊎ (a .code ≡ 25) → ⊥) → bytes "\n" ≡ behind a
+unfolding behind choose if_then_else_
+end-behind a nz n = rw (ne-eqb (a .code) 0 nz, ne-eqb (a .code) 25 (λ z. n (inr z)), ne-eqb (a .code) 23 (λ z. n (inl z)))
+
+second-size : (start end : ℕ) → 1 ≤ length (secondSpan start end)
+unfolding secondSpan
+second-size start end = rw (length-append, end-long) (omega arith)
 
 module _ {a : Answer} {old mid s s₁ t t₁ : List ℕ} {size code count : ℕ} (l : Lined a old mid s s₁ t t₁ size code count) where
-  size-of : code ≡ 0 → (1 ≤ size) × (size ≤ 42)
-  size-of z =
-      let n = accepted-size (a .sheet) in
-      let e : size ≡ length (acceptedLine (a .sheet)) = l .front .ends ∙ ap length (is-accepted a (sym (l .told) ∙ z)) in
-      (omega (arith, e, n .0), omega (arith, e, n .1))
+  pub end-room : size ≤ 64 + length t → length t ≤ 1024 → 1152 ≤ length old → size + 23 ≤ length mid
+  end-room h m room = omega (arith, h, l .front .long, m, room)
 
-  pub some-line : code ≡ 0 → 1 ≤ size
-  some-line z = size-of z .0
+  pub some-line : 1 ≤ size
+  some-line = omega (arith, l .front .ends, line-some a)
 
-  pub sum-room : code ≡ 0 → 1152 ≤ length old → size - 1 + 19 ≤ length mid
-  sum-room z room = omega (arith, size-of z .0, size-of z .1, l .front .long, room)
-
-  pub fronted : (code ≡ 0 → ⊥) → Fronted (summedLine a) old mid size
-  fronted nz = rw (not-summed a (λ e. nz (l .told ∙ e))) (l .front)
-
-  pub summed : {new : List ℕ} {r : ℕ} → code ≡ 0 → Wrote mid (size - 1) (checksum (take count s₁)) new r → Fronted (summedLine a) old new r
-  summed {new} {r} z w =
-      let c = checksum-size (a .sheet) in
-      let n = size-of z in
+  ended : {new : List ℕ} {r : ℕ} (e : List ℕ) → e ≡ behind a → 1 ≤ length e → Wrote mid (size - 1) e new r → Fronted (summedLine a) old new r
+  unfolding summedLine
+  ended {new} {r} e b more w =
       let first : length (lineOf a) - 1 ≤ length (lineOf a) = omega arith in
-      let e : new ≡ putAt (overlaid (lineOf a) old) (length (lineOf a) - 1) (checksum (a .sheet)) =
-      rw (l .front .line, l .front .ends, sheet-is l) at (w .same) in
-      let p : r ≡ length (lineOf a) - 1 + length (checksum (a .sheet)) = rw (l .front .ends, sheet-is l) at (w .ends) in
-      rw (is-summed a (sym (l .told) ∙ z)) record {
-        line = e ∙ over old (lineOf a) (checksum (a .sheet)) (length (lineOf a) - 1) first (omega (arith, c));
-        ends = p ∙ sym (length-append (take (length (lineOf a) - 1) (lineOf a)) (checksum (a .sheet)) ∙ rw (length-take-le (length (lineOf a) - 1) (lineOf a) first));
+      let q : new ≡ putAt (overlaid (lineOf a) old) (length (lineOf a) - 1) e = rw (l .front .line, l .front .ends) at (w .same) in
+      let p : r ≡ length (lineOf a) - 1 + length e = rw (l .front .ends) at (w .ends) in
+      rw (← b) record {
+        line = q ∙ over old (lineOf a) e (length (lineOf a) - 1) first (omega (arith, more));
+        ends = p ∙ sym (length-append (take (length (lineOf a) - 1) (lineOf a)) e ∙ rw (length-take-le (length (lineOf a) - 1) (lineOf a) first));
         long = w .long ∙ l .front .long;
         inside = w .inside;
       }
+
+  pub summed : {new : List ℕ} {r : ℕ} → code ≡ 0 → Wrote mid (size - 1) (checksum (take count s₁)) new r → Fronted (summedLine a) old new r
+  summed z w = ended (checksum (a .sheet)) (summed-behind a (sym (l .told) ∙ z)) (checksum-size (a .sheet)) (rw (sheet-is l) at w)
+
+  pub pointed : {new : List ℕ} {start end r : ℕ} → (code ≡ 23) ⊎ (code ≡ 25) → SecondTold a start end → Wrote mid (size - 1) (secondSpan start end) new r
+      → Fronted (summedLine a) old new r
+  pointed z k w =
+      ended (secondSpan (a .secondStart) (a .secondEnd)) (second-behind a (rw (l .told) at z)) (second-size (a .secondStart) (a .secondEnd)) (rw (k .from, k .to) at w)
+
+  pub fronted : (code ≡ 0 → ⊥) → ((code ≡ 23) ⊎ (code ≡ 25) → ⊥) → Fronted (summedLine a) old mid size
+  unfolding summedLine
+  fronted nz n = rw (← end-behind a (rw (l .told) at nz) (rw (l .told) at n), line-cut a) (l .front)
 
 -- ---- what was read and written again
 
@@ -167,9 +236,9 @@ written-refused : (room : ℕ) (bs : List ℕ) → (written room bs .code ≡ 0 
 unfolding written if_then_else_
 written-refused room bs n = by (leb (length bs) room) n
   where
-    by : (b : Bool) → ((if b then record { code = 0; place = 0; spanStart = 0; spanEnd = 0; sheet = bs; message = [] } else bare 10 0) .code ≡ 0 → ⊥)
-        → (if b then record { code = 0; place = 0; spanStart = 0; spanEnd = 0; sheet = bs; message = [] } else bare 10 0)
-        ≡ bare ((if b then record { code = 0; place = 0; spanStart = 0; spanEnd = 0; sheet = bs; message = [] } else bare 10 0) .code) 0
+    by : (b : Bool) → ((if b then record { code = 0; place = 0; spanStart = 0; spanEnd = 0; secondStart = 0; secondEnd = 0; sheet = bs; message = [] } else bare 10 0) .code ≡ 0 → ⊥)
+        → (if b then record { code = 0; place = 0; spanStart = 0; spanEnd = 0; secondStart = 0; secondEnd = 0; sheet = bs; message = [] } else bare 10 0)
+        ≡ bare ((if b then record { code = 0; place = 0; spanStart = 0; spanEnd = 0; secondStart = 0; secondEnd = 0; sheet = bs; message = [] } else bare 10 0) .code) 0
     by true h = absurd (h refl)
     by false h = refl
 

@@ -1,3 +1,4 @@
 mod Sums
 mod Fronts
 mod Cutting
+mod Examples

@@ -1,12 +1,12 @@
--- The lines of the oracle's batch form: document 01's printed line, and behind it the checksum of the sheet, "since the line alone does
--- not tell sheets of one size apart".
+-- The lines of the oracle's batch form: "document 01's printed line, and behind it what that does not tell": of an accepted program the
+-- checksum of its sheet, and of 25 and 23 the second span.
 use mathlib.Core.List.{List, [], _∷_, _++_}
 use Prim.Native.Nat.{ℕ, _+_, _-_, _*_, _%_, _^_}
 use lib.Bits.{bitXor}
 use lib.Dec.{eqb}
 use lib.ListN.{length, take}
 use Rattle.io.specs.Digits.{digits}
-use Rattle.meaning.specs.Base.{if_then_else_, bytes, word}
+use Rattle.meaning.specs.Base.{if_then_else_, choose, bytes, decimal, word}
 use Rattle.meaning.specs.Limits.{largestSheet, sheetBuffer, messageBuffer}
 use Rattle.meaning.specs.Answer.{Answer, answer}
 use Rattle.meaning.specs.Line.{spaced, lineOf}
@@ -37,14 +37,25 @@ hexOf n = digits 16 16 n
 unfoldable pub checksum : List ℕ → List ℕ
 checksum sheet = bytes " #" ++ hexOf (fnvOf sheet) ++ bytes "\n"
 
+-- ---- "For 25 and 23 a space, `@`, the second span's start, a comma and its end, in decimal", and the line's end
+
+unfoldable pub secondSpan : ℕ → ℕ → List ℕ
+secondSpan start end = bytes " @" ++ decimal start ++ bytes "," ++ decimal end ++ bytes "\n"
+
 -- what stands around a message has fewer than 128 bytes
 abbrev pub lineRoom : ℕ
 lineRoom = messageBuffer + 128
 
--- ---- the line of an image: the checksum takes the place of the line's end
+-- ---- the line of an image: what the printed line does not tell takes the place of its end
+
+-- the second span stands "also where they are 0,0, and also where the message has no room"
+unfoldable pub behind : Answer → List ℕ
+behind a =
+    let second = secondSpan (a .secondStart) (a .secondEnd) in
+    choose (a .code) (bytes "\n") ((0, checksum (a .sheet)) ∷ (25, second) ∷ (23, second) ∷ [])
 
 unfoldable pub summedLine : Answer → List ℕ
-summedLine a = if eqb (a .code) 0 then take (length (lineOf a) - 1) (lineOf a) ++ checksum (a .sheet) else lineOf a
+summedLine a = take (length (lineOf a) - 1) (lineOf a) ++ behind a
 
 unfoldable pub checkedLine : ℕ → List ℕ → ℕ → ℕ → List ℕ
 checkedLine setting image sheetRoom messageRoom = summedLine (answer setting image sheetRoom messageRoom)

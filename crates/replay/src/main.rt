@@ -1,7 +1,8 @@
 // Runs the stored list of T's answers against the checker, and speaks the oracle's batch form, so that any other list
 // goes through the same proved code. `replay stored` reads the list beside it and prints what differs and how many
 // agree. `replay` prints the line of each image of a batch on standard input, `replay strict` the same in strict,
-// `replay tight` in the rooms of the tight list, and `replay sheets` the line of each sheet.
+// `replay tight` in the rooms of the tight list, and `replay sheets` the line of each sheet. Behind document 01's
+// printed line an image's has what that does not tell: the checksum of the sheet, and of 25 and 23 the second span.
 ghost use mathlib.Core.Path.{_≡_};
 ghost use mathlib.Core.Bool.{true};
 ghost use Prim.Native.Nat.{_+_, _*_, _%_, _^_, _<_, _≤_, min};
@@ -9,7 +10,7 @@ ghost use lib.ListN.{length};
 ghost use Rattle.line.specs.Printing.{Fronted};
 ghost use Rattle.words.specs.Words.{Wrote};
 ghost use Rattle.meaning.specs.Limits.{sheetBuffer, messageBuffer};
-ghost use Rattle.replay.specs.Lines.{lineRoom, fnvOf, hexOf, checksum, checkedLine};
+ghost use Rattle.replay.specs.Lines.{lineRoom, fnvOf, hexOf, checksum, secondSpan, checkedLine};
 ghost use Rattle.replay.specs.Lines.{readLine, sheetLine, lineFor};
 use checker::PLAIN;
 use checker::STRICT;
@@ -21,10 +22,12 @@ use limits::MESSAGE_BUFFER;
 use limits::READ_AT_MOST;
 use limits::SHEET_BUFFER;
 use line::put_spaced;
+use rules::codes;
 use sheet::header;
 use std::num::wrapping_add_u64;
 use words::get_word;
 use words::put;
+use words::put_decimal;
 use words::same;
 use words::text;
 use words::wide8;
@@ -97,9 +100,27 @@ fn put_checksum(out: &mut [u8], at: usize, sheet: &[u8]) -> usize
     put(out, end, b"\n")
 }
 
+// ---- the second span
+
+// As ` @0,1`, and the line's end.
+fn put_second(out: &mut [u8], at: usize, start: u32, end: u32) -> usize
+    requires { ⌜ at + 24 ≤ length (now out) ⌝ }
+    ensures { λ r. ⌜ Wrote (now (out .entry)) at (secondSpan start end) (now (out .exit)) r ⌝ }
+{
+    let first = put(out, at, b" @");
+    let comma = put_decimal(out, first, start);
+    let second = put(out, comma, b",");
+    let last = put_decimal(out, second, end);
+    put(out, last, b"\n")
+}
+
 // ---- the lines
 
-// The line of an image under a setting, in the rooms of the two buffers that are lent, and the checksum of its sheet.
+// No code of a refusal: the image was accepted, or the sheet was read.
+const ACCEPTED: u32 = 0;
+
+// The line of an image under a setting, in the rooms of the two buffers that are lent, and what it does not tell in the
+// place of its end: the checksum of the sheet, or the second span.
 fn summed_line(
     setting: u32,
     image: &[u8],
@@ -115,10 +136,14 @@ fn summed_line(
 {
     let p = line::of_image(setting, image, sheet, message, out);
     let length = p.length;
-    if p.code == 0 {
-        return put_checksum(out, length - 1, text(sheet, 0, p.sheet));
+    let code = p.code;
+    match code {
+        ACCEPTED => put_checksum(out, length - 1, text(sheet, 0, p.sheet)),
+        codes::CANNOT_ASSIGN | codes::INCOMPATIBLE_BRANCHES => {
+            put_second(out, length - 1, p.second_start, p.second_end)
+        }
+        _ => length,
     }
-    length
 }
 
 fn image_line(
@@ -165,7 +190,7 @@ fn sheet_line(sheet: &[u8], out: &mut [u8]) -> usize
     let mut again = [0u8; LARGEST_SHEET];
     let p = cablebirch_write_sheet(sheet, &mut again);
     let code = p.code;
-    if code == 0 {
+    if code == ACCEPTED {
         return read_line(text(&again, 0, p.sheet_length), out);
     }
     line::write(code, 0, 0, 0, text(&again, 0, 0), text(&again, 0, 0), out)

@@ -17,12 +17,14 @@ use Rattle.rules.specs.declared.Reason.{Reason}
 use Rattle.rules.specs.declared.Decision.{Decision}
 use Rattle.rules.specs.declared.Decision.the-variants as decision
 use Rattle.rules.proofs.Outcomes.{names-none, typed-not-refused}
+use Rattle.frames.specs.Env.{firstNumber}
+use Rattle.frames.specs.declared.First.{First}
 use Rattle.state.specs.declared.Typed.{Typed}
 use Rattle.state.specs.declared.Typed.the-variants as typed
 use Rattle.state.specs.declared.Outcome.{Outcome}
 use Rattle.state.specs.declared.Outcome.the-variants as outcome
 use Rattle.state.specs.Giving.{Told, Given}
-use Rattle.state.specs.Notes.{typesIn, elementsIn, codeIn, placeIn, firstIn, secondIn, tabIn, Noting, Kept, Counted, CountsKept, Refused}
+use Rattle.state.specs.Notes.{typesIn, elementsIn, codeIn, placeIn, firstIn, secondIn, sinceIn, tabIn, Noting, Kept, Counted, CountsKept, Refused, Conflicted}
 use Rattle.state.specs.Answer.{typedCode, numberOf, Answered, Settles, codeOf, Settled}
 
 -- ---- the cases of an answer
@@ -287,4 +289,24 @@ refused-of {ns} {code} {p = p} {x} {y} o e f g =
       second = λ h. getD-set-same (set (set (set ns 2 code) 3 p) 4 x) 5 y 0 (simp length-set (omega arith)) ∙ g h;
       ret = elsewhere ns code p x y 6 (λ h. omega arith) (λ h. omega arith) (λ h. omega arith) (λ h. omega arith);
       top = elsewhere ns code p x y 7 (λ h. omega arith) (λ h. omega arith) (λ h. omega arith) (λ h. omega arith);
+    }
+
+-- one store more, of the first node
+pub conflicted-of : {ns ms : List ℕ} {code place a b v : ℕ} {first : First} → Refused ns ms code place a b → v ≡ firstNumber first
+    → Conflicted ns (set ms 8 v) code place first a b
+conflicted-of {ms = ms} {v = v} f e =
+    let other : (j : ℕ) → (j ≡ 8 → ⊥) → getD (set ms 8 v) j 0 ≡ getD ms j 0 = λ j n. getD-set-other ms 8 j v 0 n in
+    record {
+      refused = record {
+        long = length-set ms 8 v ∙ f .long;
+        types-kept = other 0 (λ h. omega arith) ∙ f .types-kept;
+        elements-kept = other 1 (λ h. omega arith) ∙ f .elements-kept;
+        coded = other 2 (λ h. omega arith) ∙ f .coded;
+        placed = λ h. other 3 (λ h. omega arith) ∙ f .placed h;
+        first = λ h. other 4 (λ h. omega arith) ∙ f .first h;
+        second = λ h. other 5 (λ h. omega arith) ∙ f .second h;
+        ret = other 6 (λ h. omega arith) ∙ f .ret;
+        top = other 7 (λ h. omega arith) ∙ f .top;
+      };
+      since = getD-set-same ms 8 v 0 (omega (arith, f .long)) ∙ e;
     }

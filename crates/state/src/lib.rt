@@ -4,7 +4,10 @@ ghost use Prim.Native.Nat.{_<_};
 ghost use lib.ListN.{getD, set};
 ghost use Rattle.meaning.specs.Limits.{mostNodes};
 ghost use Rattle.types.specs.Table.{mostNumbers};
-ghost use Rattle.state.specs.Notes.{typesIn, elementsIn, Noting, Counted, Refused};
+ghost use Rattle.frames.specs.Env.{cellRoom, FirstBelow};
+ghost use Rattle.state.specs.Notes.{typesIn, elementsIn, Noting, Counted, Refused, Conflicted};
+use frames::First;
+use frames::number_of;
 use limits::MOST_NODES;
 use types::Counts;
 use words::wide16;
@@ -27,7 +30,7 @@ pub enum Outcome {
 // ---- what is noted while a program is walked: specs/Notes
 
 // The cells: how many types and elements the table has, the last refusal's code, node and two numbers, the return
-// type so far, and the newest frame's row.
+// type so far, the newest frame's row, and where a 25 or 23 points besides.
 pub const TYPES: usize = 0;
 
 pub const ELEMENTS: usize = 1;
@@ -44,7 +47,10 @@ pub const RETURNS: usize = 6;
 
 pub const TOP: usize = 7;
 
-pub const NOTED: usize = 8;
+// The number + 1 of the first node, or 0.
+pub const SINCE: usize = 8;
+
+pub const NOTED: usize = 9;
 
 pub type Notes = [u32; NOTED];
 
@@ -98,6 +104,15 @@ pub fn refuse(notes: &mut Notes, code: u32, place: usize, a: usize, b: usize)
     notes[PLACE] = fitted(place);
     notes[FIRST] = fitted(a);
     notes[SECOND] = fitted(b);
+}
+
+// Notes a 25 or a 23: they "answer with a second span", that of the node that first made the old type known.
+pub fn conflict(notes: &mut Notes, code: u32, place: usize, first: First, a: usize, b: usize)
+    requires { ⌜ Noting (now notes) × FirstBelow cellRoom first ⌝ }
+    ensures { λ _. ⌜ Conflicted (now (notes .entry)) (now (notes .exit)) code place first a b ⌝ }
+{
+    refuse(notes, code, place, a, b);
+    notes[SINCE] = number_of(first);
 }
 
 // ---- the stack

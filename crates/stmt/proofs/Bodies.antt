@@ -19,6 +19,7 @@ use Rattle.image.specs.declared.Read.{Read}
 use Rattle.image.proofs.Moving.{parent-of}
 use Rattle.expr.specs.Contract.{At}
 use Rattle.expr.proofs.Rows.{shallow}
+use Rattle.state.specs.Notes.{Places, places}
 use Rattle.stmt.specs.Contract.{stateOf, acted, walkedAt, bodyAt, Standing, Stmt, Bodiless, Within, Fine, Done}
 use Rattle.stmt.proofs.Laws.{ended-done, ended-wrong, was-deep, was-wrong, goes-on, too-deep, deep-wider, deep-then, named-well, left-refl, fine-trans, fine-wider, done-as, ready-within, ready-next, wide-at, within-all, within-le, within-child, within-at}
 
@@ -37,7 +38,7 @@ module _ {bs : List ℕ} {i d : ℕ} (s : Sound bs) (h : At bs i d) where
   pub stmt-here : {k : ℕ} → k ≡ nodeOf (nodesOf bs) i .kind → Stmt bs i (d - 1) k
   stmt-here e = record { there = h .there; deep = omega (arith, h .deep, shallow s h); kind = sym e }
 
-  pub stmt-done : (setting : Setting) (loop : Bool) (q : State) {t u : Tab} {gs : Rows} {top high got : ℕ} {su : List ℕ} {e M code place a b : ℕ}
+  pub stmt-done : (setting : Setting) (loop : Bool) (q : State) {t u : Tab} {gs : Rows} {top high got : ℕ} {su : List ℕ} {e M code : ℕ} {place : Places} {a b : ℕ}
       → Done (namesOf bs) (acted bs setting loop (d - 1) i q) t u gs top high got su i e M code place a b
       → Done (namesOf bs) (walkedAt bs setting loop d i q) t u gs top high got su i e M code place a b
   stmt-done setting loop q a = done-as (walked-acted bs setting loop d i q (shallow s h)) a
@@ -100,7 +101,7 @@ module _ {bs : List ℕ} {setting : Setting} {nodes : ℕ} {t u : Tab} {fs gs : 
   unfolding body walkedAt
   loop-answer = l .answer ∙ rw (stmts-down (nodesOf bs) (λ k. stmtAt (nodesOf bs) (d - 1) k) left j p)
 
-  module _ {v : Tab} {hs : Rows} {peak had : ℕ} {sv : List ℕ} {code place a b : ℕ}
+  module _ {v : Tab} {hs : Rows} {peak had : ℕ} {sv : List ℕ} {code : ℕ} {place : Places} {a b : ℕ}
       (c : Done (namesOf bs) (walkedAt bs setting loop (d - 1) j (stateOf u gs high got)) u v hs high peak had sv j (stopOf (nodesOf bs) j) (nodeCount bs) code place a b) where
     -- a Def was too deep: that is the end, whatever is dropped
     pub loop-deep : code ≡ 9
@@ -134,12 +135,12 @@ module _ {bs : List ℕ} {setting : Setting} {nodes : ℕ} {t u : Tab} {fs gs : 
 
 pub loop-end : {bs : List ℕ} {setting : Setting} {nodes : ℕ} {t u : Tab} {fs gs : Rows} {top ret i d : ℕ} {loop drops : Bool} {high got : ℕ} {su : List ℕ} {j left : ℕ}
     → Loop bs setting nodes t fs top ret i d loop drops u gs high got su j left → left ≤ 0
-    → Done (namesOf bs) (bodyAt bs setting loop drops d i (stateOf t fs top ret)) t u gs top high got su i (stopOf (nodesOf bs) i) (nodeCount bs) 0 0 0 0
+    → Done (namesOf bs) (bodyAt bs setting loop drops d i (stateOf t fs top ret)) t u gs top high got su i (stopOf (nodesOf bs) i) (nodeCount bs) 0 (places 0 0) 0 0
 unfolding body stmtsFrom
 loop-end {bs} {setting} {nodes} {t} {u} {fs} {gs} {top} {ret} {i} {d} {loop} {drops} {high} {got} {su} {j} {left} l z =
     let o : left ≡ 0 = omega arith in
     record {
-      says = (rw o at (l .answer)) ∙ sym (ended-done (namesOf bs) u gs high (denote u got) 0 0 0 0 refl);
+      says = (rw o at (l .answer)) ∙ sym (ended-done (namesOf bs) u gs high (denote u got) 0 (places 0 0) 0 0 refl);
       fine = λ _. fine-wider (l .fine) (omega arith) (within-le (l .standing .ready .sound) (l .within));
       named = λ _. named-well;
       deep = λ x. absurd (omega arith);

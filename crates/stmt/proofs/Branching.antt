@@ -16,15 +16,16 @@ use Rattle.meaning.specs.Tree.{Expr, Stmts, on, otherwise, _or-else_, place, fi
 use Rattle.meaning.specs.Image.{Name, plain, nameOf, nodeCount, nodesOf, nodeOf, namesOf, depth}
 use Rattle.meaning.specs.Decode.{stopOf, armsFrom, exprAt, blockAt}
 use Rattle.meaning.specs.Message.{Piece, aType, aText, aNumber}
-use Rattle.meaning.specs.Frames.{Frames}
+use Rattle.meaning.specs.Frames.{Binding, Frames}
 use Rattle.meaning.specs.Walk.{Setting, dropping, State, state, End, done, wrong, tooDeep, _>>=_, onCopy, act, arm, branches}
 use Rattle.meaning.proofs.Decoding.{if-at, arms-down}
 use Rattle.meaning.proofs.Faults.{Sound}
 use Rattle.types.specs.Table.{Tab, tab, denote}
-use Rattle.frames.specs.Env.{Rows, slot, framesOf, Noted, settleName, settle, mergeCode, clashName, mergeEnd, Committed}
+use Rattle.frames.specs.Env.{Rows, absentRow, slot, framesOf, firstNode, firstNumber, Noted, settleName, settle, mergeCode, clashName, mergeEnd, Committed}
+use Rattle.frames.specs.declared.Disagreement.{Disagreement}
 use Rattle.frames.specs.declared.Merge.{Merge}
 use Rattle.frames.specs.declared.Merge.the-variants.{Whole, Clash}
-use Rattle.frames.proofs.Laws.{frames-grown}
+use Rattle.frames.proofs.Laws.{node-number, frames-grown}
 use Rattle.frames.proofs.Merging.{Tally, tally-none, tally-grown, tally-next, merged}
 use Rattle.rules.specs.Outcome.{typesNamed, pieces}
 use Rattle.image.specs.Parts.{Moved}
@@ -32,7 +33,8 @@ use Rattle.image.specs.declared.Cursor.{Cursor}
 use Rattle.image.specs.declared.Read.{Read}
 use Rattle.image.proofs.Moving.{parent-of}
 use Rattle.expr.specs.Contract.{Ready, At}
-use Rattle.targets.specs.Ending.{ended, Named, Left, Assigned}
+use Rattle.state.specs.Notes.{Places, places}
+use Rattle.targets.specs.Ending.{firstAt, ended, Named, Left, Assigned}
 use Rattle.targets.proofs.Endings.{left-then, left-wider}
 use Rattle.stmt.specs.Contract.{stateOf, acted, bodyAt, conditionAt, armBlock, armedAt, Standing, Stmt, Branch, Within, Done}
 use Rattle.stmt.proofs.Laws.{ended-done, ended-wrong, was-done, was-deep, was-wrong, too-deep, deep-wider, deep-then, named-well, left-refl, left-rows, done-as, ready-within, ready-next, place-at, wide-at, within-all, within-le, within-child, within-at, count-if}
@@ -97,7 +99,7 @@ module _ {bs : List ℕ} {nodes : ℕ} {t : Tab} {fs : Rows} {top : ℕ} {st : L
     pub last-standing : Standing bs nodes fs top t st ret i (stopOf (nodesOf bs) i)
     last-standing = rw (block-last bs n i p) at r
 
-    pub arm-last : (setting : Setting) {drops : Bool} {u : Tab} {gs : Rows} {high got : ℕ} {su : List ℕ} {code place′ a b : ℕ} → dropping setting ≡ drops
+    pub arm-last : (setting : Setting) {drops : Bool} {u : Tab} {gs : Rows} {high got : ℕ} {su : List ℕ} {code : ℕ} {place′ : Places} {a b : ℕ} → dropping setting ≡ drops
         → Done (namesOf bs) (bodyAt bs setting loop drops d i (stateOf t fs top ret)) t u gs top high got su i (stopOf (nodesOf bs) i) (nodeCount bs) code place′ a b
         → Done (namesOf bs) (armedAt bs setting loop d n i (stateOf t fs top ret)) t u gs top high got su i (stopOf (nodesOf bs) (armBlock bs n i)) (nodeCount bs) code place′ a b
     unfolding armedAt bodyAt arm if_then_else_
@@ -118,7 +120,7 @@ module _ {bs : List ℕ} {nodes : ℕ} {t : Tab} {fs : Rows} {top : ℕ} {st : L
     unfolding armedAt conditionAt bodyAt arm if_then_else_
     when-is setting = rw (lt-ltb 1 n p)
 
-    module _ {u : Tab} {su : List ℕ} {code place′ a b : ℕ}
+    module _ {u : Tab} {su : List ℕ} {code : ℕ} {place′ : Places} {a b : ℕ}
         (c : Assigned (namesOf bs) (λ y. conditionAt bs d i (state (framesOf t fs top) y)) t u fs top su i (stopOf (nodesOf bs) i) (nodeCount bs) code place′ a b) where
       pub arm-bad : (setting : Setting) → (code ≡ 0 → ⊥)
           → Done (namesOf bs) (armedAt bs setting loop d n i (stateOf t fs top ret)) t u fs top top ret su i (stopOf (nodesOf bs) (armBlock bs n i)) (nodeCount bs) code place′ a b
@@ -143,7 +145,7 @@ module _ {bs : List ℕ} {nodes : ℕ} {t : Tab} {fs : Rows} {top : ℕ} {st : L
             let m : Ready bs nodes fs top t st 0 i (stopOf (nodesOf bs) k) = rw e at (r .ready) in
             record { ready = ready-next m l (omega (arith, when-wide, o)); kept = omega (arith, r .kept, c .left .grown .more) }
 
-        pub arm-done : (setting : Setting) {drops : Bool} {v : Tab} {gs : Rows} {high got : ℕ} {sv : List ℕ} {code′ place″ a′ b′ : ℕ} → dropping setting ≡ drops → code ≡ 0
+        pub arm-done : (setting : Setting) {drops : Bool} {v : Tab} {gs : Rows} {high got : ℕ} {sv : List ℕ} {code′ : ℕ} {place″ : Places} {a′ b′ : ℕ} → dropping setting ≡ drops → code ≡ 0
             → Done (namesOf bs) (bodyAt bs setting loop drops d k (stateOf u fs top ret)) u v gs top high got sv k (stopOf (nodesOf bs) k) (nodeCount bs) code′ place″ a′ b′
             → Done (namesOf bs) (armedAt bs setting loop d n i (stateOf t fs top ret)) t v gs top high got sv i (stopOf (nodesOf bs) (armBlock bs n i)) (nodeCount bs) code′ place″ a′ b′
         unfolding _>>=_
@@ -184,7 +186,7 @@ first-condition bs e b n i p = rw (arms-down (nodesOf bs) e b n i p)
 
 choosing-first : {bs : List ℕ} {setting : Setting} {nodes : ℕ} {t : Tab} {fs : Rows} {top : ℕ} {st : List ℕ} {ret i d n : ℕ} (loop : Bool)
     → Standing bs nodes fs top t st ret i (stopOf (nodesOf bs) i) → Stmt bs i d 8 → n ≡ nodeOf (nodesOf bs) i .children
-    → Choosing bs setting nodes t fs top ret i d loop t ret st (replicate 128 0) (replicate 128 false) (i + 1) n
+    → Choosing bs setting nodes t fs top ret i d loop t ret st absentRow (replicate 128 false) (i + 1) n
 unfolding acted act armsFrom
 choosing-first {bs} {setting} {nodes} {t} {fs} {top} {st} {ret} {i} {d} {n} loop r q e =
     let s = r .ready .sound in
@@ -210,7 +212,7 @@ choosing-first {bs} {setting} {nodes} {t} {fs} {top} {st} {ret} {i} {d} {n} loop
 -- the same from the cursor at the first condition
 pub choosing-begin : {bs : List ℕ} {setting : Setting} {nodes : ℕ} {t : Tab} {fs : Rows} {top : ℕ} {st : List ℕ} {ret d n : ℕ} {c : Cursor} {q : Read} (loop : Bool)
     → Standing bs nodes fs top t st ret (c .at) (stopOf (nodesOf bs) (c .at)) → Stmt bs (c .at) d 8 → Moved bs c q (c .at + 1) → n ≡ q .node .children
-    → Choosing bs setting nodes t fs top ret (q .cursor .at - 1) d loop t ret st (replicate 128 0) (replicate 128 false) (q .cursor .at) n
+    → Choosing bs setting nodes t fs top ret (q .cursor .at - 1) d loop t ret st absentRow (replicate 128 false) (q .cursor .at) n
 choosing-begin loop s h m e = rw (parent-of m, m .at) (choosing-first loop s h (e ∙ ap (λ x. x .children) (m .node)))
 
 pub first-place : {bs : List ℕ} {c : Cursor} {q : Read} → Moved bs c q (c .at + 1) → q .cursor .at ≡ q .cursor .at - 1 + 1
@@ -235,7 +237,7 @@ module _ {bs : List ℕ} {setting : Setting} {nodes : ℕ} {t : Tab} {fs : Rows}
   unfolding branches armedAt
   choosing-answer = l .answer ∙ rw (arms-step bs (λ k. exprAt (nodesOf bs) d k) (λ k. blockAt (nodesOf bs) d k) left j p, l .same)
 
-  module _ {v : Tab} {hs : Rows} {peak had : ℕ} {sv : List ℕ} {code place′ a b : ℕ}
+  module _ {v : Tab} {hs : Rows} {peak had : ℕ} {sv : List ℕ} {code : ℕ} {place′ : Places} {a b : ℕ}
       (c : Done (namesOf bs) (armedAt bs setting loop d left j (stateOf u fs top got)) u v hs top peak had sv j (stopOf (nodesOf bs) (armBlock bs left j)) (nodeCount bs) code place′ a b) where
     -- the base frames over the table that the branch left
     choosing-left : (code ≡ 9 → ⊥) → Left t v fs top sv i (stopOf (nodesOf bs) (armBlock bs left j))
@@ -305,13 +307,13 @@ unspelt : (x : ℕ) → 128 ≤ x → nameOf someNames x .spelling ≡ []
 unfolding nameOf someNames
 unspelt x h = ap (λ w. w .spelling) (List·getD-eq-default (replicate 128 someName) (record { spelling = []; role = plain }) {n = x} (rw length-replicate h))
 
-name-spelt : (c x : ℕ) → x < 128 → (o : Option Ty) (q : Bool) (s : State) (k : State → End) → ((s : State) → Spelt (k s)) → Spelt (settleName someNames c x o q s >>= k)
+name-spelt : (c x : ℕ) → x < 128 → (o : Option Binding) (q : Bool) (s : State) (k : State → End) → ((s : State) → Spelt (k s)) → Spelt (settleName someNames c x o q s >>= k)
 unfolding settleName _>>=_ Spelt
 name-spelt c x h none q s k f = f s
 name-spelt c x h (some t) true s k f = ap (λ w. aText w ∷ []) (spelt x h)
 name-spelt c x h (some t) false s k f = f _
 
-settle-spelt : (c : ℕ) (f : ℕ → Option Ty) (g : ℕ → Bool) (n i : ℕ) (s : State) → i + n ≤ 128 → Spelt (settle someNames c f g (count i n) s)
+settle-spelt : (c : ℕ) (f : ℕ → Option Binding) (g : ℕ → Bool) (n i : ℕ) (s : State) → i + n ≤ 128 → Spelt (settle someNames c f g (count i n) s)
 unfolding settle count Spelt
 settle-spelt c f g zero i s h = tt
 settle-spelt c f g (suc n) i s h = name-spelt c i (omega arith) (f i) (g i) s _ (λ s′. settle-spelt c f g n (suc i) s′ (omega arith))
@@ -325,30 +327,35 @@ weights : List Piece → ℕ
 weights [] = 0
 weights (p ∷ ps) = weight p
 
-clash-name : {fs gs : Rows} {top : ℕ} {ms : List ℕ} {cs : List Bool} {name : ℕ} (t : Tab) → Committed fs gs top ms cs (Clash name) → name < 128
+clash-name : {fs gs : Rows} {top : ℕ} {ms : List ℕ} {cs : List Bool} {d : Disagreement} (t : Tab) → Committed fs gs top ms cs (Clash d) → d .name < 128
 unfolding mergeEnd Spelt weights weight
-clash-name {fs} {gs} {top} {ms} {cs} {name} t c = elim (decLt name 128) [
+clash-name {fs} {gs} {top} {ms} {cs} {d} t c = elim (decLt (d .name) 128) [
   | yes h ↦ h
   | no h ↦
       let a = settle-spelt 0 (λ x. slot t (getD ms x 0)) (λ x. getD cs x false) 128 0 (state (framesOf t fs top) (denote t 0)) (omega arith) in
-      let b = rw (c .says someNames 0 t (denote t 0), unspelt name (omega arith)) at a in
+      let b = rw (c .says someNames 0 t (denote t 0), unspelt (d .name) (omega arith)) at a in
       let z : _≡_ {A = ℕ} 0 1 = ap weights b in
       absurd (omega arith)
 ]
 
-pub clash-small : {fs gs : Rows} {top : ℕ} {ms : List ℕ} {cs : List Bool} {name : ℕ} → Committed fs gs top ms cs (Clash name) → name < 4294967296
+pub clash-small : {fs gs : Rows} {top : ℕ} {ms : List ℕ} {cs : List Bool} {d : Disagreement} → Committed fs gs top ms cs (Clash d) → d .name < 4294967296
 clash-small c = omega (arith, clash-name (tab [] 0 0) c)
 
 -- ---- the merge
 
-merge-ended : (ws : List Name) (u : Tab) (gs : Rows) (top : ℕ) (y : Ty) (c : ℕ) (m : Merge)
-    → mergeEnd ws c m (state (framesOf u gs top) y) ≡ ended ws u gs top y (mergeCode m) c (clashName m) 0
-unfolding mergeEnd ended pieces typesNamed isIn choose if_then_else_ _or_
-merge-ended ws u gs top y c Whole = refl
-merge-ended ws u gs top y c (Clash x) = refl
+-- n is noted: where a name clashes, it is the first node of its first type
+abbrev pub ClashNoted : ℕ → Merge → Type 0
+ClashNoted n Whole = Unit {0}
+ClashNoted n (Clash d) = n ≡ firstNumber (d .first)
 
-merge-named : {fs gs : Rows} {top : ℕ} {ms : List ℕ} {cs : List Bool} {c M : ℕ} (u : Tab) (m : Merge) → Committed fs gs top ms cs m → c < M
-    → Named u M (mergeCode m) c (clashName m) 0
+merge-ended : (ws : List Name) (u : Tab) (gs : Rows) (top : ℕ) (y : Ty) (c n : ℕ) (m : Merge) → ClashNoted n m
+    → mergeEnd ws c m (state (framesOf u gs top) y) ≡ ended ws u gs top y (mergeCode m) (places c n) (clashName m) 0
+unfolding mergeEnd ended firstAt pieces typesNamed isIn choose if_then_else_ _or_
+merge-ended ws u gs top y c n Whole e = refl
+merge-ended ws u gs top y c n (Clash d) e = rw (e, node-number (d .first))
+
+merge-named : {fs gs : Rows} {top : ℕ} {ms : List ℕ} {cs : List Bool} {c n M : ℕ} (u : Tab) (m : Merge) → Committed fs gs top ms cs m → c < M
+    → Named u M (mergeCode m) (places c n) (clashName m) 0
 unfolding typesNamed isIn if_then_else_ _or_
 merge-named u Whole k h = named-well
 merge-named u (Clash x) k h =
@@ -367,18 +374,18 @@ merge-shallow : (m : Merge) → mergeCode m ≡ 9 → ⊥
 merge-shallow Whole e = absurd (omega arith)
 merge-shallow (Clash x) e = absurd (omega arith)
 
-pub choosing-end : {bs : List ℕ} {setting : Setting} {nodes : ℕ} {t : Tab} {fs gs : Rows} {top ret i d : ℕ} {loop : Bool} {u : Tab} {got : ℕ} {su ms : List ℕ} {cs : List Bool} {j left : ℕ} {m : Merge}
-    → Stmt bs i d 8 → Choosing bs setting nodes t fs top ret i d loop u got su ms cs j left → left ≤ 0 → Committed fs gs top ms cs m
-    → Done (namesOf bs) (acted bs setting loop d i (stateOf t fs top ret)) t u gs top top got su i (stopOf (nodesOf bs) i) (nodeCount bs) (mergeCode m) (i + 1) (clashName m) 0
+pub choosing-end : {bs : List ℕ} {setting : Setting} {nodes : ℕ} {t : Tab} {fs gs : Rows} {top ret i d : ℕ} {loop : Bool} {u : Tab} {got : ℕ} {su ms : List ℕ} {cs : List Bool} {j left n : ℕ} {m : Merge}
+    → Stmt bs i d 8 → Choosing bs setting nodes t fs top ret i d loop u got su ms cs j left → left ≤ 0 → Committed fs gs top ms cs m → ClashNoted n m
+    → Done (namesOf bs) (acted bs setting loop d i (stateOf t fs top ret)) t u gs top top got su i (stopOf (nodesOf bs) i) (nodeCount bs) (mergeCode m) (places (i + 1) n) (clashName m) 0
 unfolding branches armsFrom
-choosing-end {bs} {setting} {nodes} {t} {fs} {gs} {top} {ret} {i} {d} {loop} {u} {got} {su} {ms} {cs} {j} {left} {m} q l z c =
+choosing-end {bs} {setting} {nodes} {t} {fs} {gs} {top} {ret} {i} {d} {loop} {u} {got} {su} {ms} {cs} {j} {left} {n} {m} q l z c noted =
     let o : left ≡ 0 = omega arith in
     let s = l .standing .ready .sound in
     let e = l .spent in
     let h = within-child s (within-all s i (q .there)) (omega (arith, count-if s q)) .2 in
     let le = within-le s (l .within) in
     record {
-      says = (rw o at (l .answer)) ∙ merged (namesOf bs) (i + 1) (denote u got) (sym (l .same)) (l .tally) c ∙ merge-ended (namesOf bs) u gs top (denote u got) (i + 1) m;
+      says = (rw o at (l .answer)) ∙ merged (namesOf bs) (i + 1) (denote u got) (sym (l .same)) (l .tally) c ∙ merge-ended (namesOf bs) u gs top (denote u got) (i + 1) n m noted;
       fine = λ _. record {
         left = record {
           grown = e .grown;

@@ -1,7 +1,8 @@
 -- While, For and Def.
-use mathlib.Core.Path.{_≡_, refl, sym, _∙_}
+use mathlib.Core.Path.{_≡_, refl, sym, _∙_, ap}
 use mathlib.Core.Bool.{Bool, true, false}
 use mathlib.Core.List.{List, _∷_}
+use mathlib.Core.Option.{none}
 use Prim.Native.Nat.{ℕ, zero, suc, _+_, _-_, _≤_, _<_}
 use native.Mathlib.Omega.{arith}
 use native.Mathlib.Decide.{ℕ-discrete}
@@ -12,7 +13,7 @@ use Rattle.meaning.specs.Base.{_or_, if_then_else_, choose, isIn, ifSome}
 use Rattle.meaning.specs.Tree.{place}
 use Rattle.meaning.specs.Image.{Name, nodeCount, nodesOf, nodeOf, namesOf}
 use Rattle.meaning.specs.Decode.{stopOf, past, paramsFrom, exprAt, blockAt}
-use Rattle.meaning.specs.Frames.{empty, write}
+use Rattle.meaning.specs.Frames.{since, empty, write}
 use Rattle.meaning.specs.Rules.{check}
 use Rattle.meaning.specs.Walk.{Setting, dropping, state, withFrames, withReturns, End, _>>=_, after, checked, overElements, withParams, enter, popped, ifRoom, act}
 use Rattle.meaning.proofs.Decoding.{while-at, for-at, def-at}
@@ -21,32 +22,35 @@ use Rattle.types.specs.Table.{Tab, denote}
 use Rattle.types.specs.Reading.{ElementOf}
 use Rattle.types.proofs.Laws.{grown-refl, unknown-number}
 use Rattle.types.proofs.Answers.{perhaps-yes, perhaps-no}
-use Rattle.frames.specs.Env.{Rows, cellRoom, framesOf, Fit, Bound}
+use Rattle.frames.specs.Env.{Rows, absentRow, cellRoom, framesOf, Fit, Known, Bound}
+use Rattle.frames.specs.declared.First.the-variants.{Nowhere}
+use Rattle.frames.specs.declared.Binding.{Binding as Found}
 use Rattle.frames.proofs.Laws.{frames-grown, frames-clear, frames-pop, length-frames, fit-clear, fit-top}
 use Rattle.rules.specs.Outcome.{typesNamed, pieces}
 use Rattle.expr.specs.Contract.{Ready, At}
 use Rattle.expr.specs.Contract.{Done as Typed}
+use Rattle.state.specs.Notes.{Places, places}
 use Rattle.targets.specs.Ending.{ended, Named, Left, Assigned}
 use Rattle.targets.proofs.Endings.{left-then, left-wider}
 use Rattle.stmt.specs.Contract.{stateOf, acted, bodyAt, conditionAt, Standing, Stmt, Pair, Within, Params, Done, Entered, Iterated}
-use Rattle.stmt.proofs.Laws.{ended-done, ended-wrong, was-done, was-deep, was-wrong, too-deep, deep-wider, deep-then, wide-at, named-well, left-rows, ready-within, ready-next, typing, check-left, check-named, check-well, check-ill, place-at, within-all, within-end, within-child, within-at, pair-while, pair-for, count-def, arg-small, pair-wide}
+use Rattle.stmt.proofs.Laws.{ended-done, ended-wrong, ended-alone, was-done, was-deep, was-wrong, too-deep, deep-wider, deep-then, wide-at, named-well, left-rows, ready-within, ready-next, typing, check-left, check-named, check-well, check-ill, place-at, within-all, within-end, within-child, within-at, pair-while, pair-for, count-def, arg-small, pair-wide}
 
 -- ---- what a For walks over
 
 module _ {bs : List ℕ} {nodes : ℕ} {t u : Tab} {fs : Rows} {top : ℕ} {st su : List ℕ} {i d e code place′ number a b : ℕ} (r : Ready bs nodes fs top t st 0 i e) (h : At bs i d)
     (q : Typed (namesOf bs) (check (namesOf bs) (framesOf t fs top) (exprAt (nodesOf bs) d i)) t u st su 0 i e (nodeCount bs) code place′ number a b) where
-  pub elements-bad : (code ≡ 0 → ⊥) → Iterated bs d t u fs top su i e (nodeCount bs) code place′ number a b
+  pub elements-bad : {m : ℕ} → (code ≡ 0 → ⊥) → Iterated bs d t u fs top su i e (nodeCount bs) code (places place′ m) number a b
   unfolding checked
   elements-bad z = record {
     well = λ x y k. absurd (z x);
-    ill = λ x y k. check-ill _ (r .fit) q z y _;
+    ill = λ x y k. check-ill _ (r .fit) q _ z y _;
     below = λ x. absurd (z x);
     named = check-named _ (r .fit) q;
     left = check-left _ (r .fit) q;
     typing = typing _ (r .fit) q;
   }
 
-  pub elements-done : {there : Bool} {got code′ place″ a′ b′ : ℕ} → code ≡ 0 → ElementOf u.cells number there got → there ≡ true → code′ ≡ 0
+  pub elements-done : {there : Bool} {got code′ : ℕ} {place″ : Places} {a′ b′ : ℕ} → code ≡ 0 → ElementOf u.cells number there got → there ≡ true → code′ ≡ 0
       → Iterated bs d t u fs top su i e (nodeCount bs) code′ place″ got a′ b′
   unfolding checked overElements ifSome
   elements-done {there} {got} z o y n =
@@ -60,10 +64,10 @@ module _ {bs : List ℕ} {nodes : ℕ} {t u : Tab} {fs : Rows} {top : ℕ} {st s
         typing = λ x. absurd (omega arith);
       }
 
-  pub elements-none : {there : Bool} {got : ℕ} → code ≡ 0 → ElementOf u.cells number there got → there ≡ false
-      → Iterated bs d t u fs top su i e (nodeCount bs) 24 i 0 number 0
+  pub elements-none : {there : Bool} {got m : ℕ} → code ≡ 0 → ElementOf u.cells number there got → there ≡ false
+      → Iterated bs d t u fs top su i e (nodeCount bs) 24 (places i m) 0 number 0
   unfolding checked overElements ifSome pieces typesNamed isIn choose if_then_else_ _or_
-  elements-none {there} {got} z o y =
+  elements-none {there} {got} {m} z o y =
       let g = q .fine .grown in
       let one : typesNamed 24 ≡ 1 = refl in
       record {
@@ -71,7 +75,7 @@ module _ {bs : List ℕ} {nodes : ℕ} {t u : Tab} {fs : Rows} {top : ℕ} {st s
         ill = λ x s k.
             check-well _ (r .fit) q z (state (framesOf t fs top) s) _
             ∙ rw (o .says u refl (g .wf) (q .below z), perhaps-no u there got y, place-at bs d i, ← (frames-grown g (r .fit)))
-            (sym (ended-wrong (namesOf bs) u fs top s 24 i number 0 (λ x. omega arith) (λ x. omega arith)));
+            (sym (ended-alone (namesOf bs) u fs top s 24 (places i m) number 0 (λ x. omega arith) (λ x. omega arith) (λ x. omega arith, λ x. omega arith)));
         below = λ x. absurd (omega arith);
         named = record {
           first = λ x. q .below z;
@@ -85,7 +89,7 @@ module _ {bs : List ℕ} {nodes : ℕ} {t u : Tab} {fs : Rows} {top : ℕ} {st s
 
 -- ---- a body on a copy of the frames: nothing of it stays but the return type
 
-pub copied : {ws : List Name} {whole inner : End} {t u v : Tab} {fs gs : Rows} {top high got : ℕ} {su sv : List ℕ} {i k e f M code place a b : ℕ}
+pub copied : {ws : List Name} {whole inner : End} {t u v : Tab} {fs gs : Rows} {top high got : ℕ} {su sv : List ℕ} {i k e f M code : ℕ} {place : Places} {a b : ℕ}
     → whole ≡ after (withFrames (framesOf t fs top)) inner → Fit t fs top → Left t u fs top su i k → e ≤ f
     → Done ws inner u v gs top high got sv k e M code place a b → Done ws whole t v fs top top got sv i f M code place a b
 unfolding after
@@ -142,7 +146,7 @@ module _ {bs : List ℕ} {nodes : ℕ} {t : Tab} {fs : Rows} {top : ℕ} {st : L
     before-body o = rw o (left-wider l (omega arith) (omega arith))
 
     -- a refusal of the first child
-    first-refused : {whole : End} {code place a b : ℕ} → whole ≡ ended (namesOf bs) u fs top (denote t ret) code place a b → Named u (nodeCount bs) code place a b → (code ≡ 9 → ⊥)
+    first-refused : {whole : End} {code : ℕ} {place : Places} {a b : ℕ} → whole ≡ ended (namesOf bs) u fs top (denote t ret) code place a b → Named u (nodeCount bs) code place a b → (code ≡ 9 → ⊥)
         → Done (namesOf bs) whole t u fs top top ret su i (stopOf (nodesOf bs) i) (nodeCount bs) code place a b
     first-refused o n z = record {
       says = o ∙ rw (l .grown .same ret (r .kept));
@@ -159,7 +163,7 @@ module _ {bs : List ℕ} {nodes : ℕ} {t : Tab} {fs : Rows} {top : ℕ} {st : L
   unfolding acted conditionAt bodyAt act
   while-is setting loop = rw (while-at (nodesOf bs) (λ j. exprAt (nodesOf bs) d j) (λ j. blockAt (nodesOf bs) d j) i (q .kind), add-one i)
 
-  module _ {u : Tab} {su : List ℕ} {code place a b : ℕ}
+  module _ {u : Tab} {su : List ℕ} {code : ℕ} {place : Places} {a b : ℕ}
       (c : Assigned (namesOf bs) (λ y. conditionAt bs d (i + 1) (state (framesOf t fs top) y)) t u fs top su (i + 1) (stopOf (nodesOf bs) (i + 1)) (nodeCount bs) code place a b) where
     pub while-bad : (code ≡ 0 → ⊥) → (setting : Setting) (loop : Bool)
         → Done (namesOf bs) (acted bs setting loop d i (stateOf t fs top ret)) t u fs top top ret su i (stopOf (nodesOf bs) i) (nodeCount bs) code place a b
@@ -168,7 +172,7 @@ module _ {bs : List ℕ} {nodes : ℕ} {t : Tab} {fs : Rows} {top : ℕ} {st : L
         let w = ended-wrong (namesOf bs) u fs top (denote t ret) code place a b z (c .typing) in
         first-refused r (pair-while (r .ready .sound) q) (c .left) (while-is setting loop ∙ rw (c .says (denote t ret), w)) (c .named) (c .typing)
 
-    pub while-done : (setting : Setting) {drops : Bool} {v : Tab} {gs : Rows} {high got k : ℕ} {sv : List ℕ} {code′ place′ a′ b′ : ℕ} → dropping setting ≡ drops → code ≡ 0 → k ≡ stopOf (nodesOf bs) (i + 1)
+    pub while-done : (setting : Setting) {drops : Bool} {v : Tab} {gs : Rows} {high got k : ℕ} {sv : List ℕ} {code′ : ℕ} {place′ : Places} {a′ b′ : ℕ} → dropping setting ≡ drops → code ≡ 0 → k ≡ stopOf (nodesOf bs) (i + 1)
         → Done (namesOf bs) (bodyAt bs setting true drops d k (stateOf u fs top ret)) u v gs top high got sv k (stopOf (nodesOf bs) k) (nodeCount bs) code′ place′ a′ b′
         → (loop : Bool)
         → Done (namesOf bs) (acted bs setting loop d i (stateOf t fs top ret)) t v fs top top got sv i (stopOf (nodesOf bs) i) (nodeCount bs) code′ place′ a′ b′
@@ -182,12 +186,12 @@ module _ {bs : List ℕ} {nodes : ℕ} {t : Tab} {fs : Rows} {top : ℕ} {st : L
 -- ---- For
 
 module _ {bs : List ℕ} {nodes : ℕ} {t : Tab} {fs : Rows} {top : ℕ} {st : List ℕ} {ret i d x : ℕ} (r : Standing bs nodes fs top t st ret i (stopOf (nodesOf bs) i)) (q : Stmt bs i d 10) (m : x ≡ nodeOf (nodesOf bs) i .arg)
-    {u : Tab} {su : List ℕ} {code place′ number a b : ℕ}
+    {u : Tab} {su : List ℕ} {code : ℕ} {place′ : Places} {number a b : ℕ}
     (c : Iterated bs d t u fs top su (i + 1) (stopOf (nodesOf bs) (i + 1)) (nodeCount bs) code place′ number a b) where
   for-is : (setting : Setting) (loop : Bool) → acted bs setting loop d i (stateOf t fs top ret)
       ≡ checked (namesOf bs) (exprAt (nodesOf bs) d (i + 1)) (stateOf t fs top ret)
       (λ y. overElements (place (exprAt (nodesOf bs) d (i + 1))) y (stateOf t fs top ret)
-      λ z. after (withFrames (framesOf t fs top)) (bodyAt bs setting true false d (stopOf (nodesOf bs) (i + 1)) (state (write x z (framesOf t fs top)) (denote t ret))))
+      λ z. after (withFrames (framesOf t fs top)) (bodyAt bs setting true false d (stopOf (nodesOf bs) (i + 1)) (state (write x (since none (place (exprAt (nodesOf bs) d (i + 1))) z) (framesOf t fs top)) (denote t ret))))
   unfolding acted bodyAt act
   for-is setting loop = rw (for-at (nodesOf bs) (λ j. exprAt (nodesOf bs) d j) (λ j. blockAt (nodesOf bs) d j) i (q .kind), add-one i, m)
 
@@ -201,25 +205,28 @@ module _ {bs : List ℕ} {nodes : ℕ} {t : Tab} {fs : Rows} {top : ℕ} {st : L
   pub for-small : code ≡ 0 → number < cellRoom
   for-small z = omega (arith, c .below z, c .left .grown .wf .room, c .left .grown .wf .most)
 
-  module _ {es : Rows} (z : code ≡ 0) (o : Bound fs es top x number) where
+  -- the loop name is bound, known since the iterable
+  module _ {es : Rows} {j : ℕ} {bound : Found} (z : code ≡ 0) (here : j ≡ i + 1) (w : Known Nowhere j number bound) (o : Bound fs es top x bound) where
     for-fit : Fit u es top
-    for-fit = o .fit u (c .left .fit) (c .below z)
+    for-fit = o .fit u (c .left .fit) (rw (w .type-is) (c .below z))
 
     pub for-standing : {k : ℕ} → k ≡ stopOf (nodesOf bs) (i + 1) → Standing bs nodes es top u su ret k (stopOf (nodesOf bs) k)
     for-standing e = second-standing r (pair-for (r .ready .sound) q) e (c .left) for-fit
 
-    for-rows : framesOf u es top ≡ write x (denote u number) (framesOf t fs top)
+    for-rows : framesOf u es top ≡ write x (since none (place (exprAt (nodesOf bs) d (i + 1))) (denote u number)) (framesOf t fs top)
     for-rows =
-        rw (← (frames-grown (c .left .grown) (r .ready .fit))) (o .says u (c .left .fit))
+        o .says u (c .left .fit)
+        ∙ ap (λ d. write x d (framesOf u fs top)) (w .says u (c .left .grown .wf) (c .below z))
+        ∙ rw (here, place-at bs d (i + 1), frames-grown (c .left .grown) (r .ready .fit))
 
-    pub for-done : (setting : Setting) {v : Tab} {gs : Rows} {high got k : ℕ} {sv : List ℕ} {code′ place″ a′ b′ : ℕ} → k ≡ stopOf (nodesOf bs) (i + 1)
+    pub for-done : (setting : Setting) {v : Tab} {gs : Rows} {high got k : ℕ} {sv : List ℕ} {code′ : ℕ} {place″ : Places} {a′ b′ : ℕ} → k ≡ stopOf (nodesOf bs) (i + 1)
         → Done (namesOf bs) (bodyAt bs setting true false d k (stateOf u es top ret)) u v gs top high got sv k (stopOf (nodesOf bs) k) (nodeCount bs) code′ place″ a′ b′
         → (loop : Bool)
         → Done (namesOf bs) (acted bs setting loop d i (stateOf t fs top ret)) t v fs top top got sv i (stopOf (nodesOf bs) i) (nodeCount bs) code′ place″ a′ b′
-    for-done setting e w loop =
+    for-done setting e y loop =
         let p = pair-for (r .ready .sound) q in
         copied (for-is setting loop ∙ c .well z (denote t ret) _ ∙ rw (← e, for-rows, c .left .grown .same ret (r .kept)))
-        (r .ready .fit) (before-body r p (c .left) e) (rw e (omega (arith, p .last))) w
+        (r .ready .fit) (before-body r p (c .left) e) (rw e (omega (arith, p .last))) y
 
 -- ---- Def
 
@@ -250,14 +257,14 @@ module _ {bs : List ℕ} {nodes : ℕ} {t : Tab} {fs : Rows} {top : ℕ} {st : L
   def-wide : i ≤ stopOf (nodesOf bs) i
   def-wide = omega (arith, wide-at (r .ready .sound) i (q .there) .0)
 
-  pub def-deep : 7 ≤ top → (setting : Setting) (loop : Bool)
-      → Done (namesOf bs) (acted bs setting loop d i (stateOf t fs top ret)) t t fs top top ret st i (stopOf (nodesOf bs) i) (nodeCount bs) 9 i 0 0
+  pub def-deep : {m : ℕ} → 7 ≤ top → (setting : Setting) (loop : Bool)
+      → Done (namesOf bs) (acted bs setting loop d i (stateOf t fs top ret)) t t fs top top ret st i (stopOf (nodesOf bs) i) (nodeCount bs) 9 (places i m) 0 0
   unfolding ifRoom if_then_else_
   def-deep o setting loop = too-deep refl (def-is setting loop ∙ rw (length-frames t fs top, le-ltb (top + 1) 8 (omega arith)))
       (record { grown = grown-refl (r .ready .wf); types-spent = omega (arith, def-wide); placed = q .there })
 
   -- the new row, cleared and with the parameters bound
-  module _ {cs es : Rows} {j k : ℕ} (o : top < 7) (c : cs ≡ set fs (top + 1) (replicate 128 0)) (here : j ≡ i + 1) (y′ : Entered cs es (top + 1) (paramsFrom (nodesOf bs) (n - 1) j))
+  module _ {cs es : Rows} {j k : ℕ} (o : top < 7) (c : cs ≡ set fs (top + 1) absentRow) (here : j ≡ i + 1) (y′ : Entered cs es (top + 1) (paramsFrom (nodesOf bs) (n - 1) j))
       (w′ : k ≡ past (nodesOf bs) (n - 1) j) where
     y : Entered cs es (top + 1) (paramsFrom (nodesOf bs) (n - 1) (i + 1))
     y = rw here at y′
@@ -303,21 +310,21 @@ module _ {bs : List ℕ} {nodes : ℕ} {t : Tab} {fs : Rows} {top : ℕ} {st : L
         def-is setting loop
         ∙ rw (length-frames t fs top, lt-ltb (top + 1) 8 (omega arith), ← (w .0), entered, unknown-number (r .ready .wf))
 
-    module _ (setting : Setting) {u : Tab} {gs : Rows} {high got : ℕ} {su : List ℕ} {code place a b : ℕ}
+    module _ (setting : Setting) {u : Tab} {gs : Rows} {high got : ℕ} {su : List ℕ} {code : ℕ} {place : Places} {a b : ℕ}
         (e : Done (namesOf bs) (bodyAt bs setting false false d k (stateOf t es (top + 1) 0)) t u gs (top + 1) high got su k (stopOf (nodesOf bs) k) (nodeCount bs) code place a b) where
       around : (code ≡ 9 → ⊥) → Left t u gs high su i (stopOf (nodesOf bs) i)
       around z = left-wider (e .fine z .left) (omega (arith, block-ends .0)) (omega (arith, block-ends .1))
 
       -- the frame is popped
       pub def-done : code ≡ 0 → (loop : Bool)
-          → Done (namesOf bs) (acted bs setting loop d i (stateOf t fs top ret)) t u gs top (high - 1) ret su i (stopOf (nodesOf bs) i) (nodeCount bs) 0 0 0 0
+          → Done (namesOf bs) (acted bs setting loop d i (stateOf t fs top ret)) t u gs top (high - 1) ret su i (stopOf (nodesOf bs) i) (nodeCount bs) 0 (places 0 0) 0 0
       unfolding popped after
       def-done z loop =
           let f = e .fine (λ x. omega arith) in
           let l = around (λ x. omega arith) in
           record {
             says = def-answer setting loop ∙ rw (was-done e z, frames-pop u gs high (omega (arith, f .raised)), ← (f .left .grown .same ret (r .kept)))
-                (sym (ended-done (namesOf bs) u gs (high - 1) (denote u ret) 0 0 0 0 refl));
+                (sym (ended-done (namesOf bs) u gs (high - 1) (denote u ret) 0 (places 0 0) 0 0 refl));
             fine = λ _. record {
               left = record {
                 grown = l .grown;

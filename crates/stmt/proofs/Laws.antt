@@ -1,5 +1,5 @@
 -- How the parts of the walk end, and where the nodes of a sound image stand.
-use mathlib.Core.Path.{_≡_, refl, sym, _∙_}
+use mathlib.Core.Path.{_≡_, refl, sym, _∙_, ap}
 use mathlib.Core.Bool.{Bool, true, false}
 use mathlib.Core.List.{List, [], _∷_}
 use mathlib.Core.Logic.{_⊎_, inl, inr}
@@ -14,10 +14,10 @@ use Rattle.meaning.specs.Types.{Ty}
 use Rattle.meaning.specs.Tree.{Expr, place}
 use Rattle.meaning.specs.Image.{Name, nameCount, nodeCount, nodesFrom, nodesOf, nodeOf, depth, argBelow, countStands}
 use Rattle.meaning.specs.Decode.{stopOf, exprAt}
-use Rattle.meaning.specs.Message.{refusal}
+use Rattle.meaning.specs.Message.{refusal, conflict}
 use Rattle.meaning.specs.Rules.{check}
 use Rattle.meaning.specs.Walk.{dropping, State, state, End, done, wrong, tooDeep, typed, onward}
-use Rattle.meaning.proofs.Codes.{fair-typing, check-fair}
+use Rattle.meaning.proofs.Codes.{fair-judged, check-fair}
 use Rattle.meaning.proofs.Faults.{Sound, sizes}
 use Rattle.meaning.proofs.Nesting.{Nested, sound-nested, nodes-many, node-stands, child, children, children-le, children-end, deeper}
 use Rattle.meaning.proofs.Choices.{if-le}
@@ -33,8 +33,9 @@ use Rattle.image.proofs.Moving.{stops}
 use Rattle.expr.specs.Contract.{Ready, At}
 use Rattle.expr.specs.Contract.{Done as Typed}
 use Rattle.expr.proofs.Rows.{many}
-use Rattle.targets.specs.Ending.{ended, Named, Left}
-use Rattle.targets.proofs.Endings.{left-then, left-wider}
+use Rattle.state.specs.Notes.{Places, places}
+use Rattle.targets.specs.Ending.{firstAt, Alone, ended, Named, Left}
+use Rattle.targets.proofs.Endings.{first-none, left-then, left-wider}
 use Rattle.stmt.specs.Contract.{stateOf, settingIf, Stmt, Pair, Within, Fine, Deep, Done}
 
 -- ---- the setting: code that is told whether it is plain drops exactly if it is
@@ -47,28 +48,34 @@ drops-if false = refl
 -- ---- how a part of the walk ended
 
 module _ (ws : List Name) (u : Tab) (gs : Rows) (high : ℕ) (y : Ty) where
-  pub ended-done : (code place a b : ℕ) → code ≡ 0 → ended ws u gs high y code place a b ≡ done (state (framesOf u gs high) y)
+  pub ended-done : (code : ℕ) (place : Places) (a b : ℕ) → code ≡ 0 → ended ws u gs high y code place a b ≡ done (state (framesOf u gs high) y)
   unfolding ended if_then_else_
   ended-done code place a b z = rw (eq-eqb code 0 z)
 
-  pub ended-deep : (code place a b : ℕ) → code ≡ 9 → ended ws u gs high y code place a b ≡ tooDeep place
+  pub ended-deep : (code : ℕ) (place : Places) (a b : ℕ) → code ≡ 9 → ended ws u gs high y code place a b ≡ tooDeep (place .here)
   unfolding ended if_then_else_
   ended-deep code place a b z = rw (ne-eqb code 0 (λ e. omega arith), eq-eqb code 9 z)
 
-  pub ended-wrong : (code place a b : ℕ) → (code ≡ 0 → ⊥) → (code ≡ 9 → ⊥)
-      → ended ws u gs high y code place a b ≡ wrong (refusal code place (pieces ws u code a b)) (state (framesOf u gs high) y)
+  pub ended-wrong : (code : ℕ) (place : Places) (a b : ℕ) → (code ≡ 0 → ⊥) → (code ≡ 9 → ⊥)
+      → ended ws u gs high y code place a b ≡ wrong (conflict code (place .here) (firstAt code (place .since)) (pieces ws u code a b)) (state (framesOf u gs high) y)
   unfolding ended if_then_else_
   ended-wrong code place a b z n = rw (ne-eqb code 0 z, ne-eqb code 9 n)
 
-module _ {ws : List Name} {r : End} {t u : Tab} {gs : Rows} {top high ret : ℕ} {su : List ℕ} {i e M code place a b : ℕ}
+  pub ended-alone : (code : ℕ) (place : Places) (a b : ℕ) → (code ≡ 0 → ⊥) → (code ≡ 9 → ⊥) → Alone code
+      → ended ws u gs high y code place a b ≡ wrong (refusal code (place .here) (pieces ws u code a b)) (state (framesOf u gs high) y)
+  ended-alone code place a b z n h =
+      ended-wrong code place a b z n
+      ∙ ap (λ m. wrong (conflict code (place .here) m (pieces ws u code a b)) (state (framesOf u gs high) y)) (first-none (place .since) h)
+
+module _ {ws : List Name} {r : End} {t u : Tab} {gs : Rows} {top high ret : ℕ} {su : List ℕ} {i e M code : ℕ} {place : Places} {a b : ℕ}
     (d : Done ws r t u gs top high ret su i e M code place a b) where
   pub was-done : code ≡ 0 → r ≡ done (stateOf u gs high ret)
   was-done z = d .says ∙ ended-done ws u gs high (denote u ret) code place a b z
 
-  pub was-deep : code ≡ 9 → r ≡ tooDeep place
+  pub was-deep : code ≡ 9 → r ≡ tooDeep (place .here)
   was-deep z = d .says ∙ ended-deep ws u gs high (denote u ret) code place a b z
 
-  pub was-wrong : (code ≡ 0 → ⊥) → (code ≡ 9 → ⊥) → r ≡ wrong (refusal code place (pieces ws u code a b)) (stateOf u gs high ret)
+  pub was-wrong : (code ≡ 0 → ⊥) → (code ≡ 9 → ⊥) → r ≡ wrong (conflict code (place .here) (firstAt code (place .since)) (pieces ws u code a b)) (stateOf u gs high ret)
   was-wrong z n = d .says ∙ ended-wrong ws u gs high (denote u ret) code place a b z n
 
   -- the walk goes on after it: it ended well, or its error is dropped
@@ -81,8 +88,8 @@ module _ {ws : List Name} {r : End} {t u : Tab} {gs : Rows} {top high ret : ℕ}
   ]
 
 -- a Def was too deep: of the rows and the stack nothing more is promised
-pub too-deep : {ws : List Name} {r : End} {t u : Tab} {gs : Rows} {top high ret : ℕ} {su : List ℕ} {i e M code place a b : ℕ}
-    → code ≡ 9 → r ≡ tooDeep place → Deep t u i e M place → Done ws r t u gs top high ret su i e M code place a b
+pub too-deep : {ws : List Name} {r : End} {t u : Tab} {gs : Rows} {top high ret : ℕ} {su : List ℕ} {i e M code : ℕ} {place : Places} {a b : ℕ}
+    → code ≡ 9 → r ≡ tooDeep (place .here) → Deep t u i e M (place .here) → Done ws r t u gs top high ret su i e M code place a b
 too-deep {ws} {r} {t} {u} {gs} {top} {high} {ret} {su} {i} {e} {M} {code} {place} {a} {b} z q h = record {
   says = q ∙ sym (ended-deep ws u gs high (denote u ret) code place a b z);
   fine = λ n. absurd (n z);
@@ -91,7 +98,7 @@ too-deep {ws} {r} {t} {u} {gs} {top} {high} {ret} {su} {i} {e} {M} {code} {place
 }
 
 -- a code whose message names nothing
-pub named-none : {u : Tab} {M : ℕ} (code place : ℕ) → typesNamed code ≡ 0 → ((code ≡ 0 → ⊥) → place < M) → Named u M code place 0 0
+pub named-none : {u : Tab} {M : ℕ} (code : ℕ) (place : Places) → typesNamed code ≡ 0 → ((code ≡ 0 → ⊥) → place .here < M) → Named u M code place 0 0
 named-none code place e p = record {
   first = λ l. absurd (omega arith);
   second = λ l. absurd (omega arith);
@@ -100,7 +107,7 @@ named-none code place e p = record {
 }
 
 -- code 0 whatever the rest
-pub named-well : {u : Tab} {M place a b : ℕ} → Named u M 0 place a b
+pub named-well : {u : Tab} {M : ℕ} {place : Places} {a b : ℕ} → Named u M 0 place a b
 unfolding typesNamed isIn if_then_else_ _or_
 named-well =
     let e : typesNamed 0 ≡ 0 = refl in
@@ -138,16 +145,16 @@ deep-then a d = record {
   placed = d .placed;
 }
 
-pub done-wider : {ws : List Name} {r : End} {t u : Tab} {gs : Rows} {top high ret : ℕ} {su : List ℕ} {i e k f M code place a b : ℕ}
+pub done-wider : {ws : List Name} {r : End} {t u : Tab} {gs : Rows} {top high ret : ℕ} {su : List ℕ} {i e k f M code : ℕ} {place : Places} {a b : ℕ}
     → Done ws r t u gs top high ret su i e M code place a b → k ≤ i → e ≤ f → Done ws r t u gs top high ret su k f M code place a b
 done-wider d p q = record { says = d .says; fine = λ n. fine-wider (d .fine n) p q; named = d .named; deep = λ x. deep-wider (d .deep x) p q }
 
-pub done-as : {ws : List Name} {r q : End} {t u : Tab} {gs : Rows} {top high ret : ℕ} {su : List ℕ} {i e M code place a b : ℕ}
+pub done-as : {ws : List Name} {r q : End} {t u : Tab} {gs : Rows} {top high ret : ℕ} {su : List ℕ} {i e M code : ℕ} {place : Places} {a b : ℕ}
     → q ≡ r → Done ws r t u gs top high ret su i e M code place a b → Done ws q t u gs top high ret su i e M code place a b
 done-as o d = record { says = o ∙ d .says; fine = d .fine; named = d .named; deep = d .deep }
 
 -- all went well: the place and the numbers tell nothing
-pub done-any : {ws : List Name} {r : End} {t u : Tab} {gs : Rows} {top high ret : ℕ} {su : List ℕ} {i e M code place a b code′ place′ a′ b′ : ℕ}
+pub done-any : {ws : List Name} {r : End} {t u : Tab} {gs : Rows} {top high ret : ℕ} {su : List ℕ} {i e M code : ℕ} {place : Places} {a b code′ : ℕ} {place′ : Places} {a′ b′ : ℕ}
     → code ≡ 0 → code′ ≡ 0 → Done ws r t u gs top high ret su i e M code place a b → Done ws r t u gs top high ret su i e M code′ place′ a′ b′
 done-any {ws} {r} {t} {u} {gs} {top} {high} {ret} {code′ = code′} {place′} {a′} {b′} z o d = record {
   says = was-done d z ∙ sym (ended-done ws u gs high (denote u ret) code′ place′ a′ b′ o);
@@ -200,11 +207,12 @@ ready-next r l h = record {
 
 module _ {ws : List Name} {t u : Tab} {fs : Rows} {top : ℕ} {st su : List ℕ} {i e M code place′ number a b : ℕ} (x : Expr) (f : Fit t fs top)
     (d : Typed ws (check ws (framesOf t fs top) x) t u st su 0 i e M code place′ number a b) where
-  -- its refusal is a typing code
+  -- its refusal has a code of an expression
+  judged : (code ≡ 0 → ⊥) → 29 ≤ code
+  judged z = fair-judged (rw (d .told .ill z) at (check-fair ws (framesOf t fs top) x)) .above
+
   pub typing : code ≡ 9 → ⊥
-  typing z =
-      let f = fair-typing (rw (d .told .ill (λ o. omega arith)) at (check-fair ws (framesOf t fs top) x)) in
-      absurd (omega (arith, f .above))
+  typing z = absurd (omega (arith, judged (λ o. omega arith)))
 
   pub check-left : Left t u fs top su i e
   check-left = record {
@@ -215,18 +223,21 @@ module _ {ws : List Name} {t u : Tab} {fs : Rows} {top : ℕ} {st su : List ℕ}
     elements-spent = omega (arith, d .fine .elements-spent);
   }
 
-  pub check-named : Named u M code place′ a b
+  pub check-named : {m : ℕ} → Named u M code (places place′ m) a b
   check-named = record { first = d .told .first; second = d .told .second; small = d .told .small; placed = d .told .placed }
 
   pub check-well : code ≡ 0 → (s : State) (k : Ty → End) → typed (check ws (framesOf t fs top) x) s k ≡ k (denote u number)
   unfolding typed
   check-well z s k = rw (d .told .well z)
 
-  pub check-ill : (code ≡ 0 → ⊥) → (y : Ty) (k : Ty → End)
-      → typed (check ws (framesOf t fs top) x) (state (framesOf t fs top) y) k ≡ ended ws u fs top y code place′ a b
+  -- which points at no first place, whatever is noted there
+  pub check-ill : (m : ℕ) → (code ≡ 0 → ⊥) → (y : Ty) (k : Ty → End)
+      → typed (check ws (framesOf t fs top) x) (state (framesOf t fs top) y) k ≡ ended ws u fs top y code (places place′ m) a b
   unfolding typed
-  check-ill z y k =
-      rw (d .told .ill z, ← (frames-grown (d .fine .grown) f)) (sym (ended-wrong ws u fs top y code place′ a b z typing))
+  check-ill m z y k =
+      let j = judged z in
+      rw (d .told .ill z, ← (frames-grown (d .fine .grown) f))
+      (sym (ended-alone ws u fs top y code (places place′ m) a b z typing (λ q. omega arith, λ q. omega arith)))
 
 -- ---- nodes of a sound image
 

@@ -18,12 +18,13 @@ use Rattle.meaning.proofs.Faults.{Sound, sizes}
 use Rattle.meaning.proofs.Nesting.{sound-nested, nodes-many, root}
 use Rattle.types.specs.Table.{Tab, denote}
 use Rattle.types.proofs.Laws.{unknown-number}
-use Rattle.frames.specs.Env.{Rows, frameOf, below, framesOf, Fit}
-use Rattle.frames.proofs.Laws.{zeros, map-replicate}
+use Rattle.frames.specs.Env.{Rows, absentRow, frameOf, below, framesOf, Fit}
+use Rattle.frames.proofs.Laws.{absent-cells, map-replicate}
 use Rattle.meaning.specs.Frames.{empty}
 use Rattle.expr.specs.Contract.{Ready, At}
 use Rattle.targets.specs.Ending.{Left}
 use Rattle.targets.proofs.Endings.{left-none, left-then, left-wider}
+use Rattle.state.specs.Notes.{Places, places}
 use Rattle.stmt.specs.Contract.{stateOf, walkedAt, Standing, Within, Done, Started, Ran}
 use Rattle.stmt.proofs.Laws.{ended-done, ended-deep, ended-wrong, was-done, was-deep, was-wrong, named-well, deep-wider, deep-then, ready-within, ready-next, few-nodes, wide-at, within-all, within-le, within-child, within-at, stop-is}
 use Rattle.stmt.proofs.Bodies.{block-down}
@@ -92,7 +93,7 @@ module _ {bs : List ℕ} {setting : Setting} {nodes : ℕ} {t u : Tab} {gs : Row
   unfolding program walkedAt
   running-answer = l .answer ∙ rw (stmts-down (nodesOf bs) (λ k. stmtAt (nodesOf bs) 63 k) left j p, unknown-number (l .standing .ready .wf))
 
-  module _ {v : Tab} {hs : Rows} {peak had : ℕ} {sv : List ℕ} {code place a b : ℕ}
+  module _ {v : Tab} {hs : Rows} {peak had : ℕ} {sv : List ℕ} {code : ℕ} {place : Places} {a b : ℕ}
       (c : Done (namesOf bs) (walkedAt bs setting false 63 j (stateOf u gs high 0)) u v hs high peak had sv j (stopOf (nodesOf bs) j) (nodeCount bs) code place a b) where
     pub running-out : (code ≡ 0 → ⊥) → Ran bs setting t v hs peak sv code place a b
     unfolding _>>=_
@@ -121,14 +122,14 @@ module _ {bs : List ℕ} {setting : Setting} {nodes : ℕ} {t u : Tab} {gs : Row
         })
 
 pub running-end : {bs : List ℕ} {setting : Setting} {nodes : ℕ} {t u : Tab} {gs : Rows} {high : ℕ} {su : List ℕ} {j left : ℕ} → Running bs setting nodes t u gs high su j left → left ≤ 0
-    → Ran bs setting t u gs high su 0 0 0 0
+    → Ran bs setting t u gs high su 0 (places 0 0) 0 0
 unfolding program stmtsFrom
 running-end {bs} {setting} {nodes} {t} {u} {gs} {high} {su} {j} {left} l z =
     let o : left ≡ 0 = omega arith in
     let s = l .standing .ready .sound in
     record {
       returns = l .returns;
-      says = (rw o at (l .answer)) ∙ sym (ended-done (namesOf bs) u gs high (l .returns) 0 0 0 0 refl);
+      says = (rw o at (l .answer)) ∙ sym (ended-done (namesOf bs) u gs high (l .returns) 0 (places 0 0) 0 0 refl);
       named = λ _. named-well;
       left = λ _. left-wider (l .spent) (omega arith) (omega (arith, within-le s (l .within), root-stop s));
       deep = λ x. absurd (omega arith);
@@ -136,14 +137,14 @@ running-end {bs} {setting} {nodes} {t} {u} {gs} {high} {su} {j} {left} l z =
 
 -- ---- eight rows of absent names: the module's frame is empty
 
-pub fresh-fit : (t : Tab) → Fit t (replicate 8 (replicate 128 0)) 0
+pub fresh-fit : (t : Tab) → Fit t (replicate 8 absentRow) 0
 fresh-fit t = record {
-  long = length-replicate 8 (replicate {A = ℕ} 128 0);
-  wide = λ i h. ap length (getD-replicate 8 i (replicate {A = ℕ} 128 0) [] h) ∙ length-replicate {A = ℕ} 128 0;
+  long = length-replicate 8 absentRow;
+  wide = λ i h. ap length (getD-replicate 8 i absentRow [] h) ∙ length-replicate {A = ℕ} 128 65536;
   high = omega arith;
-  known = λ i x h. rw (getD-replicate 8 i (replicate {A = ℕ} 128 0) [] h) (omega (arith, zeros 128 x));
+  known = λ i x h. rw (getD-replicate 8 i absentRow [] h) (omega (arith, absent-cells 128 x));
 }
 
-pub fresh-frames : (t : Tab) → framesOf t (replicate 8 (replicate 128 0)) 0 ≡ empty ∷ []
+pub fresh-frames : (t : Tab) → framesOf t (replicate 8 absentRow) 0 ≡ empty ∷ []
 unfolding framesOf below frameOf empty
 fresh-frames t = ap (λ f. f ∷ []) (map-replicate t 128)

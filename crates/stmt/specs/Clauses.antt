@@ -16,7 +16,7 @@ use Rattle.state.specs.declared.Typed.{Typed}
 use Rattle.state.specs.declared.Typed.the-variants as typed
 use Rattle.state.specs.declared.Outcome.{Outcome}
 use Rattle.state.specs.declared.Outcome.the-variants as outcome
-use Rattle.state.specs.Notes.{placeIn, firstIn, secondIn, retIn, topIn, Noting, Kept}
+use Rattle.state.specs.Notes.{placesIn, firstIn, secondIn, retIn, topIn, Noting, Kept}
 use Rattle.state.specs.Answer.{typedCode, numberOf, codeOf}
 use Rattle.state.specs.Lent.{Lent, tableOf, stateIn}
 use Rattle.expr.specs.Contract.{At}
@@ -80,14 +80,14 @@ abbrev pub Ends : List ℕ → Cursor → ℕ → Outcome → Lent → Lent → 
 Ends bs c top o w v r =
     Assigned (namesOf bs) (λ y. r (stateIn w top y)) (tableOf w) (tableOf v) (v .rows) top (v .stack)
     (c .at) (stopOf (nodesOf bs) (c .at)) (nodeCount bs)
-    (codeOf o (v .notes)) (placeIn (v .notes)) (firstIn (v .notes)) (secondIn (v .notes))
+    (codeOf o (v .notes)) (placesIn (v .notes)) (firstIn (v .notes)) (secondIn (v .notes))
     × Kept (w .notes) (v .notes) (o ≡ outcome.Err)
 
 -- what a walk over the value at the cursor gives, at most d deep
 abbrev pub Iterates : List ℕ → Cursor → ℕ → ℕ → Typed → Lent → Lent → Type 0
 Iterates bs c top d q w v =
     Iterated bs d (tableOf w) (tableOf v) (w .rows) top (v .stack) (c .at) (stopOf (nodesOf bs) (c .at)) (nodeCount bs)
-    (typedCode q (v .notes)) (placeIn (v .notes)) (numberOf q) (firstIn (v .notes)) (secondIn (v .notes))
+    (typedCode q (v .notes)) (placesIn (v .notes)) (numberOf q) (firstIn (v .notes)) (secondIn (v .notes))
     × Kept (w .notes) (v .notes) (q ≡ typed.Err)
 
 -- n Params are bound as Unknown in the row `top`, and r stands behind them
@@ -104,7 +104,7 @@ abbrev pub WalkedTo : ℕ → List ℕ → Cursor → ℕ → ℕ → Lent → L
 WalkedTo e bs c top code w v r =
     Done (namesOf bs) (r (stateOf (tableOf w) (w .rows) top (retIn (w .notes)))) (tableOf w) (tableOf v)
     (v .rows) top (topIn (v .notes)) (retIn (v .notes)) (v .stack)
-    (c .at) e (nodeCount bs) code (placeIn (v .notes)) (firstIn (v .notes)) (secondIn (v .notes))
+    (c .at) e (nodeCount bs) code (placesIn (v .notes)) (firstIn (v .notes)) (secondIn (v .notes))
 
 -- the cursor's node
 abbrev pub Walked : List ℕ → Cursor → ℕ → ℕ → Lent → Lent → (State → End) → Type 0

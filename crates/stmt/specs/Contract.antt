@@ -17,12 +17,13 @@ use Rattle.meaning.specs.Answer.{walked}
 use Rattle.meaning.proofs.Faults.{Sound}
 use Rattle.meaning.proofs.Nesting.{Children}
 use Rattle.types.specs.Table.{Tab, capacity, Wf, Grown, denote}
-use Rattle.frames.specs.Env.{Rows, framesOf, Fit}
-use Rattle.state.specs.Notes.{codeIn, Noting}
+use Rattle.frames.specs.Env.{Rows, framesOf, Fit, firstNode, firstNumber}
+use Rattle.frames.specs.declared.First.{First}
+use Rattle.state.specs.Notes.{codeIn, Places, Noting}
 use Rattle.state.specs.declared.Outcome.{Outcome}
 use Rattle.state.specs.declared.Outcome.the-variants as outcome
 use Rattle.expr.specs.Contract.{Ready, At}
-use Rattle.targets.specs.Ending.{ended, Named, Left}
+use Rattle.targets.specs.Ending.{firstAt, ended, Named, Left}
 use Rattle.stmt.specs.declared.End.{End as Answer}
 use Rattle.stmt.specs.declared.End.the-variants as answer
 
@@ -161,11 +162,11 @@ pub record Deep (t u : Tab) (i e M place : ℕ) : Type 0 where
   pub types-spent : u.n + i ≤ t.n + e
   pub placed : place < M
 
-pub record Done (ws : List Name) (r : End) (t u : Tab) (gs : Rows) (top high ret : ℕ) (su : List ℕ) (i e M code place a b : ℕ) : Type 0 where
+pub record Done (ws : List Name) (r : End) (t u : Tab) (gs : Rows) (top high ret : ℕ) (su : List ℕ) (i e M code : ℕ) (place : Places) (a b : ℕ) : Type 0 where
   pub says : r ≡ ended ws u gs high (denote u ret) code place a b
   pub fine : (code ≡ 9 → ⊥) → Fine t u gs top high ret su i e
   pub named : (code ≡ 9 → ⊥) → Named u M code place a b
-  pub deep : code ≡ 9 → Deep t u i e M place
+  pub deep : code ≡ 9 → Deep t u i e M (place .here)
 
 -- gs is fs with the names xs in the row `top` as Unknown, whatever the table
 pub record Entered (fs gs : Rows) (top : ℕ) (xs : List ℕ) : Type 0 where
@@ -173,7 +174,7 @@ pub record Entered (fs gs : Rows) (top : ℕ) (xs : List ℕ) : Type 0 where
   pub fit : (t : Tab) → Wf t → Fit t fs top → Fit t gs top
 
 -- the value at node i was checked, and what a walk over it gives is the type of a number
-pub record Iterated (bs : List ℕ) (d : ℕ) (t u : Tab) (fs : Rows) (top : ℕ) (su : List ℕ) (i e M code place′ number a b : ℕ) : Type 0 where
+pub record Iterated (bs : List ℕ) (d : ℕ) (t u : Tab) (fs : Rows) (top : ℕ) (su : List ℕ) (i e M code : ℕ) (place′ : Places) (number a b : ℕ) : Type 0 where
   pub well : code ≡ 0 → (y : Ty) (k : Ty → End)
       → checked (namesOf bs) (exprAt (nodesOf bs) d i) (state (framesOf t fs top) y)
       (λ x. overElements (place (exprAt (nodesOf bs) d i)) x (state (framesOf t fs top) y) k)
@@ -200,15 +201,16 @@ pub record Started (bs : List ℕ) (fs : Rows) (t : Tab) (st : List ℕ) : Type 
   pub stack : length st ≡ mostNodes
   pub room : nodeCount bs + 8 ≤ capacity t.cells
 
--- a typing refusal has a code, and not that of a ninth frame
-pub record Refuses (e : Answer) (code : ℕ) : Type 0 where
+-- a typing refusal has a code, and not that of a ninth frame; its first node is the one that its code points at
+pub record Refuses (e : Answer) (code : ℕ) (first : First) : Type 0 where
   pub coded : e ≡ answer.Wrong → code ≡ 0 → ⊥
   pub typing : e ≡ answer.Wrong → code ≡ 9 → ⊥
+  pub points : firstNode first ≡ firstAt code (firstNumber first)
 
 -- how the whole walk ended, and the return type where it stood; node 0, the module's Block, forms no type
-pub record Ran (bs : List ℕ) (setting : Setting) (t u : Tab) (gs : Rows) (top : ℕ) (su : List ℕ) (code place a b : ℕ) : Type 0 where
+pub record Ran (bs : List ℕ) (setting : Setting) (t u : Tab) (gs : Rows) (top : ℕ) (su : List ℕ) (code : ℕ) (place : Places) (a b : ℕ) : Type 0 where
   pub returns : Ty
   pub says : walked setting bs ≡ ended (namesOf bs) u gs top returns code place a b
   pub named : (code ≡ 9 → ⊥) → Named u (nodeCount bs) code place a b
   pub left : (code ≡ 9 → ⊥) → Left t u gs top su 1 (nodeCount bs)
-  pub deep : code ≡ 9 → Deep t u 1 (nodeCount bs) (nodeCount bs) place
+  pub deep : code ≡ 9 → Deep t u 1 (nodeCount bs) (nodeCount bs) (place .here)

@@ -7,9 +7,11 @@ ghost use mathlib.Core.Path.{_≡_};
 ghost use Prim.Native.Nat.{_-_};
 ghost use Rattle.meaning.specs.Base.{if_then_else_};
 ghost use Rattle.types.specs.Table.{tab};
-ghost use Rattle.state.specs.Notes.{Noting};
+ghost use Rattle.frames.specs.Env.{firstNode, firstNumber};
+ghost use Rattle.state.specs.Notes.{places, Noting};
 ghost use Rattle.state.specs.Answer.{Settled};
 ghost use Rattle.state.specs.Lent.{lent};
+ghost use Rattle.targets.specs.Ending.{firstAt};
 ghost use Rattle.stmt.specs.Contract.{settingIf, conditionAt, evaluatedAt, assignedAt};
 ghost use Rattle.stmt.specs.Contract.{endOf, endedAs, Started, Refuses, Ran};
 ghost use Rattle.stmt.specs.Clauses.{Checkable, Paired, Returnable, Simple, Walkable, OfKind, InIf};
@@ -17,13 +19,17 @@ ghost use Rattle.stmt.specs.Clauses.{AtArm, AtParams};
 ghost use Rattle.stmt.specs.Clauses.{Ends, Iterates, Returns, ActsEither, Enters, AfterArm};
 ghost use Rattle.stmt.specs.Clauses.{WalksStmt, WalksBlock, Acts, ActsAnywhere, WalksArm};
 use expr::tc_expr;
+use frames::First;
 use frames::Frames;
 use frames::Merge;
 use frames::NO_NAMES;
 use frames::bind;
+use frames::blank;
 use frames::clear;
 use frames::commit;
+use frames::first_of;
 use frames::note_branch;
+use frames::since;
 use image::Cursor;
 use image::kinds;
 use limits::DEEPEST;
@@ -39,10 +45,12 @@ use state::Outcome;
 use state::PLACE;
 use state::RETURNS;
 use state::SECOND;
+use state::SINCE;
 use state::Stack;
 use state::TOP;
 use state::TYPES;
 use state::Typed;
+use state::conflict;
 use state::counts_of;
 use state::refuse;
 use state::small;
@@ -250,7 +258,7 @@ fn parameters(image: &[u8], from: Cursor, rows: &mut Frames, top: usize, n: usiz
     while 0 < left {
         let passed = next.over(image);
         let node = passed.node;
-        bind(rows, top, node.arg as usize, types::UNKNOWN);
+        bind(rows, top, node.arg as usize, blank());
         next = passed.cursor;
         left -= 1;
     }
@@ -386,7 +394,8 @@ fn block(
     End::Done
 }
 
-// An If: its branches, each on a copy of the frames, and then the merge, which is refused at the first condition.
+// An If: its branches, each on a copy of the frames, and then the merge, which is refused at the first condition and
+// points at "the first type found" too.
 fn choices(
     image: &[u8],
     here: Cursor,
@@ -437,8 +446,16 @@ fn choices(
     let merge = commit(rows, top, &merged, &clashes);
     match merge {
         Merge::Whole => End::Done,
-        Merge::Clash(name) => {
-            refuse(notes, codes::INCOMPATIBLE_BRANCHES, condition.at, name, 0);
+        Merge::Clash(found) => {
+            let first = found.first;
+            conflict(
+                notes,
+                codes::INCOMPATIBLE_BRANCHES,
+                condition.at,
+                first,
+                found.name,
+                0,
+            );
             End::Wrong
         }
     }
@@ -548,7 +565,8 @@ fn define(
     End::Done
 }
 
-// A For: its body on a copy of the frames, of which nothing stays; its errors are returned.
+// A For: its body on a copy of the frames, of which nothing stays; its errors are returned. The loop name is known
+// since the iterable.
 fn each(
     image: &[u8],
     here: Cursor,
@@ -573,7 +591,12 @@ fn each(
         return End::Wrong;
     };
     let mut inner = *rows;
-    bind(&mut inner, top, node.arg as usize, ty);
+    bind(
+        &mut inner,
+        top,
+        node.arg as usize,
+        since(First::Nowhere, iterable.at, ty),
+    );
     let passed = iterable.over(image);
     let body = passed.cursor;
     let r = block(
@@ -637,12 +660,23 @@ fn repeat(
 
 // ---- the program
 
-// How the whole walk ended, and what was noted then: the code, node and numbers of a refusal, the counts of the table
-// and the newest frame's row.
+// 25 and 23 "point at the first place too"; of every other code nothing is noted there.
+fn first_place(code: u32, noted: u32) -> First
+    ensures { λ r. ⌜ firstNode r ≡ firstAt code noted ⌝ }
+{
+    match code {
+        codes::CANNOT_ASSIGN | codes::INCOMPATIBLE_BRANCHES => first_of(noted),
+        _ => First::Nowhere,
+    }
+}
+
+// How the whole walk ended, and what was noted then: the code, node, first node and numbers of a refusal, the counts of
+// the table and the newest frame's row.
 pub struct Walked {
     pub end: End,
     pub code: u32,
     pub place: usize,
+    pub first: First,
     pub a: usize,
     pub b: usize,
     pub counts: Counts,
@@ -661,8 +695,9 @@ pub fn typecheck_program(
     ensures { λ r. ⌜ Ran (now (image .entry)) (settingIf plain)
         (tab (now (table .entry)) 8 0)
         (tab (now (table .exit)) (r .counts .types) (r .counts .elements))
-        (now (frames .exit)) (r .top) (now (stack .exit)) (endedAs (r .end) (r .code)) (r .place) (r .a) (r .b) ⌝ }
-    ensures { λ r. ⌜ Refuses (r .end) (r .code) ⌝ }
+        (now (frames .exit)) (r .top) (now (stack .exit)) (endedAs (r .end) (r .code))
+        (places (r .place) (firstNumber (r .first))) (r .a) (r .b) ⌝ }
+    ensures { λ r. ⌜ Refuses (r .end) (r .code) (r .first) ⌝ }
 {
     let mut notes = [1u32; NOTED];
     notes[TYPES] = PLAIN_TYPES;
@@ -691,6 +726,7 @@ pub fn typecheck_program(
                 end: r,
                 code: notes[CODE],
                 place: wide32(notes[PLACE]),
+                first: first_place(notes[CODE], notes[SINCE]),
                 a: wide32(notes[FIRST]),
                 b: wide32(notes[SECOND]),
                 counts: counts_of(&notes),
@@ -705,6 +741,7 @@ pub fn typecheck_program(
         end: End::Done,
         code: 0,
         place: 0,
+        first: First::Nowhere,
         a: 0,
         b: 0,
         counts: counts_of(&notes),

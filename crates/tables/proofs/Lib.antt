@@ -2,3 +2,4 @@ mod Programs
 mod Damaged
 mod Decisions
 mod Strict
+mod Places

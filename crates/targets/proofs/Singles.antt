@@ -22,15 +22,16 @@ use Rattle.meaning.proofs.Faults.{Sound, sizes}
 use Rattle.meaning.proofs.Nesting.{nodes-many, sound-nested, node-stands}
 use Rattle.meaning.proofs.Scan.{variable-named}
 use Rattle.meaning.proofs.Decoding.{variable-at, attribute-at, index-at}
-use Rattle.meaning.proofs.Codes.{fair-typing, check-fair}
+use Rattle.meaning.proofs.Codes.{fair-judged, check-fair}
 use Rattle.types.specs.Table.{Tab, denote}
 use Rattle.frames.specs.Env.{Rows, framesOf, Fit}
 use Rattle.frames.proofs.Laws.{frames-grown, fit-grown}
 use Rattle.rules.specs.Outcome.{typesNamed, pieces}
+use Rattle.state.specs.Notes.{Places, places}
 use Rattle.expr.specs.Contract.{Ready, At, Done}
-use Rattle.targets.specs.Ending.{ended, Left, Assigned}
+use Rattle.targets.specs.Ending.{firstAt, ended, Left, Assigned}
 use Rattle.targets.specs.Spreading.{Written}
-use Rattle.targets.proofs.Endings.{ended-well, ended-wrong, left-none, left-wider}
+use Rattle.targets.proofs.Endings.{ended-well, ended-alone, left-none, left-wider}
 
 -- ---- a node, by what is asked of it
 
@@ -64,29 +65,29 @@ unfolding exprAt
 expr-here ds zero i h = absurd (h refl)
 expr-here ds (suc d) i h = rw (sub-one (suc d))
 
-pub assigned-as : {ws : List Name} {r q : Ty → End} {t u : Tab} {gs : Rows} {top : ℕ} {su : List ℕ} {i e M code place a b : ℕ}
+pub assigned-as : {ws : List Name} {r q : Ty → End} {t u : Tab} {gs : Rows} {top : ℕ} {su : List ℕ} {i e M code : ℕ} {place : Places} {a b : ℕ}
     → ((y : Ty) → r y ≡ q y) → Assigned ws q t u gs top su i e M code place a b → Assigned ws r t u gs top su i e M code place a b
 assigned-as h a = record { says = λ y. h y ∙ a .says y; named = a .named; left = a .left; typing = a .typing }
 
 -- ---- an expression checked and not tracked
 
-module _ {ws : List Name} {t u : Tab} {fs : Rows} {top : ℕ} {st su : List ℕ} {i s M code place number a b : ℕ} (e : Expr) (f : Fit t fs top)
+module _ {ws : List Name} {t u : Tab} {fs : Rows} {top : ℕ} {st su : List ℕ} {i s M code place number a b : ℕ} (e : Expr) (m : ℕ) (f : Fit t fs top)
     (d : Done ws (check ws (framesOf t fs top) e) t u st su 0 i s M code place number a b) where
-  typing-code : (code ≡ 0 → ⊥) → 20 ≤ code
-  typing-code z = fair-typing (rw (d .told .ill z) at (check-fair ws (framesOf t fs top) e)) .above
+  typing-code : (code ≡ 0 → ⊥) → 29 ≤ code
+  typing-code z = fair-judged (rw (d .told .ill z) at (check-fair ws (framesOf t fs top) e)) .above
 
-  only-says : (y : Ty) → checked ws e (state (framesOf t fs top) y) (λ v. done (state (framesOf t fs top) y)) ≡ ended ws u fs top y code place a b
+  only-says : (y : Ty) → checked ws e (state (framesOf t fs top) y) (λ v. done (state (framesOf t fs top) y)) ≡ ended ws u fs top y code (places place m) a b
   unfolding checked typed
   only-says y = elim (ℕ-discrete code 0) [
-    | yes z ↦ rw (d .told .well z) (sym (ended-well ws u fs top y code place a b z ∙ ap (λ Γ. done (state Γ y)) (frames-grown (d .fine .grown) f)))
+    | yes z ↦ rw (d .told .well z) (sym (ended-well ws u fs top y code (places place m) a b z ∙ ap (λ Γ. done (state Γ y)) (frames-grown (d .fine .grown) f)))
     | no z ↦
         let n = typing-code z in
         rw (d .told .ill z)
-        (sym (ended-wrong ws u fs top y code place a b z (λ q. omega arith)
+        (sym (ended-alone ws u fs top y code (places place m) a b z (λ q. omega arith) ((λ q. omega arith), (λ q. omega arith))
         ∙ ap (λ Γ. wrong (refusal code place (pieces ws u code a b)) (state Γ y)) (frames-grown (d .fine .grown) f)))
   ]
 
-  pub only-checked : Assigned ws (λ y. checked ws e (state (framesOf t fs top) y) (λ v. done (state (framesOf t fs top) y))) t u fs top su i s M code place a b
+  pub only-checked : Assigned ws (λ y. checked ws e (state (framesOf t fs top) y) (λ v. done (state (framesOf t fs top) y))) t u fs top su i s M code (places place m) a b
   only-checked =
       let q = d .told in
       let g = d .fine in
@@ -167,9 +168,9 @@ module _ {bs : List ℕ} {nodes : ℕ} {fs : Rows} {top : ℕ} {t : Tab} {st : L
       let e : nodeOf (nodesOf bs) i .kind ≡ 21 = ap (λ (x : Node). x .kind) (sym z) ∙ k in
       rw z (omega (arith, variable-named (sound-nested (r .sound)) i (here-now .listed) e, sizes (r .sound .headed) .names))
 
-  pub single-name : {gs : Rows} {code x y : ℕ} → m .kind ≡ 21 → Written fs gs top i (m .arg) ty code x y
+  pub single-name : {gs : Rows} {code x y s : ℕ} → m .kind ≡ 21 → Written fs gs top (places i s) (m .arg) ty code x y
       → Assigned (namesOf bs) (λ v. assignTo (namesOf bs) (exprAt (nodesOf bs) d i) (denote t ty) (state (framesOf t fs top) v)) t t gs top st i
-      (stopOf (nodesOf bs) i) (nodeCount bs) code i x y
+      (stopOf (nodesOf bs) i) (nodeCount bs) code (places i s) x y
   single-name {gs} k w =
       let e : nodeOf (nodesOf bs) i .kind ≡ 21 = ap (λ (x : Node). x .kind) (sym z) ∙ k in
       record {
@@ -181,7 +182,7 @@ module _ {bs : List ℕ} {nodes : ℕ} {fs : Rows} {top : ℕ} {t : Tab} {st : L
         typing = w .typing;
       }
 
-  pub single-checked : {u : Tab} {su : List ℕ} {code place x y : ℕ} → (m .kind ≡ 25) ⊎ (m .kind ≡ 31)
+  pub single-checked : {u : Tab} {su : List ℕ} {code : ℕ} {place : Places} {x y : ℕ} → (m .kind ≡ 25) ⊎ (m .kind ≡ 31)
       → Assigned (namesOf bs) (λ v. checked (namesOf bs) (exprAt (nodesOf bs) d i) (state (framesOf t fs top) v) (λ w. done (state (framesOf t fs top) v)))
       t u fs top su i (stopOf (nodesOf bs) i) (nodeCount bs) code place x y
       → Assigned (namesOf bs) (λ v. assignTo (namesOf bs) (exprAt (nodesOf bs) d i) (denote t ty) (state (framesOf t fs top) v)) t u fs top su i
@@ -198,10 +199,10 @@ module _ {bs : List ℕ} {nodes : ℕ} {fs : Rows} {top : ℕ} {t : Tab} {st : L
   unfolding typesNamed base-open
   names-28 = refl
 
-  pub single-other : (nodeOf (nodesOf bs) i .kind ≡ 28 → ⊥) → (m .kind ≡ 21 → ⊥) → (m .kind ≡ 25 → ⊥) → (m .kind ≡ 31 → ⊥)
+  pub single-other : {s : ℕ} → (nodeOf (nodesOf bs) i .kind ≡ 28 → ⊥) → (m .kind ≡ 21 → ⊥) → (m .kind ≡ 25 → ⊥) → (m .kind ≡ 31 → ⊥)
       → Assigned (namesOf bs) (λ v. assignTo (namesOf bs) (exprAt (nodesOf bs) d i) (denote t ty) (state (framesOf t fs top) v)) t t fs top st i
-      (stopOf (nodesOf bs) i) (nodeCount bs) 28 i 0 0
-  unfolding ended pieces typesNamed base-open
+      (stopOf (nodesOf bs) i) (nodeCount bs) 28 (places i s) 0 0
+  unfolding ended firstAt pieces typesNamed base-open
   single-other k₂₈ k₂₁ k₂₅ k₃₁ =
       let g : (c : ℕ) → (m .kind ≡ c → ⊥) → nodeOf (nodesOf bs) i .kind ≡ c → ⊥ = λ c n e. n (ap (λ (x : Node). x .kind) z ∙ e) in
       record {

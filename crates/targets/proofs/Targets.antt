@@ -18,10 +18,11 @@ use Rattle.image.specs.Parts.{Moved}
 use Rattle.image.proofs.Moving.{parent-of}
 use Rattle.image.specs.declared.Cursor.{Cursor}
 use Rattle.image.specs.declared.Read.{Read}
+use Rattle.state.specs.Notes.{Places, places}
 use Rattle.expr.specs.Contract.{Ready, At}
 use Rattle.targets.specs.Ending.{Left, Assigned}
 use Rattle.targets.specs.Spreading.{spread, Spreads, Unpacks, Sharing, Share, Within}
-use Rattle.targets.proofs.Endings.{ended-well, ended-wrong, named-none, left-none, left-then, left-wider}
+use Rattle.targets.proofs.Endings.{ended-well, ended-wrong, ended-alone, named-none, left-none, left-then, left-wider}
 use Rattle.targets.proofs.Unpacking.{spreads-into, spreads-grown}
 use Rattle.targets.proofs.Singles.{here, expr-here, assigned-as}
 
@@ -73,17 +74,17 @@ module _ {bs : List ℕ} {nodes : ℕ} {fs : Rows} {top : ℕ} {t : Tab} {st : L
     tuple-is y s =
         to-tuple (namesOf bs) (nodesOf bs) d i (m .children) levels-left (ap (λ (x : Node). x .kind) (sym z) ∙ k) (ap (λ (x : Node). x .children) z) y s
 
-    pub tuple-refused : {code x y : ℕ} → Unpacks t.cells ty (m .children) code x y → (code ≡ 0 → ⊥)
+    pub tuple-refused : {code x y s : ℕ} → Unpacks t.cells ty (m .children) code x y → (code ≡ 0 → ⊥)
         → Assigned (namesOf bs) (λ v. assignTo (namesOf bs) (exprAt (nodesOf bs) d i) (denote t ty) (state (framesOf t fs top) v)) t t fs top st i
-        (stopOf (nodesOf bs) i) (nodeCount bs) code i x y
-    tuple-refused {code} {x} {y} u n = record {
-      says = λ v. tuple-is (denote t ty) _ ∙ u .ill n t refl (r .wf) b (namesOf bs) i _ _ ∙ sym (ended-wrong (namesOf bs) t fs top v code i x y n (u .typing));
-      named = u .named t refl (r .wf) b (nodeCount bs) i (h .there);
+        (stopOf (nodesOf bs) i) (nodeCount bs) code (places i s) x y
+    tuple-refused {code} {x} {y} {s} u n = record {
+      says = λ v. tuple-is (denote t ty) _ ∙ u .ill n t refl (r .wf) b (namesOf bs) i _ _ ∙ sym (ended-alone (namesOf bs) t fs top v code (places i s) x y n (u .typing) (u .alone));
+      named = u .named t refl (r .wf) b (nodeCount bs) (places i s) (h .there);
       left = left-wider (left-none i (r .wf) (r .fit) (r .stack)) (omega arith) (omega (arith, here (r .sound) h .above));
       typing = u .typing;
     }
 
-    pub tuple-assigned : {u : Tab} {gs : Rows} {su : List ℕ} {code place x y : ℕ} → Spreads t ty (m .children)
+    pub tuple-assigned : {u : Tab} {gs : Rows} {su : List ℕ} {code : ℕ} {place : Places} {x y : ℕ} → Spreads t ty (m .children)
         → Assigned (namesOf bs) (λ v. Each bs (d - 1) (m .children) (suc i) (spread (m .children) (denote t ty)) (state (framesOf t fs top) v)) t u gs top su i
         (stopOf (nodesOf bs) i) (nodeCount bs) code place x y
         → Assigned (namesOf bs) (λ v. assignTo (namesOf bs) (exprAt (nodesOf bs) d i) (denote t ty) (state (framesOf t fs top) v)) t u gs top su i
@@ -202,7 +203,7 @@ module _ {bs : List ℕ} {nodes : ℕ} {fs : Rows} {top : ℕ} {t : Tab} {st : L
     loop-answer y =
         l .answer y ∙ rw (less, part-is, rest-left (spread n (denote t ty)) k)
 
-    module _ {v : Tab} {hs : Rows} {sv : List ℕ} {code place a b : ℕ}
+    module _ {v : Tab} {hs : Rows} {sv : List ℕ} {code : ℕ} {place : Places} {a b : ℕ}
         (x : Assigned (namesOf bs) (λ y. assignTo (namesOf bs) (exprAt (nodesOf bs) d j) (denote u part) (state (framesOf u gs top) y)) u v hs top sv j
         (stopOf (nodesOf bs) j) (nodeCount bs) code place a b) where
       pub loop-wrong : (code ≡ 0 → ⊥)
@@ -236,7 +237,7 @@ module _ {bs : List ℕ} {nodes : ℕ} {fs : Rows} {top : ℕ} {t : Tab} {st : L
                 loop-answer y ∙ rw (x .says y, f);
           })
 
-pub loop-end : {bs : List ℕ} {nodes : ℕ} {fs : Rows} {top : ℕ} {t : Tab} {st : List ℕ} {i n ty d : ℕ} {u : Tab} {gs : Rows} {su : List ℕ} {j k code place a b : ℕ}
+pub loop-end : {bs : List ℕ} {nodes : ℕ} {fs : Rows} {top : ℕ} {t : Tab} {st : List ℕ} {i n ty d : ℕ} {u : Tab} {gs : Rows} {su : List ℕ} {j k code : ℕ} {place : Places} {a b : ℕ}
     → Loop bs nodes fs top t st i n ty d u gs su j k → n ≤ k → code ≡ 0
     → Assigned (namesOf bs) (λ y. Each bs d n (suc i) (spread n (denote t ty)) (state (framesOf t fs top) y)) t u gs top su i
     (stopOf (nodesOf bs) i) (nodeCount bs) code place a b

@@ -88,6 +88,7 @@ module _ {cs : List ℕ} {i x : ℕ} (k : ℕ) (told : KindOf cs i x) where
     ill = λ z. absurd (z refl);
     named = λ t e w b M n l. named-none refl;
     typing = λ z. absurd (omega arith);
+    alone = (λ z. absurd (omega arith), λ z. absurd (omega arith));
   }
 
   module _ {m : ℕ} (y : x ≡ 10) (counted : PartsOf cs i m) where
@@ -100,6 +101,7 @@ module _ {cs : List ℕ} {i x : ℕ} (k : ℕ) (told : KindOf cs i x) where
       ill = λ z. absurd (z refl);
       named = λ t e w b M n l. named-none refl;
       typing = λ z. absurd (omega arith);
+      alone = (λ z. absurd (omega arith), λ z. absurd (omega arith));
     }
 
     pub unpacks-other : k < 4294967296 → m < 4294967296 → (m ≡ k → ⊥) → Unpacks cs i k 26 m k
@@ -116,6 +118,7 @@ module _ {cs : List ℕ} {i x : ℕ} (k : ℕ) (told : KindOf cs i x) where
         placed = λ z. l;
       };
       typing = λ z. absurd (omega arith);
+      alone = (λ z. absurd (omega arith), λ z. absurd (omega arith));
     }
 
   pub unpacks-not : (x ≡ 0 → ⊥) → (x ≡ 8 → ⊥) → (x ≡ 10 → ⊥) → Unpacks cs i k 27 i 0
@@ -132,6 +135,7 @@ module _ {cs : List ℕ} {i x : ℕ} (k : ℕ) (told : KindOf cs i x) where
       placed = λ z. l;
     };
     typing = λ z. absurd (omega arith);
+    alone = (λ z. absurd (omega arith), λ z. absurd (omega arith));
   }
 
 -- ---- the answers of `part_for`

@@ -10,7 +10,7 @@ use Rattle.meaning.specs.Walk.{End, done, checked, assignTo, assignEach}
 use Rattle.types.specs.Table.{denote}
 use Rattle.frames.specs.Env.{Rows}
 use Rattle.image.specs.declared.Cursor.{Cursor}
-use Rattle.state.specs.Notes.{typesIn, placeIn, firstIn, secondIn, Kept}
+use Rattle.state.specs.Notes.{typesIn, sinceIn, places, placesIn, firstIn, secondIn, Kept}
 use Rattle.state.specs.Answer.{codeOf, Settled}
 use Rattle.state.specs.Lent.{Lent, tableOf, stateIn}
 use Rattle.state.specs.declared.Outcome.{Outcome}
@@ -50,7 +50,7 @@ pub record AssignsName (top n x ty : ℕ) (o : Outcome) (fs gs : Rows) (ns ms : 
   pub code : ℕ
   pub a : ℕ
   pub b : ℕ
-  pub written : Written fs gs top n x ty code a b
+  pub written : Written fs gs top (places n (sinceIn ms)) x ty code a b
   pub settled : Settled ns ms o code n a b
 
 -- type ty can be unpacked into the k targets of the Tuple at node n, or not, and o is the answer
@@ -65,7 +65,7 @@ pub record UnpacksInto (n k ty : ℕ) (o : Outcome) (cs ns ms : List ℕ) : Type
 abbrev pub Ends : List ℕ → Cursor → ℕ → Outcome → Lent → Lent → (Ty → End) → Type 0
 Ends bs c top o w v r =
     Assigned (namesOf bs) r (tableOf w) (tableOf v) (v .rows) top (v .stack) (c .at) (stopOf (nodesOf bs) (c .at)) (nodeCount bs)
-    (codeOf o (v .notes)) (placeIn (v .notes)) (firstIn (v .notes)) (secondIn (v .notes))
+    (codeOf o (v .notes)) (placesIn (v .notes)) (firstIn (v .notes)) (secondIn (v .notes))
     × Kept (w .notes) (v .notes) (o ≡ outcome.Err)
 
 abbrev pub Checks : List ℕ → Cursor → ℕ → ℕ → Outcome → Lent → Lent → Type 0

@@ -13,16 +13,17 @@ use Rattle.meaning.specs.Walk.{State, state, End, wrong, assignName, unpacked, 
 use Rattle.types.specs.Table.{Tab, Wf, Means, denote}
 use Rattle.frames.specs.Env.{Rows, framesOf, Fit}
 use Rattle.rules.specs.Outcome.{pieces}
-use Rattle.targets.specs.Ending.{ended, Named}
+use Rattle.state.specs.Notes.{Places}
+use Rattle.targets.specs.Ending.{Alone, ended, Named}
 
 -- ---- a name
 
--- gs is fs after the type i is assigned to x at node n, whatever the table
-pub record Written (fs gs : Rows) (top n x i code a b : ℕ) : Type 0 where
+-- gs is fs after the type i is assigned to x at a place, whatever the table
+pub record Written (fs gs : Rows) (top : ℕ) (place : Places) (x i code a b : ℕ) : Type 0 where
   pub says : (ws : List Name) (t : Tab) (y : Ty) → Wf t → Fit t fs top → i < t.n
-      → assignName n x (denote t i) (state (framesOf t fs top) y) ≡ ended ws t gs top y code n a b
+      → assignName (place .here) x (denote t i) (state (framesOf t fs top) y) ≡ ended ws t gs top y code place a b
   pub fit : (t : Tab) → Wf t → Fit t fs top → i < t.n → Fit t gs top
-  pub named : (t : Tab) → Wf t → Fit t fs top → i < t.n → (M : ℕ) → n < M → Named t M code n a b
+  pub named : (t : Tab) → Wf t → Fit t fs top → i < t.n → (M : ℕ) → place .here < M → Named t M code place a b
   pub typing : code ≡ 9 → ⊥
 
 -- ---- a Tuple of targets
@@ -41,8 +42,9 @@ pub record Unpacks (cs : List ℕ) (i k code a b : ℕ) : Type 0 where
   pub well : code ≡ 0 → (t : Tab) → t.cells ≡ cs → Wf t → i < t.n → Spreads t i k
   pub ill : (code ≡ 0 → ⊥) → (t : Tab) → t.cells ≡ cs → Wf t → i < t.n → (ws : List Name) (n : ℕ) (s : State) (go : List Ty → End)
       → unpackInto n k (denote t i) s go ≡ wrong (refusal code n (pieces ws t code a b)) s
-  pub named : (t : Tab) → t.cells ≡ cs → Wf t → i < t.n → (M n : ℕ) → n < M → Named t M code n a b
+  pub named : (t : Tab) → t.cells ≡ cs → Wf t → i < t.n → (M : ℕ) (place : Places) → place .here < M → Named t M code place a b
   pub typing : code ≡ 9 → ⊥
+  pub alone : Alone code
 
 -- some table has these cells, and there type i can be unpacked into more than j targets
 pub record Sharing (cs : List ℕ) (i j : ℕ) : Type 0 where

@@ -2,7 +2,7 @@
 ghost use mathlib.Core.Path.{_≡_};
 ghost use Prim.Native.Nat.{_<_};
 ghost use Rattle.types.specs.Reading.{Known};
-ghost use Rattle.meaning.specs.Limits.{mostNames, mostFrames};
+ghost use Rattle.meaning.specs.Limits.{mostNames, mostFrames, mostNodes};
 ghost use Rattle.state.specs.Notes.{Noting};
 ghost use Rattle.state.specs.Lent.{lent};
 ghost use Rattle.types.specs.Table.{mostNumbers};
@@ -13,6 +13,7 @@ use expr::tc_expr;
 use frames::Frames;
 use frames::bind;
 use frames::lookup;
+use frames::since;
 use image::Cursor;
 use image::kinds;
 use rules::codes;
@@ -20,6 +21,7 @@ use state::Notes;
 use state::Outcome;
 use state::Stack;
 use state::Typed;
+use state::conflict;
 use state::refuse;
 use types;
 use types::agreed;
@@ -29,7 +31,7 @@ use types::part_of;
 use types::parts_of;
 
 // "Absent or Unknown takes the new type; Unknown keeps the old one; otherwise equal or 25": type `ty` for name x, at
-// node `at`.
+// node `at`, the Variable. 25 points at the node that first made the old type known, too.
 fn assign_name(
     frames: &mut Frames,
     top: usize,
@@ -39,17 +41,18 @@ fn assign_name(
     ty: usize,
 ) -> Outcome
     requires { ⌜ Noting (now notes) ⌝ }
-    requires { ⌜ (top < mostFrames) × (x < mostNames) × (ty < mostNumbers) ⌝ }
+    requires { ⌜ (top < mostFrames) × (at < mostNodes) × (x < mostNames) × (ty < mostNumbers) ⌝ }
     ensures { λ r. ⌜ AssignsName top at x ty r (now (frames .entry)) (now (frames .exit))
         (now (notes .entry)) (now (notes .exit)) ⌝ }
 {
     let old = lookup(frames, top, x);
-    let both = agreed(old, ty);
+    let first = old.first;
+    let both = agreed(old.ty, ty);
     if both.there {
-        bind(frames, top, x, both.number);
+        bind(frames, top, x, since(first, at, both.number));
         return Outcome::Ok;
     }
-    refuse(notes, codes::CANNOT_ASSIGN, at, ty, old);
+    conflict(notes, codes::CANNOT_ASSIGN, at, first, ty, old.ty);
     Outcome::Err
 }
 

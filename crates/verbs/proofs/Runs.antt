@@ -15,7 +15,6 @@ use Rattle.meaning.specs.Base.{if_then_else_, sameText}
 use Rattle.meaning.specs.Sheet.{Entry}
 use Rattle.meaning.specs.Read.{readSheet}
 use Rattle.meaning.specs.Answer.{Answer, answer, readAnswer, overlaid}
-use Rattle.meaning.specs.Line.{lineOf}
 use Rattle.meaning.specs.Show.{Change, changes, compared}
 use Rattle.meaning.specs.Load.{Loading, loads, look, refused, loading, loadingNumber}
 use Rattle.meaning.proofs.Choices.{not-so, same-text}
@@ -23,7 +22,7 @@ use Rattle.meaning.proofs.SheetForm.{read-some}
 use Rattle.meaning.proofs.Changed.{sheets-unchanged}
 use Rattle.meaning.proofs.Answers.{answered, overlaid-front}
 use Rattle.meaning.proofs.Cut.{answer-cut, read-sheet-cut}
-use Rattle.verbs.specs.Said.{statusNumber, Said, Says, checkSaid, refusalOf, Writes, showSaid, changedIf, changesSaid, namesIn, lookText, loadSaidBy, loadSaid}
+use Rattle.verbs.specs.Said.{statusNumber, Said, Says, toldText, checkSaid, refusalOf, Writes, showSaid, changedIf, changesSaid, namesIn, lookText, loadSaidBy, loadSaid}
 use Rattle.verbs.specs.declared.Done.{Done}
 use Rattle.verbs.specs.declared.Written.{Written}
 use Rattle.verbs.specs.declared.Status.{Status}
@@ -55,9 +54,9 @@ pub refusal-told : {a : Answer} {s s₁ o o₁ : List ℕ} (w : Written) → Wri
 unfolding refusalOf if_then_else_
 refusal-told {a} {o = o} w x = rw (x .told, x .line) (by (eqb (a .code) 0))
   where
-    by : (b : Bool) → take (length (if b then [] else lineOf a)) (overlaid (lineOf a) o) ≡ (if b then [] else lineOf a)
+    by : (b : Bool) → take (length (if b then [] else toldText a)) (overlaid (toldText a) o) ≡ (if b then [] else toldText a)
     by true = refl
-    by false = overlaid-front (lineOf a) o
+    by false = overlaid-front (toldText a) o
 
 -- ---- the statuses
 

@@ -12,11 +12,11 @@ use denote.Enum.Declared.{tagOf}
 use lib.ListN.{length, take}
 use lib.Seq.{length-take-le}
 use Rattle.meaning.specs.Limits.{largestShow, largestChanges}
-use Rattle.meaning.specs.Base.{if_then_else_, ifSome, bytes}
+use Rattle.meaning.specs.Base.{_or_, if_then_else_, ifSome, bytes}
 use Rattle.meaning.specs.Sheet.{Entry}
 use Rattle.meaning.specs.Read.{entriesIn, isSheet, readSheet}
 use Rattle.meaning.specs.Answer.{Answer, readAnswer, overlaid, meaning-open}
-use Rattle.meaning.specs.Line.{lineOf}
+use Rattle.meaning.specs.Line.{spaced, lineOf}
 use Rattle.meaning.specs.Show.{entriesText, Change, changesText, changes, InWords, showAnswer, changesAnswer}
 use Rattle.meaning.specs.Load.{Loading, loads, look, loading, loadingNumber}
 use Rattle.meaning.proofs.SheetForm.{read-yes}
@@ -25,12 +25,12 @@ use Rattle.meaning.proofs.InWords.{show-none, show-whole, compared-none, compar
 use Rattle.meaning.proofs.Loads.{number-loads, number-look, number-refused, look-exactly}
 use Rattle.meaning.proofs.Answers.{overlaid-front}
 use Rattle.words.specs.Words.{Wrote}
-use Rattle.words.proofs.Laws.{put-overlaid, and-then}
+use Rattle.words.proofs.Laws.{put-nil, put-overlaid, wrote, and-then}
 use Rattle.checker.specs.Answers.{Numbers, sheetNumbers, numbersOf, numbersIn, readingNumbers}
 use Rattle.checker.specs.declared.Answer.{Answer as Reply}
 use Rattle.checker.specs.declared.Reading.{Reading}
 use Rattle.checker.specs.declared.Reading.the-variants.{Sheet, NoSheet}
-use Rattle.line.specs.Printing.{Fronted, Lined}
+use Rattle.line.specs.Printing.{Fronted, Lined, SecondTold}
 use Rattle.line.proofs.Answered.{fronted}
 use Rattle.show.specs.Words.{Tells}
 use Rattle.load.specs.Rule.{kindOf, numbersTold, Decides, Decided}
@@ -38,7 +38,7 @@ use Rattle.load.specs.declared.Loading.{Loading as Decision}
 use Rattle.load.specs.declared.Loading.the-variants.{Loads, Look, Refused as Refuses}
 use Rattle.load.proofs.Loading.{the-type}
 use Rattle.load.proofs.Cases.{sheet-there, decides-as}
-use Rattle.verbs.specs.Said.{statusOf, statusNumber, Said, Says, checkSaid, refusalOf, Writes, noSheetSaid, showSaid, changedIf, changesSaid, comparedAs, namesIn, lookText, loadSaidBy, loadSaid}
+use Rattle.verbs.specs.Said.{statusOf, statusNumber, Said, Says, firstText, toldText, checkSaid, refusalOf, Writes, noSheetSaid, showSaid, changedIf, changesSaid, comparedAs, namesIn, lookText, loadSaidBy, loadSaid}
 use Rattle.verbs.specs.declared.Status.{Status}
 use Rattle.verbs.specs.declared.Status.the-variants.{Fine, Changed, Refused}
 
@@ -55,34 +55,67 @@ status-refused {c} n = rw (ne-eqb c 0 n)
 pub digit-is : {s t : Status} {d : ℕ} → s ≡ t → d ≡ 48 + statusNumber t → d ≡ 48 + statusNumber s
 digit-is e p = rw e p
 
+-- a text written at the front of a buffer
+front-of : {d e : List ℕ} {r : ℕ} (s : List ℕ) → Wrote d 0 s e r → Fronted s d e r
+front-of {d} s a = record { line = a .same ∙ put-overlaid d s; ends = a .ends ∙ zero-add _; long = a .long; inside = a .inside }
+
+-- ---- the line of the first place
+
+pub first-wrote : (code start end : ℕ) {d e f g h : List ℕ} {at i j k l : ℕ} → (code ≡ 23) ⊎ (code ≡ 25) → Wrote d at (bytes "first set here") e i
+    → Wrote e i (spaced (start ∷ [])) f j → Wrote f j (spaced (end ∷ [])) g k → Wrote g k (bytes "\n") h l → Wrote d at (firstText code start end) h l
+unfolding firstText _or_ if_then_else_
+first-wrote code start end (inl z) a b c n = rw z (and-then (and-then (and-then a b) c) n)
+first-wrote code start end (inr z) a b c n = rw z (and-then (and-then (and-then a b) c) n)
+
+pub first-none : (code start end : ℕ) {d : List ℕ} {at : ℕ} → ((code ≡ 23) ⊎ (code ≡ 25) → ⊥) → at ≤ length d → Wrote d at (firstText code start end) d at
+unfolding firstText _or_ if_then_else_
+first-none code start end {d} {at} n h = rw (ne-eqb code 23 (λ e. n (inl e)), ne-eqb code 25 (λ e. n (inr e))) (wrote [] (omega (arith, h)) (sym (put-nil d at)) (omega arith))
+
+-- behind the answer's own line
+front-wrote : (w old : List ℕ) {new : List ℕ} {r : ℕ} → Fronted w old new r → Wrote old 0 w new r
+front-wrote w old f = record { same = f .line ∙ sym (put-overlaid old w); ends = f .ends ∙ sym (zero-add _); long = f .long; inside = f .inside }
+
+pub told-front : (a : Answer) {old mid new : List ℕ} {code start end size r : ℕ} → Fronted (lineOf a) old mid size → code ≡ a .code → SecondTold a start end
+    → Wrote mid size (firstText code start end) new r → Fronted (toldText a) old new r
+unfolding toldText
+told-front a {old} {mid} {new} {size = size} {r} l c t w =
+    front-of (lineOf a ++ firstText (a .code) (a .secondStart) (a .secondEnd))
+    (and-then (front-wrote (lineOf a) old l) (rw (← c, ← (t .from), ← (t .to)) w))
+
 -- ---- `check` and `sheet`
 
-pub says-check : {a : Answer} {old new s s₁ m m₁ : List ℕ} {size code count : ℕ} {t : Status} → Lined a old new s s₁ m m₁ size code count → t ≡ statusOf code
-    → Says (checkSaid a) old new (record { length = size; status = t }) × (size ≤ length new)
+pub says-check : {a : Answer} {old mid new s s₁ m m₁ : List ℕ} {size code count start end r : ℕ} {t : Status} → Lined a old mid s s₁ m m₁ size code count
+    → SecondTold a start end → Wrote mid size (firstText code start end) new r → t ≡ statusOf code
+    → Says (checkSaid a) old new (record { length = r; status = t }) × (r ≤ length new)
 unfolding checkSaid
-says-check l e = (record { front = l .front; status = e ∙ ap statusOf (l .told) }, l .front .inside)
+says-check {a} l q w e =
+    let f = told-front a (l .front) (l .told) q w in (record { front = f; status = e ∙ ap statusOf (l .told) }, f .inside)
 
 no-refusal : (a : Answer) → a .code ≡ 0 → [] ≡ refusalOf a
 unfolding refusalOf if_then_else_
 no-refusal a e = rw (eq-eqb (a .code) 0 e)
 
-a-refusal : (a : Answer) → (a .code ≡ 0 → ⊥) → lineOf a ≡ refusalOf a
+a-refusal : (a : Answer) → (a .code ≡ 0 → ⊥) → toldText a ≡ refusalOf a
 unfolding refusalOf if_then_else_
 a-refusal a n = rw (ne-eqb (a .code) 0 n)
 
-module _ {a : Answer} {old new s s₁ m m₁ : List ℕ} {size code count : ℕ} (l : Lined a old new s s₁ m m₁ size code count) (kept : length s₁ ≡ length s) where
+module _ {a : Answer} {old mid new s s₁ m m₁ : List ℕ} {size code count start end r : ℕ} (l : Lined a old mid s s₁ m m₁ size code count) (q : SecondTold a start end)
+    (w : Wrote mid size (firstText code start end) new r) (kept : length s₁ ≡ length s) where
   in-front : Fronted (a .sheet) s s₁ count
   in-front = fronted s (a .sheet) (l .sheet) (l .counted) kept
+
+  told : Fronted (toldText a) old new r
+  told = told-front a (l .front) (l .told) q w
 
   pub writes-fine : code ≡ 0 → Writes a s s₁ old new (record { sheet = count; line = 0; status = Fine }) × ((count ≤ length s₁) × (0 ≤ length new))
   writes-fine z =
       let e : a .code ≡ 0 = sym (l .told) ∙ z in
-      (record { sheet = in-front; line = l .front .line; told = ap length (no-refusal a e); status = status-fine e }, (in-front .inside, omega arith))
+      (record { sheet = in-front; line = told .line; told = ap length (no-refusal a e); status = status-fine e }, (in-front .inside, omega arith))
 
-  pub writes-refused : (code ≡ 0 → ⊥) → Writes a s s₁ old new (record { sheet = count; line = size; status = Refused }) × ((count ≤ length s₁) × (size ≤ length new))
+  pub writes-refused : (code ≡ 0 → ⊥) → Writes a s s₁ old new (record { sheet = count; line = r; status = Refused }) × ((count ≤ length s₁) × (r ≤ length new))
   writes-refused z =
       let n : a .code ≡ 0 → ⊥ = λ e. z (l .told ∙ e) in
-      (record { sheet = in-front; line = l .front .line; told = l .front .ends ∙ ap length (a-refusal a n); status = status-refused n }, (in-front .inside, l .front .inside))
+      (record { sheet = in-front; line = told .line; told = told .ends ∙ ap length (a-refusal a n); status = status-refused n }, (in-front .inside, told .inside))
 
 -- ---- a sheet in words: the room is always enough
 
@@ -244,10 +277,6 @@ module _ (approved sheet out : List ℕ) {after : List ℕ} {code size : ℕ} (y
       → Fronted (changesText (changes (namesIn approved) (namesIn sheet))) out after size
   changed-all e x = changed-front [] noNames no-names-read e x
 
--- a text written at the front of a buffer
-front-of : {d e : List ℕ} {r : ℕ} (s : List ℕ) → Wrote d 0 s e r → Fronted s d e r
-front-of {d} s a = record { line = a .same ∙ put-overlaid d s; ends = a .ends ∙ zero-add _; long = a .long; inside = a .inside }
-
 -- what stands at the front
 front-part : {w old new : List ℕ} {size : ℕ} → Fronted w old new size → take size new ≡ w
 front-part {w} {old} f = rw (f .ends, f .line) (overlaid-front w old)
@@ -312,8 +341,9 @@ module _ {a : Answer} (approved : List ℕ) {k : ℕ} {n : Numbers} {s s₁ m m�
     says-look {out} {after} {r} z f =
         says-kind (number-look (loading a approved) (sym (x .rule) ∙ z)) (subst (λ (i : List ℕ). Fronted (lookText approved i) out after r) part-sheet f)
 
-  pub says-refused : {out after s₂ m₂ : List ℕ} {r code count : ℕ} → (k ≡ 0 → ⊥) → (k ≡ 1 → ⊥) → Lined a out after s s₂ m m₂ r code count
+  pub says-refused : {out mid after s₂ m₂ : List ℕ} {size code count start end r : ℕ} → (k ≡ 0 → ⊥) → (k ≡ 1 → ⊥) → Lined a out mid s s₂ m m₂ size code count
+      → SecondTold a start end → Wrote mid size (firstText code start end) after r
       → Says (loadSaid a approved) out after (record { length = r; status = Refused }) × (r ≤ length after)
   unfolding loadSaidBy
-  says-refused y z l =
-      says-kind (number-refused (loading a approved) (λ e. y (x .rule ∙ e)) (λ e. z (x .rule ∙ e))) (l .front)
+  says-refused y z l q w =
+      says-kind (number-refused (loading a approved) (λ e. y (x .rule ∙ e)) (λ e. z (x .rule ∙ e))) (told-front a (l .front) (l .told) q w)

@@ -5,11 +5,11 @@ use Prim.Native.Nat.{ℕ, _+_}
 use lib.Dec.{eqb}
 use lib.ListN.{length}
 use Rattle.meaning.specs.Limits.{messageBuffer, largestChanges}
-use Rattle.meaning.specs.Base.{if_then_else_, ifSome, bytes}
+use Rattle.meaning.specs.Base.{_or_, if_then_else_, ifSome, bytes}
 use Rattle.meaning.specs.Sheet.{Entry}
 use Rattle.meaning.specs.Read.{readSheet}
 use Rattle.meaning.specs.Answer.{Answer, overlaid}
-use Rattle.meaning.specs.Line.{lineOf}
+use Rattle.meaning.specs.Line.{spaced, lineOf}
 use Rattle.meaning.specs.Show.{entriesText, Change, changesText, changes, compared}
 use Rattle.meaning.specs.Load.{Loading, loads, look, refused, loading}
 use Rattle.line.specs.Printing.{Fronted}
@@ -42,22 +42,31 @@ pub record Says (s : Said) (old new : List ℕ) (d : Done) : Type 0 where
   pub front : Fronted (s .text) old new (d .length)
   pub status : d .status ≡ s .status
 
--- what stands around a message has fewer than 64 bytes
+-- 25 and 23 "point at the first place too": a line more, with the second span
+unfoldable pub firstText : ℕ → ℕ → ℕ → List ℕ
+firstText code start end =
+    if eqb code 23 or eqb code 25 then bytes "first set here" ++ spaced (start ∷ []) ++ spaced (end ∷ []) ++ bytes "\n" else []
+
+-- an answer: the line of `typecheck`, and that line
+unfoldable pub toldText : Answer → List ℕ
+toldText a = lineOf a ++ firstText (a .code) (a .secondStart) (a .secondEnd)
+
+-- what stands around a message has fewer than 64 bytes, and the line more fewer than 40
 abbrev pub lineRoom : ℕ
-lineRoom = 64 + messageBuffer
+lineRoom = 64 + 40 + messageBuffer
 
--- `check`: the line of `typecheck`
+-- `check`
 unfoldable pub checkSaid : Answer → Said
-checkSaid a = record { text = lineOf a; status = statusOf (a .code) }
+checkSaid a = record { text = toldText a; status = statusOf (a .code) }
 
--- `sheet`: the sheet for standard output, and the line of a refusal for standard error
+-- `sheet`: the sheet for standard output, and what tells of a refusal for standard error
 unfoldable pub refusalOf : Answer → List ℕ
-refusalOf a = if eqb (a .code) 0 then [] else lineOf a
+refusalOf a = if eqb (a .code) 0 then [] else toldText a
 
--- the answer's line stands at the front of its buffer in either case; told of it is as much as the refusal has
+-- what tells of the answer stands at the front of its buffer in either case; told of it is as much as the refusal has
 pub record Writes (a : Answer) (oldSheet newSheet oldLine newLine : List ℕ) (w : Written) : Type 0 where
   pub sheet : Fronted (a .sheet) oldSheet newSheet (w .sheet)
-  pub line : newLine ≡ overlaid (lineOf a) oldLine
+  pub line : newLine ≡ overlaid (toldText a) oldLine
   pub told : w .line ≡ length (refusalOf a)
   pub status : w .status ≡ statusOf (a .code)
 
@@ -91,7 +100,7 @@ lookText approved sheet = bytes "look\n" ++ changesText (changes (namesIn approv
 unfoldable pub loadSaidBy : Loading → Answer → List ℕ → Said
 loadSaidBy loads a approved = record { text = bytes "loads\n"; status = Fine }
 loadSaidBy look a approved = record { text = lookText approved (a .sheet); status = Changed }
-loadSaidBy refused a approved = record { text = lineOf a; status = Refused }
+loadSaidBy refused a approved = record { text = toldText a; status = Refused }
 
 unfoldable pub loadSaid : Answer → List ℕ → Said
 loadSaid a approved = loadSaidBy (loading a approved) a approved
@@ -101,5 +110,5 @@ abbrev pub loadRoom : ℕ
 loadRoom = 5 + largestChanges
 
 unfoldable pub said-open : Unit {0}
-unfolding statusOf checkSaid refusalOf showSaid changedIf changesSaid comparedAs namesIn lookText loadSaidBy loadSaid
+unfolding statusOf firstText toldText checkSaid refusalOf showSaid changedIf changesSaid comparedAs namesIn lookText loadSaidBy loadSaid
 said-open = tt

@@ -9,10 +9,11 @@ ghost use Rattle.meaning.specs.Read.{isSheet};
 ghost use Rattle.meaning.specs.Answer.{answer};
 ghost use Rattle.meaning.specs.Show.{changesText, changes as changesOf};
 ghost use Rattle.line.specs.Printing.{Fronted};
+ghost use Rattle.words.specs.Words.{Wrote};
 ghost use Rattle.show.specs.Words.{tellingLength};
 ghost use Rattle.verbs.specs.Words.{verbOf, withFile, withWord, settingIf};
 ghost use Rattle.verbs.specs.Words.{kindOf as kindTold, commandOf as commandAsked};
-ghost use Rattle.verbs.specs.Said.{statusNumber, statusOf, Says, checkSaid, lineRoom, Writes};
+ghost use Rattle.verbs.specs.Said.{statusNumber, statusOf, Says, firstText, checkSaid, lineRoom, Writes};
 ghost use Rattle.verbs.specs.Said.{showSaid, comparedAs, changesSaid, namesIn, lookText};
 ghost use Rattle.verbs.specs.Said.{loadSaid, loadRoom};
 use checker::PLAIN;
@@ -23,7 +24,9 @@ use checker::replied;
 use limits::LARGEST_CHANGES;
 use limits::MESSAGE_BUFFER;
 use limits::SHEET_BUFFER;
+use line::put_spaced;
 use load::Loading;
+use rules::codes;
 use show::Telling;
 use words::put;
 use words::same;
@@ -261,11 +264,27 @@ pub struct Done {
     pub status: Status,
 }
 
-// Room for the line of an image: what stands around its message has fewer than 64 bytes.
-pub const LINE: usize = 64 + MESSAGE_BUFFER;
+// Room for the line of an image, around whose message stand fewer than 64 bytes, and for that of its first place.
+pub const LINE: usize = 64 + 40 + MESSAGE_BUFFER;
 
 // Room for `look` and what changed.
 pub const LOAD: usize = 5 + LARGEST_CHANGES;
+
+// 25 and 23 "point at the first place too": a line more, with the second span.
+fn put_first(out: &mut [u8], at: usize, code: u32, start: u32, end: u32) -> usize
+    requires { ⌜ at + 40 ≤ length (now out) ⌝ }
+    ensures { λ r. ⌜ Wrote (now (out .entry)) at (firstText code start end) (now (out .exit)) r ⌝ }
+{
+    match code {
+        codes::CANNOT_ASSIGN | codes::INCOMPATIBLE_BRANCHES => {
+            let first = put(out, at, b"first set here");
+            let second = put_spaced(out, first, start);
+            let last = put_spaced(out, second, end);
+            put(out, last, b"\n")
+        }
+        _ => at,
+    }
+}
 
 pub fn say_check(setting: u32, image: &[u8], out: &mut [u8]) -> Done
     requires { ⌜ lineRoom ≤ length (now out) ⌝ }
@@ -277,13 +296,11 @@ pub fn say_check(setting: u32, image: &[u8], out: &mut [u8]) -> Done
     let mut message = [0u8; MESSAGE_BUFFER];
     let p = line::of_image(setting, image, &mut sheet, &mut message, out);
     let status = status_of(p.code);
-    Done {
-        length: p.length,
-        status,
-    }
+    let length = put_first(out, p.length, p.code, p.second_start, p.second_end);
+    Done { length, status }
 }
 
-// How many bytes of the sheet go to standard output, and how many of the line to standard error.
+// How many bytes of the sheet go to standard output, and how many of a refusal's lines to standard error.
 pub struct Written {
     pub sheet: usize,
     pub line: usize,
@@ -298,6 +315,7 @@ pub fn write_sheet(setting: u32, image: &[u8], sheet: &mut [u8], out: &mut [u8])
 {
     let mut message = [0u8; MESSAGE_BUFFER];
     let p = line::of_image(setting, image, sheet, &mut message, out);
+    let line = put_first(out, p.length, p.code, p.second_start, p.second_end);
     if p.code == 0 {
         return Written {
             sheet: p.sheet,
@@ -307,7 +325,7 @@ pub fn write_sheet(setting: u32, image: &[u8], sheet: &mut [u8], out: &mut [u8])
     }
     Written {
         sheet: p.sheet,
-        line: p.length,
+        line,
         status: Status::Refused,
     }
 }
@@ -435,7 +453,7 @@ pub fn say_load(setting: u32, image: &[u8], approved: &[u8], out: &mut [u8]) -> 
         },
         Loading::Refused(a) => {
             let p = replied(a);
-            let length = line::write(
+            let line = line::write(
                 p.code,
                 line::word(p.place),
                 p.span_start,
@@ -445,7 +463,7 @@ pub fn say_load(setting: u32, image: &[u8], approved: &[u8], out: &mut [u8]) -> 
                 out,
             );
             Done {
-                length,
+                length: put_first(out, line, p.code, p.second_start, p.second_end),
                 status: Status::Refused,
             }
         }

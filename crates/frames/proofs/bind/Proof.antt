@@ -8,31 +8,30 @@ use Rattle.frames.proofs.bind.Reads as reads
 use Rattle.frames.proofs.bind.Lts as lts
 use Rattle.frames.proofs.cell_of.Reads as cell-of-reads
 
--- src/lib.rt:66:25
+-- src/lib.rt:164:25
 cell-of-requires : tie.Need-cell-of-requires
-cell-of-requires c κs =
-    c .pre .2
+cell-of-requires c κs = search needs
 
--- src/lib.rt:66:5
+-- src/lib.rt:164:5
 mul-frames : tie.Need-mul-frames
 mul-frames c = search needs
 
--- src/lib.rt:66:5
+-- src/lib.rt:164:5
 mul-frames-2 : tie.Need-mul-frames-2
 mul-frames-2 c = search needs
 
--- src/lib.rt:66:5
+-- src/lib.rt:164:5
 index-1-frames : tie.Need-index-1-frames
 index-1-frames c = search needs
 
--- src/lib.rt:66:5
+-- src/lib.rt:164:5
 index-2-frames : tie.Need-index-2-frames
 index-2-frames c = search needs
 
--- src/lib.rt:62:1
+-- src/lib.rt:159:1
 returns : tie.Need-returns
 returns c =
-    bound (c .cell-of .ensures)
+    bound _ (c .cell-of .ensures .0) (c .cell-of .ensures .1)
 
 pub bind-spec : {M : Type 1} → statement M
 bind-spec =

@@ -54,7 +54,7 @@ unfolding bytes
 returns c =
     let a = wrote (bytes "accepted") (omega (arith, c .before .before .before .before .before .before .before .before .before .before .before .before .before .before .before .before .before .before .pre .1 .1)) (c .before .before .before .before .before .before .before .before .before .before .before .put .ensures .0) (c .before .before .before .before .before .before .before .before .before .before .before .put .ensures .1) in
     let z = wrote (bytes "\n") (omega (arith, c .before .before .before .before .before .before .before .before .before .before .before .before .before .before .before .before .before .before .pre .1 .1, a .long, a .ends, c .before .before .before .before .before .before .before .put-three .ensures .0 .long, c .before .before .before .before .before .before .before .put-three .ensures .1)) (c .before .before .put2 .ensures .0) (c .before .before .put2 .ensures .1) in
-    accepted-wrote (c .before .before .before .before .before .before .before .before .before .before .before .before .before .before .before .before .before .before .args .sheet .now) _ _ (c .before .before .before .before .before .before .before .before .before .before .before .before .before .before .before .get-word .ensures) (c .before .before .before .before .before .before .before .before .before .before .before .before .before .before .get-word2 .ensures) a (c .before .before .before .before .before .before .before .put-three .ensures .0) z
+    (accepted-wrote (c .before .before .before .before .before .before .before .before .before .before .before .before .before .before .before .before .before .before .args .sheet .now) _ _ (c .before .before .before .before .before .before .before .before .before .before .before .before .before .before .before .get-word .ensures) (c .before .before .before .before .before .before .before .before .before .before .before .before .before .before .get-word2 .ensures) a (c .before .before .before .before .before .before .before .put-three .ensures .0) z, omega (arith, a .ends, c .before .before .before .before .before .before .before .put-three .ensures .1, z .ends))
 
 pub accepted-line-spec : {M : Type 1} → statement M
 accepted-line-spec =

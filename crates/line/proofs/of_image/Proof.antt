@@ -1,5 +1,5 @@
 -- The answers stand by name in answers/of_image.txt: the line is that of the check's answer.
-use Rattle.line.proofs.Answered.{place-near, sheet-in, message-in, printable, lined}
+use Rattle.line.proofs.Answered.{place-near, sheet-in, message-in, printable, lined, seconds, line-short}
 use native.Mathlib.Omega.{arith}
 use borrow.Author.Needs.{needs}
 use Rattle.line.proofs.of_image.Statement.{statement}
@@ -50,7 +50,10 @@ same-length-3 c = search needs
 -- src/lib.rt:120:1
 returns : tie.Need-returns
 returns c =
-    lined _ _ _ _ _ _ (c .before .before .before .before .before .before .before .before .before .before .before .before .before .cablebirch-check .ensures) (c .before .before .before .before .before .before .before .before .word .ensures) (rw (c .before .before .before .before .before .before .text .ensures, c .before .before .before .before .text2 .ensures) at (c .before .before .write .ensures)) (search needs)
+    let w = rw (c .before .before .before .before .before .before .text .ensures, c .before .before .before .before .text2 .ensures) at (c .before .before .write .ensures) in (
+      lined _ _ _ _ _ _ (c .before .before .before .before .before .before .before .before .before .before .before .before .before .cablebirch-check .ensures) (c .before .before .before .before .before .before .before .before .word .ensures) (w .0, w .1 .0) (search needs),
+      (seconds _ _ _ _ _ _ (c .before .before .before .before .before .before .before .before .before .before .before .before .before .cablebirch-check .ensures), line-short _ _ _ _ _ _ (c .before .before .before .before .before .before .before .before .before .before .before .before .before .cablebirch-check .ensures) (w .1 .1)),
+    )
 
 pub of-image-spec : {M : Type 1} → statement M
 of-image-spec =

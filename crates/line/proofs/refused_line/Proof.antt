@@ -66,8 +66,10 @@ unfolding bytes
 returns c =
     let a = wrote (bytes "refused") (omega (arith, c .before .before .before .before .before .before .before .before .before .before .before .before .before .before .before .before .before .before .before .before .before .before .before .before .before .before .before .before .before .pre)) (c .before .before .before .before .before .before .before .before .before .before .before .before .before .before .before .before .before .before .before .before .before .before .before .before .put .ensures .0) (c .before .before .before .before .before .before .before .before .before .before .before .before .before .before .before .before .before .before .before .before .before .before .before .before .put .ensures .1) in
     let s = wrote (bytes " ") (omega (arith, c .before .before .before .before .before .before .before .before .before .before .before .before .before .before .before .before .before .before .before .before .before .before .before .before .before .before .before .before .before .pre, a .long, a .ends, c .before .before .before .before .before .before .before .before .before .before .before .before .before .before .before .before .before .before .before .before .put-spaced .ensures .0 .long, c .before .before .before .before .before .before .before .before .before .before .before .before .before .before .before .before .before .before .before .before .put-spaced .ensures .1, c .before .before .before .before .before .before .before .before .before .before .before .before .before .before .before .before .put-three .ensures .0 .long, c .before .before .before .before .before .before .before .before .before .before .before .before .before .before .before .before .put-three .ensures .1)) (c .before .before .before .before .before .before .before .before .before .before .before .put2 .ensures .0) (c .before .before .before .before .before .before .before .before .before .before .before .put2 .ensures .1) in
-    let z = wrote (bytes "\n") (omega (arith, c .before .before .before .before .before .before .before .before .before .before .before .before .before .before .before .before .before .before .before .before .before .before .before .before .before .before .before .before .before .pre, a .long, a .ends, c .before .before .before .before .before .before .before .before .before .before .before .before .before .before .before .before .before .before .before .before .put-spaced .ensures .0 .long, c .before .before .before .before .before .before .before .before .before .before .before .before .before .before .before .before .before .before .before .before .put-spaced .ensures .1, c .before .before .before .before .before .before .before .before .before .before .before .before .before .before .before .before .put-three .ensures .0 .long, c .before .before .before .before .before .before .before .before .before .before .before .before .before .before .before .before .put-three .ensures .1, s .long, s .ends, c .before .before .before .before .before .before .before .put-message .ensures .0 .long, c .before .before .before .before .before .before .before .put-message .ensures .1)) (c .before .before .put3 .ensures .0) (c .before .before .put3 .ensures .1) in
-    refused-wrote _ _ _ _ _ a (c .before .before .before .before .before .before .before .before .before .before .before .before .before .before .before .before .before .before .before .before .put-spaced .ensures .0) (c .before .before .before .before .before .before .before .before .before .before .before .before .before .before .before .before .put-three .ensures .0) s (c .before .before .before .before .before .before .before .put-message .ensures .0) z
+    let z = wrote (bytes "\n") (omega (arith, c .before .before .before .before .before .before .before .before .before .before .before .before .before .before .before .before .before .before .before .before .before .before .before .before .before .before .before .before .before .pre, a .long, a .ends, c .before .before .before .before .before .before .before .before .before .before .before .before .before .before .before .before .before .before .before .before .put-spaced .ensures .0 .long, c .before .before .before .before .before .before .before .before .before .before .before .before .before .before .before .before .before .before .before .before .put-spaced .ensures .1, c .before .before .before .before .before .before .before .before .before .before .before .before .before .before .before .before .put-three .ensures .0 .long, c .before .before .before .before .before .before .before .before .before .before .before .before .before .before .before .before .put-three .ensures .1, s .long, s .ends, c .before .before .before .before .before .before .before .put-message .ensures .0 .long, c .before .before .before .before .before .before .before .put-message .ensures .1)) (c .before .before .put3 .ensures .0) (c .before .before .put3 .ensures .1) in (
+      refused-wrote _ _ _ _ _ a (c .before .before .before .before .before .before .before .before .before .before .before .before .before .before .before .before .before .before .before .before .put-spaced .ensures .0) (c .before .before .before .before .before .before .before .before .before .before .before .before .before .before .before .before .put-three .ensures .0) s (c .before .before .before .before .before .before .before .put-message .ensures .0) z,
+      omega (arith, a .ends, c .before .before .before .before .before .before .before .before .before .before .before .before .before .before .before .before .before .before .before .before .put-spaced .ensures .1, c .before .before .before .before .before .before .before .before .before .before .before .before .before .before .before .before .put-three .ensures .1, s .ends, c .before .before .before .before .before .before .before .put-message .ensures .1, z .ends),
+    )
 
 pub refused-line-spec : {M : Type 1} → statement M
 refused-line-spec =

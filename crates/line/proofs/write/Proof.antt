@@ -10,11 +10,11 @@ accepted-line-requires c κs =
 
 same-length : tie.Need-same-length
 same-length c =
-    c .before .before .accepted-line .ensures .long
+    c .before .before .accepted-line .ensures .0 .long
 
 returns : tie.Need-returns
 returns c =
-    accepted-whole _ _ _ _ _ _ (c .before .before .before .before .if1 .taken) (c .before .before .accepted-line .ensures)
+    let w = accepted-whole _ _ _ _ _ _ (c .before .before .before .before .if1 .taken) (c .before .before .accepted-line .ensures .0) in (w .0, (w .1, omega (arith, c .before .before .accepted-line .ensures .1)))
 
 refused-line-requires : tie.Need-refused-line-requires
 refused-line-requires c κs =
@@ -22,11 +22,11 @@ refused-line-requires c κs =
 
 same-length-2 : tie.Need-same-length-2
 same-length-2 c =
-    c .before .before .refused-line .ensures .long
+    c .before .before .refused-line .ensures .0 .long
 
 returns-2 : tie.Need-returns-2
 returns-2 c =
-    refused-whole _ _ _ _ _ _ (c .before .before .before .before .if1 .left) (c .before .before .refused-line .ensures)
+    let w = refused-whole _ _ _ _ _ _ (c .before .before .before .before .if1 .left) (c .before .before .refused-line .ensures .0) in (w .0, (w .1, c .before .before .refused-line .ensures .1))
 
 pub write-spec : {M : Type 1} → statement M
 write-spec =

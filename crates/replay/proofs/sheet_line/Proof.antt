@@ -72,7 +72,8 @@ same-length-2 c = search needs
 -- src/main.rt:112:1
 returns-2 : tie.Need-returns-2
 returns-2 c =
-    refused-fronted _ _ _ (c .before .before .before .before .before .before .before .before .before .before .cablebirch-write-sheet .ensures) (length-replicate {A = ℕ} 42532 0) (c .before .before .before .before .before .before .before .before .if1 .left) (rw (c .before .before .before .before .before .before .text2 .ensures, c .before .before .before .before .text3 .ensures) at (c .before .before .write .ensures)) (search needs)
+    let w = rw (c .before .before .before .before .before .before .text2 .ensures, c .before .before .before .before .text3 .ensures) at (c .before .before .write .ensures) in
+    refused-fronted _ _ _ (c .before .before .before .before .before .before .before .before .before .before .cablebirch-write-sheet .ensures) (length-replicate {A = ℕ} 42532 0) (c .before .before .before .before .before .before .before .before .if1 .left) (w .0, w .1 .0) (search needs)
 
 pub sheet-line-spec : {M : Type 1} → statement M
 sheet-line-spec =

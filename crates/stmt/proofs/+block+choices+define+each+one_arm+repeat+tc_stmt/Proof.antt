@@ -1,6 +1,4 @@
--- The answers stand by name in answers/cycle.txt: the walk over the statements meets its contracts: the depth that is
--- left falls. In a Block what is left ends as all of it ends; in an If the branches so far are told of; the measure of
--- both loops is what is left.
+-- The answers stand by name in answers/cycle.txt.
 use Prim.Native.Nat.{_+_, _-_, _*_, _<_, ℕ}
 use Rattle.state.proofs.Noting.{kept-as, kept-noting}
 use Rattle.stmt.proofs.Laws.{done-any, drops-if, few-nodes, pair-for, pair-while, ready-nodes, second-of}
@@ -16,8 +14,10 @@ use borrow.Author.Tests.{not-false, not-true}
 use mathlib.Core.Bool.{true}
 use mathlib.Core.Logic.{inl, inr, ⊎-elim}
 use mathlib.Core.Path.{_∙_, _≡_, ap, refl, sym}
+use Rattle.expr.proofs.Rows.{shallow}
 use native.Mathlib.Omega.{arith}
 use borrow.Author.Needs.{needs}
+use Prim.Native.Nat.{ℕ, _<_}
 use borrow.Fn.Kinds.{In}
 use borrow.Fn.PlainCycle.{Measures, is, falls, and}
 use Rattle.stmt.proofs.block.Reads as block
@@ -45,11 +45,12 @@ use Rattle.frames.proofs.bind.Reads as bind-reads
 use Rattle.frames.proofs.clear.Reads as clear-reads
 use Rattle.frames.proofs.commit.Reads as commit-reads
 use Rattle.frames.proofs.note_branch.Reads as note-branch-reads
+use Rattle.frames.proofs.since.Reads as since-reads
 use Rattle.image.proofs.Cursor.next.Reads as next-reads
 use Rattle.image.proofs.Cursor.over.Reads as over-reads
+use Rattle.state.proofs.conflict.Reads as conflict-reads
 use Rattle.state.proofs.refuse.Reads as refuse-reads
 use Rattle.state.proofs.small.Reads as small-reads
-use Rattle.expr.proofs.Rows.{shallow}
 use Rattle.stmt.proofs.after_arm.Reads as after-arm-reads
 use Rattle.stmt.proofs.elements.Reads as elements-reads
 use Rattle.stmt.proofs.end_of.Reads as end-of-reads
@@ -132,22 +133,27 @@ abbrev block-μ-loop : block-lts.MeasureT-loop
 block-μ-loop image rows₀ table₀ notes₀ stack₀ depth looped drops plain d next₀ left₀ rows table notes stack next left =
     left
 
+-- src/lib.rt:374:9
 block-next-requires : (t : ℕ) → block-lts.Need-next-requires (next-reads.Asked, next-reads.Learnt, tc-stmt-below t, tc-stmt.Post, over-reads.Asked, over-reads.Learnt) (block-at t) block.Post block-Inv-loop block-μ-loop
 block-next-requires t c κs =
     (((c .before .before .pre .1 .1 .0) .ready .sound) .headed, record { nodes = (c .before .before .pre .1 .1 .0) .ready .nodes-at; within = (c .before .before .pre .1 .1 .1) .there })
 
+-- src/lib.rt:376:13
 block-sub-d : (t : ℕ) → block-lts.Need-sub-d (next-reads.Asked, next-reads.Learnt, tc-stmt-below t, tc-stmt.Post, over-reads.Asked, over-reads.Learnt) (block-at t) block.Post block-Inv-loop block-μ-loop
 block-sub-d t c =
     let h = (shallow ((c .before .before .before .before .pre .1 .1 .0) .ready .sound) (c .before .before .before .before .pre .1 .1 .1)) in
     omega arith
 
+-- src/lib.rt:378:20
 block-cast-left : (t : ℕ) → block-lts.Need-cast-left (next-reads.Asked, next-reads.Learnt, tc-stmt-below t, tc-stmt.Post, over-reads.Asked, over-reads.Learnt) (block-at t) block.Post block-Inv-loop block-μ-loop
 block-cast-left t c = search needs
 
+-- src/lib.rt:379:5
 block-loop-holds : (t : ℕ) → block-lts.Need-loop-holds (next-reads.Asked, next-reads.Learnt, tc-stmt-below t, tc-stmt.Post, over-reads.Asked, over-reads.Learnt) (block-at t) block.Post block-Inv-loop block-μ-loop
 block-loop-holds t c =
     (loop-begin _ _ (standing-nodes (c .before .before .before .next .ensures .nodes) (c .before .before .before .before .before .before .pre .1 .1 .0)) (c .before .before .before .before .before .before .pre .1 .1 .1) (c .before .before .before .next .ensures) refl, (c .before .before .before .before .before .before .pre .1 .0), c .before .before .before .next .ensures .nodes)
 
+-- src/lib.rt:380:13
 block-tc-stmt-requires : (t : ℕ) → block-lts.Need-tc-stmt-requires (next-reads.Asked, next-reads.Learnt, tc-stmt-below t, tc-stmt.Post, over-reads.Asked, over-reads.Learnt) (block-at t) block.Post block-Inv-loop block-μ-loop
 block-tc-stmt-requires t c κs =
     (omega (arith, c .before .before .before .before .before .before .before .before .before .before .before .before .pre .0, (shallow ((c .before .before .before .before .before .before .before .before .before .before .before .before .pre .1 .1 .0) .ready .sound) (c .before .before .before .before .before .before .before .before .before .before .before .before .pre .1 .1 .1))), (c .before .before .before .before .before .loop .inv .1, (standing-nodes (c .before .before .before .before .before .loop .inv .2) (loop-standing (c .before .before .before .before .before .loop .inv .0) (c .before .before .before .before .loop-test .taken)), loop-at (c .before .before .before .before .before .loop .inv .0) (c .before .before .before .before .loop-test .taken))))
@@ -155,37 +161,47 @@ block-tc-stmt-requires t c κs =
 block-enum-told : (t : ℕ) → block-lts.Need-enum-told (next-reads.Asked, next-reads.Learnt, tc-stmt-below t, tc-stmt.Post, over-reads.Asked, over-reads.Learnt) (block-at t) block.Post block-Inv-loop block-μ-loop
 block-enum-told t c = search needs
 
+-- src/lib.rt:384:20
 block-enum-told-2 : (t : ℕ) → block-lts.Need-enum-told-2 (next-reads.Asked, next-reads.Learnt, tc-stmt-below t, tc-stmt.Post, over-reads.Asked, over-reads.Learnt) (block-at t) block.Post block-Inv-loop block-μ-loop
 block-enum-told-2 t c = search needs
 
+-- src/lib.rt:385:21
 block-same-length : (t : ℕ) → block-lts.Need-same-length (next-reads.Asked, next-reads.Learnt, tc-stmt-below t, tc-stmt.Post, over-reads.Asked, over-reads.Learnt) (block-at t) block.Post block-Inv-loop block-μ-loop
 block-same-length t c = search needs
 
+-- src/lib.rt:385:21
 block-returns : (t : ℕ) → block-lts.Need-returns (next-reads.Asked, next-reads.Learnt, tc-stmt-below t, tc-stmt.Post, over-reads.Asked, over-reads.Learnt) (block-at t) block.Post block-Inv-loop block-μ-loop
 block-returns t c =
     let e = c .before .enum-told2 .given .1 in
     (rw (← (parent-of (c .before .before .before .before .before .before .before .before .before .before .before .before .before .before .before .next .ensures))) (loop-wrong (c .before .before .before .before .before .before .before .before .before .before .before .loop .inv .0) (c .before .before .before .before .before .before .before .before .before .before .loop-test .taken) (c .before .before .before .before .before .tc-stmt .ensures .0) (end-ill (c .before .before .before .before .before .tc-stmt .ensures .1) e) (end-typing (c .before .before .before .before .before .tc-stmt .ensures .1) e) (not-true _ (c .if1 .taken))), (c .before .before .before .before .before .tc-stmt .ensures .1))
 
+-- src/lib.rt:388:29
 block-enum-told-3 : (t : ℕ) → block-lts.Need-enum-told-3 (next-reads.Asked, next-reads.Learnt, tc-stmt-below t, tc-stmt.Post, over-reads.Asked, over-reads.Learnt) (block-at t) block.Post block-Inv-loop block-μ-loop
 block-enum-told-3 t c = search needs
 
+-- src/lib.rt:388:29
 block-same-length-2 : (t : ℕ) → block-lts.Need-same-length-2 (next-reads.Asked, next-reads.Learnt, tc-stmt-below t, tc-stmt.Post, over-reads.Asked, over-reads.Learnt) (block-at t) block.Post block-Inv-loop block-μ-loop
 block-same-length-2 t c = search needs
 
+-- src/lib.rt:388:29
 block-returns-2 : (t : ℕ) → block-lts.Need-returns-2 (next-reads.Asked, next-reads.Learnt, tc-stmt-below t, tc-stmt.Post, over-reads.Asked, over-reads.Learnt) (block-at t) block.Post block-Inv-loop block-μ-loop
 block-returns-2 t c =
     (rw (← (parent-of (c .before .before .before .before .before .before .before .before .before .before .before .before .before .before .next .ensures))) (loop-deep (c .before .before .before .before .before .before .before .before .before .before .loop .inv .0) (c .before .before .before .before .before .before .before .before .before .loop-test .taken) (c .before .before .before .before .tc-stmt .ensures .0) (end-deep _ (c .enum-told3 .given .1))), (c .before .before .before .before .tc-stmt .ensures .1))
 
+-- src/lib.rt:390:13
 block-over-requires : (t : ℕ) → block-lts.Need-over-requires (next-reads.Asked, next-reads.Learnt, tc-stmt-below t, tc-stmt.Post, over-reads.Asked, over-reads.Learnt) (block-at t) block.Post block-Inv-loop block-μ-loop
 block-over-requires t c κs =
     (((c .before .before .before .before .before .before .before .before .before .before .before .before .before .before .before .before .pre .1 .1 .0) .ready .sound) .headed, record { nodes = c .before .before .before .before .before .before .before .before .before .loop .inv .2; within = loop-at (c .before .before .before .before .before .before .before .before .before .loop .inv .0) (c .before .before .before .before .before .before .before .before .loop-test .taken) .there })
 
+-- src/lib.rt:392:9
 block-sub-left : (t : ℕ) → block-lts.Need-sub-left (next-reads.Asked, next-reads.Learnt, tc-stmt-below t, tc-stmt.Post, over-reads.Asked, over-reads.Learnt) (block-at t) block.Post block-Inv-loop block-μ-loop
 block-sub-left t c = search needs
 
+-- src/lib.rt:379:5
 block-loop-less : (t : ℕ) → block-lts.Need-loop-less (next-reads.Asked, next-reads.Learnt, tc-stmt-below t, tc-stmt.Post, over-reads.Asked, over-reads.Learnt) (block-at t) block.Post block-Inv-loop block-μ-loop
 block-loop-less t c = search needs
 
+-- src/lib.rt:379:5
 block-loop-again : (t : ℕ) → block-lts.Need-loop-again (next-reads.Asked, next-reads.Learnt, tc-stmt-below t, tc-stmt.Post, over-reads.Asked, over-reads.Learnt) (block-at t) block.Post block-Inv-loop block-μ-loop
 block-loop-again t c = (
   loop-next (c .before .before .before .before .before .before .before .before .before .before .before .loop .inv .0) (c .before .before .before .before .before .before .before .before .before .before .loop-test .taken) (c .before .before .before .before .before .tc-stmt .ensures .0) (stops (c .before .over .ensures))
@@ -195,9 +211,11 @@ block-loop-again t c = (
   c .before .over .ensures .nodes,
 )
 
+-- src/lib.rt:357:1
 block-same-length-3 : (t : ℕ) → block-lts.Need-same-length-3 (next-reads.Asked, next-reads.Learnt, tc-stmt-below t, tc-stmt.Post, over-reads.Asked, over-reads.Learnt) (block-at t) block.Post block-Inv-loop block-μ-loop
 block-same-length-3 t c = search needs
 
+-- src/lib.rt:357:1
 block-returns-3 : (t : ℕ) → block-lts.Need-returns-3 (next-reads.Asked, next-reads.Learnt, tc-stmt-below t, tc-stmt.Post, over-reads.Asked, over-reads.Learnt) (block-at t) block.Post block-Inv-loop block-μ-loop
 block-returns-3 t c =
     (rw (← (parent-of (c .before .before .before .before .before .next .ensures))) (done-any refl refl (loop-end (c .before .loop .inv .0) (c .loop-test .left))), tells-ok (c .before .loop .inv .1) (λ e. done-apart e))
@@ -210,25 +228,31 @@ abbrev choices-μ-loop : choices-lts.MeasureT-loop
 choices-μ-loop image rows table₀ notes₀ stack₀ depth looped plain merged₀ clashes₀ condition top next₀ left₀ table notes stack merged clashes next left =
     left
 
-choices-next-requires : (t : ℕ) → choices-lts.Need-next-requires (next-reads.Asked, next-reads.Learnt, wide32-reads.Asked, wide32-reads.Learnt, one-arm-below t, one-arm.Post, small-reads.Asked, small-reads.Learnt, note-branch-reads.Asked, note-branch-reads.Learnt, after-arm-reads.Asked, after-arm-reads.Learnt, fewer-reads.Asked, fewer-reads.Learnt, commit-reads.Asked, commit-reads.Learnt, refuse-reads.Asked, refuse-reads.Learnt) (choices-at t) choices.Post choices-Inv-loop choices-μ-loop
+-- src/lib.rt:417:9
+choices-next-requires : (t : ℕ) → choices-lts.Need-next-requires (next-reads.Asked, next-reads.Learnt, wide32-reads.Asked, wide32-reads.Learnt, one-arm-below t, one-arm.Post, small-reads.Asked, small-reads.Learnt, note-branch-reads.Asked, note-branch-reads.Learnt, after-arm-reads.Asked, after-arm-reads.Learnt, fewer-reads.Asked, fewer-reads.Learnt, commit-reads.Asked, commit-reads.Learnt, conflict-reads.Asked, conflict-reads.Learnt) (choices-at t) choices.Post choices-Inv-loop choices-μ-loop
 choices-next-requires t c κs =
     (((c .before .before .pre .1 .1 .0) .ready .sound) .headed, record { nodes = (c .before .before .pre .1 .1 .0) .ready .nodes-at; within = (c .before .before .pre .1 .1 .1) .there })
 
-choices-element-copy-out-wide32 : (t : ℕ) → choices-lts.Need-element-copy-out-wide32 (next-reads.Asked, next-reads.Learnt, wide32-reads.Asked, wide32-reads.Learnt, one-arm-below t, one-arm.Post, small-reads.Asked, small-reads.Learnt, note-branch-reads.Asked, note-branch-reads.Learnt, after-arm-reads.Asked, after-arm-reads.Learnt, fewer-reads.Asked, fewer-reads.Learnt, commit-reads.Asked, commit-reads.Learnt, refuse-reads.Asked, refuse-reads.Learnt) (choices-at t) choices.Post choices-Inv-loop choices-μ-loop
+-- src/lib.rt:420:22
+choices-element-copy-out-wide32 : (t : ℕ) → choices-lts.Need-element-copy-out-wide32 (next-reads.Asked, next-reads.Learnt, wide32-reads.Asked, wide32-reads.Learnt, one-arm-below t, one-arm.Post, small-reads.Asked, small-reads.Learnt, note-branch-reads.Asked, note-branch-reads.Learnt, after-arm-reads.Asked, after-arm-reads.Learnt, fewer-reads.Asked, fewer-reads.Learnt, commit-reads.Asked, commit-reads.Learnt, conflict-reads.Asked, conflict-reads.Learnt) (choices-at t) choices.Post choices-Inv-loop choices-μ-loop
 choices-element-copy-out-wide32 t c = search needs
 
-choices-wide32-requires : (t : ℕ) → choices-lts.Need-wide32-requires (next-reads.Asked, next-reads.Learnt, wide32-reads.Asked, wide32-reads.Learnt, one-arm-below t, one-arm.Post, small-reads.Asked, small-reads.Learnt, note-branch-reads.Asked, note-branch-reads.Learnt, after-arm-reads.Asked, after-arm-reads.Learnt, fewer-reads.Asked, fewer-reads.Learnt, commit-reads.Asked, commit-reads.Learnt, refuse-reads.Asked, refuse-reads.Learnt) (choices-at t) choices.Post choices-Inv-loop choices-μ-loop
+-- src/lib.rt:420:9
+choices-wide32-requires : (t : ℕ) → choices-lts.Need-wide32-requires (next-reads.Asked, next-reads.Learnt, wide32-reads.Asked, wide32-reads.Learnt, one-arm-below t, one-arm.Post, small-reads.Asked, small-reads.Learnt, note-branch-reads.Asked, note-branch-reads.Learnt, after-arm-reads.Asked, after-arm-reads.Learnt, fewer-reads.Asked, fewer-reads.Learnt, commit-reads.Asked, commit-reads.Learnt, conflict-reads.Asked, conflict-reads.Learnt) (choices-at t) choices.Post choices-Inv-loop choices-μ-loop
 choices-wide32-requires t c κs =
     search needs
 
-choices-cast-left : (t : ℕ) → choices-lts.Need-cast-left (next-reads.Asked, next-reads.Learnt, wide32-reads.Asked, wide32-reads.Learnt, one-arm-below t, one-arm.Post, small-reads.Asked, small-reads.Learnt, note-branch-reads.Asked, note-branch-reads.Learnt, after-arm-reads.Asked, after-arm-reads.Learnt, fewer-reads.Asked, fewer-reads.Learnt, commit-reads.Asked, commit-reads.Learnt, refuse-reads.Asked, refuse-reads.Learnt) (choices-at t) choices.Post choices-Inv-loop choices-μ-loop
+-- src/lib.rt:422:20
+choices-cast-left : (t : ℕ) → choices-lts.Need-cast-left (next-reads.Asked, next-reads.Learnt, wide32-reads.Asked, wide32-reads.Learnt, one-arm-below t, one-arm.Post, small-reads.Asked, small-reads.Learnt, note-branch-reads.Asked, note-branch-reads.Learnt, after-arm-reads.Asked, after-arm-reads.Learnt, fewer-reads.Asked, fewer-reads.Learnt, commit-reads.Asked, commit-reads.Learnt, conflict-reads.Asked, conflict-reads.Learnt) (choices-at t) choices.Post choices-Inv-loop choices-μ-loop
 choices-cast-left t c = search needs
 
-choices-loop-holds : (t : ℕ) → choices-lts.Need-loop-holds (next-reads.Asked, next-reads.Learnt, wide32-reads.Asked, wide32-reads.Learnt, one-arm-below t, one-arm.Post, small-reads.Asked, small-reads.Learnt, note-branch-reads.Asked, note-branch-reads.Learnt, after-arm-reads.Asked, after-arm-reads.Learnt, fewer-reads.Asked, fewer-reads.Learnt, commit-reads.Asked, commit-reads.Learnt, refuse-reads.Asked, refuse-reads.Learnt) (choices-at t) choices.Post choices-Inv-loop choices-μ-loop
+-- src/lib.rt:423:5
+choices-loop-holds : (t : ℕ) → choices-lts.Need-loop-holds (next-reads.Asked, next-reads.Learnt, wide32-reads.Asked, wide32-reads.Learnt, one-arm-below t, one-arm.Post, small-reads.Asked, small-reads.Learnt, note-branch-reads.Asked, note-branch-reads.Learnt, after-arm-reads.Asked, after-arm-reads.Learnt, fewer-reads.Asked, fewer-reads.Learnt, commit-reads.Asked, commit-reads.Learnt, conflict-reads.Asked, conflict-reads.Learnt) (choices-at t) choices.Post choices-Inv-loop choices-μ-loop
 choices-loop-holds t c =
     (choosing-begin _ (standing-nodes (c .before .before .before .before .before .next .ensures .nodes) (standing-as refl (c .before .wide32 .ensures .0) refl (c .before .before .before .before .before .before .before .before .pre .1 .1 .0))) (c .before .before .before .before .before .before .before .before .pre .1 .1 .1) (c .before .before .before .before .before .next .ensures) refl, sym (c .before .wide32 .ensures .0), (c .before .before .before .before .before .before .before .before .pre .1 .0), c .before .before .before .before .before .next .ensures .nodes)
 
-choices-one-arm-requires : (t : ℕ) → choices-lts.Need-one-arm-requires (next-reads.Asked, next-reads.Learnt, wide32-reads.Asked, wide32-reads.Learnt, one-arm-below t, one-arm.Post, small-reads.Asked, small-reads.Learnt, note-branch-reads.Asked, note-branch-reads.Learnt, after-arm-reads.Asked, after-arm-reads.Learnt, fewer-reads.Asked, fewer-reads.Learnt, commit-reads.Asked, commit-reads.Learnt, refuse-reads.Asked, refuse-reads.Learnt) (choices-at t) choices.Post choices-Inv-loop choices-μ-loop
+-- src/lib.rt:425:13
+choices-one-arm-requires : (t : ℕ) → choices-lts.Need-one-arm-requires (next-reads.Asked, next-reads.Learnt, wide32-reads.Asked, wide32-reads.Learnt, one-arm-below t, one-arm.Post, small-reads.Asked, small-reads.Learnt, note-branch-reads.Asked, note-branch-reads.Learnt, after-arm-reads.Asked, after-arm-reads.Learnt, fewer-reads.Asked, fewer-reads.Learnt, commit-reads.Asked, commit-reads.Learnt, conflict-reads.Asked, conflict-reads.Learnt) (choices-at t) choices.Post choices-Inv-loop choices-μ-loop
 choices-one-arm-requires t c κs = (
   omega (arith, c .before .before .before .before .before .before .before .before .before .before .before .before .before .before .before .pre .0),
   (
@@ -240,51 +264,62 @@ choices-one-arm-requires t c κs = (
   ),
 )
 
-choices-element-copy-out-wide32-2 : (t : ℕ) → choices-lts.Need-element-copy-out-wide32-2 (next-reads.Asked, next-reads.Learnt, wide32-reads.Asked, wide32-reads.Learnt, one-arm-below t, one-arm.Post, small-reads.Asked, small-reads.Learnt, note-branch-reads.Asked, note-branch-reads.Learnt, after-arm-reads.Asked, after-arm-reads.Learnt, fewer-reads.Asked, fewer-reads.Learnt, commit-reads.Asked, commit-reads.Learnt, refuse-reads.Asked, refuse-reads.Learnt) (choices-at t) choices.Post choices-Inv-loop choices-μ-loop
+-- src/lib.rt:437:27
+choices-element-copy-out-wide32-2 : (t : ℕ) → choices-lts.Need-element-copy-out-wide32-2 (next-reads.Asked, next-reads.Learnt, wide32-reads.Asked, wide32-reads.Learnt, one-arm-below t, one-arm.Post, small-reads.Asked, small-reads.Learnt, note-branch-reads.Asked, note-branch-reads.Learnt, after-arm-reads.Asked, after-arm-reads.Learnt, fewer-reads.Asked, fewer-reads.Learnt, commit-reads.Asked, commit-reads.Learnt, conflict-reads.Asked, conflict-reads.Learnt) (choices-at t) choices.Post choices-Inv-loop choices-μ-loop
 choices-element-copy-out-wide32-2 t c = search needs
 
-choices-wide32-requires-2 : (t : ℕ) → choices-lts.Need-wide32-requires-2 (next-reads.Asked, next-reads.Learnt, wide32-reads.Asked, wide32-reads.Learnt, one-arm-below t, one-arm.Post, small-reads.Asked, small-reads.Learnt, note-branch-reads.Asked, note-branch-reads.Learnt, after-arm-reads.Asked, after-arm-reads.Learnt, fewer-reads.Asked, fewer-reads.Learnt, commit-reads.Asked, commit-reads.Learnt, refuse-reads.Asked, refuse-reads.Learnt) (choices-at t) choices.Post choices-Inv-loop choices-μ-loop
+-- src/lib.rt:437:13
+choices-wide32-requires-2 : (t : ℕ) → choices-lts.Need-wide32-requires-2 (next-reads.Asked, next-reads.Learnt, wide32-reads.Asked, wide32-reads.Learnt, one-arm-below t, one-arm.Post, small-reads.Asked, small-reads.Learnt, note-branch-reads.Asked, note-branch-reads.Learnt, after-arm-reads.Asked, after-arm-reads.Learnt, fewer-reads.Asked, fewer-reads.Learnt, commit-reads.Asked, commit-reads.Learnt, conflict-reads.Asked, conflict-reads.Learnt) (choices-at t) choices.Post choices-Inv-loop choices-μ-loop
 choices-wide32-requires-2 t c κs =
     search needs
 
-choices-small-requires : (t : ℕ) → choices-lts.Need-small-requires (next-reads.Asked, next-reads.Learnt, wide32-reads.Asked, wide32-reads.Learnt, one-arm-below t, one-arm.Post, small-reads.Asked, small-reads.Learnt, note-branch-reads.Asked, note-branch-reads.Learnt, after-arm-reads.Asked, after-arm-reads.Learnt, fewer-reads.Asked, fewer-reads.Learnt, commit-reads.Asked, commit-reads.Learnt, refuse-reads.Asked, refuse-reads.Learnt) (choices-at t) choices.Post choices-Inv-loop choices-μ-loop
+-- src/lib.rt:438:22
+choices-small-requires : (t : ℕ) → choices-lts.Need-small-requires (next-reads.Asked, next-reads.Learnt, wide32-reads.Asked, wide32-reads.Learnt, one-arm-below t, one-arm.Post, small-reads.Asked, small-reads.Learnt, note-branch-reads.Asked, note-branch-reads.Learnt, after-arm-reads.Asked, after-arm-reads.Learnt, fewer-reads.Asked, fewer-reads.Learnt, commit-reads.Asked, commit-reads.Learnt, conflict-reads.Asked, conflict-reads.Learnt) (choices-at t) choices.Post choices-Inv-loop choices-μ-loop
 choices-small-requires t c κs =
     omega (arith, (c .before .before .before .before .before .before .before .before .before .before .before .loop .inv .0) .spent .fit .high)
 
-choices-element-write-notes : (t : ℕ) → choices-lts.Need-element-write-notes (next-reads.Asked, next-reads.Learnt, wide32-reads.Asked, wide32-reads.Learnt, one-arm-below t, one-arm.Post, small-reads.Asked, small-reads.Learnt, note-branch-reads.Asked, note-branch-reads.Learnt, after-arm-reads.Asked, after-arm-reads.Learnt, fewer-reads.Asked, fewer-reads.Learnt, commit-reads.Asked, commit-reads.Learnt, refuse-reads.Asked, refuse-reads.Learnt) (choices-at t) choices.Post choices-Inv-loop choices-μ-loop
+-- src/lib.rt:438:9
+choices-element-write-notes : (t : ℕ) → choices-lts.Need-element-write-notes (next-reads.Asked, next-reads.Learnt, wide32-reads.Asked, wide32-reads.Learnt, one-arm-below t, one-arm.Post, small-reads.Asked, small-reads.Learnt, note-branch-reads.Asked, note-branch-reads.Learnt, after-arm-reads.Asked, after-arm-reads.Learnt, fewer-reads.Asked, fewer-reads.Learnt, commit-reads.Asked, commit-reads.Learnt, conflict-reads.Asked, conflict-reads.Learnt) (choices-at t) choices.Post choices-Inv-loop choices-μ-loop
 choices-element-write-notes t c = search needs
 
-choices-enum-told : (t : ℕ) → choices-lts.Need-enum-told (next-reads.Asked, next-reads.Learnt, wide32-reads.Asked, wide32-reads.Learnt, one-arm-below t, one-arm.Post, small-reads.Asked, small-reads.Learnt, note-branch-reads.Asked, note-branch-reads.Learnt, after-arm-reads.Asked, after-arm-reads.Learnt, fewer-reads.Asked, fewer-reads.Learnt, commit-reads.Asked, commit-reads.Learnt, refuse-reads.Asked, refuse-reads.Learnt) (choices-at t) choices.Post choices-Inv-loop choices-μ-loop
+choices-enum-told : (t : ℕ) → choices-lts.Need-enum-told (next-reads.Asked, next-reads.Learnt, wide32-reads.Asked, wide32-reads.Learnt, one-arm-below t, one-arm.Post, small-reads.Asked, small-reads.Learnt, note-branch-reads.Asked, note-branch-reads.Learnt, after-arm-reads.Asked, after-arm-reads.Learnt, fewer-reads.Asked, fewer-reads.Learnt, commit-reads.Asked, commit-reads.Learnt, conflict-reads.Asked, conflict-reads.Learnt) (choices-at t) choices.Post choices-Inv-loop choices-μ-loop
 choices-enum-told t c = search needs
 
-choices-same-length : (t : ℕ) → choices-lts.Need-same-length (next-reads.Asked, next-reads.Learnt, wide32-reads.Asked, wide32-reads.Learnt, one-arm-below t, one-arm.Post, small-reads.Asked, small-reads.Learnt, note-branch-reads.Asked, note-branch-reads.Learnt, after-arm-reads.Asked, after-arm-reads.Learnt, fewer-reads.Asked, fewer-reads.Learnt, commit-reads.Asked, commit-reads.Learnt, refuse-reads.Asked, refuse-reads.Learnt) (choices-at t) choices.Post choices-Inv-loop choices-μ-loop
+-- src/lib.rt:440:13
+choices-same-length : (t : ℕ) → choices-lts.Need-same-length (next-reads.Asked, next-reads.Learnt, wide32-reads.Asked, wide32-reads.Learnt, one-arm-below t, one-arm.Post, small-reads.Asked, small-reads.Learnt, note-branch-reads.Asked, note-branch-reads.Learnt, after-arm-reads.Asked, after-arm-reads.Learnt, fewer-reads.Asked, fewer-reads.Learnt, commit-reads.Asked, commit-reads.Learnt, conflict-reads.Asked, conflict-reads.Learnt) (choices-at t) choices.Post choices-Inv-loop choices-μ-loop
 choices-same-length t c = search needs
 
-choices-returns : (t : ℕ) → choices-lts.Need-returns (next-reads.Asked, next-reads.Learnt, wide32-reads.Asked, wide32-reads.Learnt, one-arm-below t, one-arm.Post, small-reads.Asked, small-reads.Learnt, note-branch-reads.Asked, note-branch-reads.Learnt, after-arm-reads.Asked, after-arm-reads.Learnt, fewer-reads.Asked, fewer-reads.Learnt, commit-reads.Asked, commit-reads.Learnt, refuse-reads.Asked, refuse-reads.Learnt) (choices-at t) choices.Post choices-Inv-loop choices-μ-loop
+-- src/lib.rt:440:13
+choices-returns : (t : ℕ) → choices-lts.Need-returns (next-reads.Asked, next-reads.Learnt, wide32-reads.Asked, wide32-reads.Learnt, one-arm-below t, one-arm.Post, small-reads.Asked, small-reads.Learnt, note-branch-reads.Asked, note-branch-reads.Learnt, after-arm-reads.Asked, after-arm-reads.Learnt, fewer-reads.Asked, fewer-reads.Learnt, commit-reads.Asked, commit-reads.Learnt, conflict-reads.Asked, conflict-reads.Learnt) (choices-at t) choices.Post choices-Inv-loop choices-μ-loop
 choices-returns t c = (
   rw (← (parent-of (c .before .before .before .before .before .before .before .before .before .before .before .before .before .before .before .before .before .before .before .next .ensures))) (acted-from _ _ _ _ _ _ _ (c .before .before .before .before .before .before .before .before .before .before .before .before .before .before .before .wide32 .ensures .0) (done-moved ((top-set ((c .before .before .before .before .before .before .one-arm .ensures .1) .noting) (c .before .small .ensures)) .moved) (c .before .before .before .before .before .before .one-arm .ensures .1) ((top-set ((c .before .before .before .before .before .before .one-arm .ensures .1) .noting) (c .before .small .ensures)) .top-is) ((top-set ((c .before .before .before .before .before .before .one-arm .ensures .1) .noting) (c .before .small .ensures)) .ret-kept) (choosing-out (c .before .before .before .before .before .before .before .before .before .before .before .before .before .loop .inv .0) (c .before .before .before .before .before .before .before .before .before .before .before .before .loop-test .taken) (armed-from _ _ _ _ _ _ _ _ (c .before .before .before .before .before .before .before .before .before .before .before .before .before .loop .inv .1) (c .before .before .before .before .before .before .one-arm .ensures .0)) (end-other _ (c .before .before .before .before .before .before .one-arm .ensures .1) (c .match .keys2))))),
   tells-moved ((top-set ((c .before .before .before .before .before .before .one-arm .ensures .1) .noting) (c .before .small .ensures)) .moved) (c .before .before .before .before .before .before .one-arm .ensures .1),
 )
 
-choices-note-branch-requires : (t : ℕ) → choices-lts.Need-note-branch-requires (next-reads.Asked, next-reads.Learnt, wide32-reads.Asked, wide32-reads.Learnt, one-arm-below t, one-arm.Post, small-reads.Asked, small-reads.Learnt, note-branch-reads.Asked, note-branch-reads.Learnt, after-arm-reads.Asked, after-arm-reads.Learnt, fewer-reads.Asked, fewer-reads.Learnt, commit-reads.Asked, commit-reads.Learnt, refuse-reads.Asked, refuse-reads.Learnt) (choices-at t) choices.Post choices-Inv-loop choices-μ-loop
+-- src/lib.rt:442:9
+choices-note-branch-requires : (t : ℕ) → choices-lts.Need-note-branch-requires (next-reads.Asked, next-reads.Learnt, wide32-reads.Asked, wide32-reads.Learnt, one-arm-below t, one-arm.Post, small-reads.Asked, small-reads.Learnt, note-branch-reads.Asked, note-branch-reads.Learnt, after-arm-reads.Asked, after-arm-reads.Learnt, fewer-reads.Asked, fewer-reads.Learnt, commit-reads.Asked, commit-reads.Learnt, conflict-reads.Asked, conflict-reads.Learnt) (choices-at t) choices.Post choices-Inv-loop choices-μ-loop
 choices-note-branch-requires t c κs =
     let f = c .before .before .before .before .before .before .before .before .before .before .before .one-arm .ensures .0 .fine (end-shallow _ (c .before .before .before .before .enum-told .given .1)) in
     (((c .before .before .before .before .before .before .before .before .before .before .before .before .before .before .before .before .before .before .loop .inv .0) .spent .fit .high, omega (arith, c .before .before .before .before .before .before .before .wide322 .ensures .0, f .left .fit .high)), ((c .before .before .before .before .before .before .before .before .before .before .before .before .before .before .before .before .before .before .loop .inv .0) .tally .lm, (c .before .before .before .before .before .before .before .before .before .before .before .before .before .before .before .before .before .before .loop .inv .0) .tally .lc))
 
-choices-after-arm-requires : (t : ℕ) → choices-lts.Need-after-arm-requires (next-reads.Asked, next-reads.Learnt, wide32-reads.Asked, wide32-reads.Learnt, one-arm-below t, one-arm.Post, small-reads.Asked, small-reads.Learnt, note-branch-reads.Asked, note-branch-reads.Learnt, after-arm-reads.Asked, after-arm-reads.Learnt, fewer-reads.Asked, fewer-reads.Learnt, commit-reads.Asked, commit-reads.Learnt, refuse-reads.Asked, refuse-reads.Learnt) (choices-at t) choices.Post choices-Inv-loop choices-μ-loop
+-- src/lib.rt:443:9
+choices-after-arm-requires : (t : ℕ) → choices-lts.Need-after-arm-requires (next-reads.Asked, next-reads.Learnt, wide32-reads.Asked, wide32-reads.Learnt, one-arm-below t, one-arm.Post, small-reads.Asked, small-reads.Learnt, note-branch-reads.Asked, note-branch-reads.Learnt, after-arm-reads.Asked, after-arm-reads.Learnt, fewer-reads.Asked, fewer-reads.Learnt, commit-reads.Asked, commit-reads.Learnt, conflict-reads.Asked, conflict-reads.Learnt) (choices-at t) choices.Post choices-Inv-loop choices-μ-loop
 choices-after-arm-requires t c κs =
     let b = choosing-branch (c .before .before .before .before .before .before .before .before .before .before .before .before .before .before .before .before .before .before .before .loop .inv .0) (c .before .before .before .before .before .before .before .before .before .before .before .before .before .before .before .before .before .before .loop-test .taken) in
     (((c .before .before .before .before .before .before .before .before .before .before .before .before .before .before .before .before .before .before .before .before .before .before .before .before .before .before .before .before .pre .1 .1 .0) .ready .sound) .headed, (record { nodes = c .before .before .before .before .before .before .before .before .before .before .before .before .before .before .before .before .before .before .before .loop .inv .3; within = b .first .there }, b .block .there))
 
-choices-fewer-requires : (t : ℕ) → choices-lts.Need-fewer-requires (next-reads.Asked, next-reads.Learnt, wide32-reads.Asked, wide32-reads.Learnt, one-arm-below t, one-arm.Post, small-reads.Asked, small-reads.Learnt, note-branch-reads.Asked, note-branch-reads.Learnt, after-arm-reads.Asked, after-arm-reads.Learnt, fewer-reads.Asked, fewer-reads.Learnt, commit-reads.Asked, commit-reads.Learnt, refuse-reads.Asked, refuse-reads.Learnt) (choices-at t) choices.Post choices-Inv-loop choices-μ-loop
+-- src/lib.rt:444:9
+choices-fewer-requires : (t : ℕ) → choices-lts.Need-fewer-requires (next-reads.Asked, next-reads.Learnt, wide32-reads.Asked, wide32-reads.Learnt, one-arm-below t, one-arm.Post, small-reads.Asked, small-reads.Learnt, note-branch-reads.Asked, note-branch-reads.Learnt, after-arm-reads.Asked, after-arm-reads.Learnt, fewer-reads.Asked, fewer-reads.Learnt, commit-reads.Asked, commit-reads.Learnt, conflict-reads.Asked, conflict-reads.Learnt) (choices-at t) choices.Post choices-Inv-loop choices-μ-loop
 choices-fewer-requires t c κs =
     search needs
 
-choices-loop-less : (t : ℕ) → choices-lts.Need-loop-less (next-reads.Asked, next-reads.Learnt, wide32-reads.Asked, wide32-reads.Learnt, one-arm-below t, one-arm.Post, small-reads.Asked, small-reads.Learnt, note-branch-reads.Asked, note-branch-reads.Learnt, after-arm-reads.Asked, after-arm-reads.Learnt, fewer-reads.Asked, fewer-reads.Learnt, commit-reads.Asked, commit-reads.Learnt, refuse-reads.Asked, refuse-reads.Learnt) (choices-at t) choices.Post choices-Inv-loop choices-μ-loop
+-- src/lib.rt:423:5
+choices-loop-less : (t : ℕ) → choices-lts.Need-loop-less (next-reads.Asked, next-reads.Learnt, wide32-reads.Asked, wide32-reads.Learnt, one-arm-below t, one-arm.Post, small-reads.Asked, small-reads.Learnt, note-branch-reads.Asked, note-branch-reads.Learnt, after-arm-reads.Asked, after-arm-reads.Learnt, fewer-reads.Asked, fewer-reads.Learnt, commit-reads.Asked, commit-reads.Learnt, conflict-reads.Asked, conflict-reads.Learnt) (choices-at t) choices.Post choices-Inv-loop choices-μ-loop
 choices-loop-less t c =
     omega (arith, c .fewer .ensures, (c .before .before .before .before .before .before .before .before .before .before .before .before .before .before .before .before .before .before .before .before .loop-test .taken))
 
-choices-loop-again : (t : ℕ) → choices-lts.Need-loop-again (next-reads.Asked, next-reads.Learnt, wide32-reads.Asked, wide32-reads.Learnt, one-arm-below t, one-arm.Post, small-reads.Asked, small-reads.Learnt, note-branch-reads.Asked, note-branch-reads.Learnt, after-arm-reads.Asked, after-arm-reads.Learnt, fewer-reads.Asked, fewer-reads.Learnt, commit-reads.Asked, commit-reads.Learnt, refuse-reads.Asked, refuse-reads.Learnt) (choices-at t) choices.Post choices-Inv-loop choices-μ-loop
+-- src/lib.rt:423:5
+choices-loop-again : (t : ℕ) → choices-lts.Need-loop-again (next-reads.Asked, next-reads.Learnt, wide32-reads.Asked, wide32-reads.Learnt, one-arm-below t, one-arm.Post, small-reads.Asked, small-reads.Learnt, note-branch-reads.Asked, note-branch-reads.Learnt, after-arm-reads.Asked, after-arm-reads.Learnt, fewer-reads.Asked, fewer-reads.Learnt, commit-reads.Asked, commit-reads.Learnt, conflict-reads.Asked, conflict-reads.Learnt) (choices-at t) choices.Post choices-Inv-loop choices-μ-loop
 choices-loop-again t c = (
   choosing-as (tab-moved ((top-set ((c .before .before .before .before .before .before .before .before .before .before .before .before .before .before .one-arm .ensures .1) .noting) (c .before .before .before .before .before .before .before .before .before .small .ensures)) .moved) _) ((top-set ((c .before .before .before .before .before .before .before .before .before .before .before .before .before .before .one-arm .ensures .1) .noting) (c .before .before .before .before .before .before .before .before .before .small .ensures)) .ret-kept)
       (choosing-next (c .before .before .before .before .before .before .before .before .before .before .before .before .before .before .before .before .before .before .before .before .before .loop .inv .0) (c .before .before .before .before .before .before .before .before .before .before .before .before .before .before .before .before .before .before .before .before .loop-test .taken) (armed-from _ _ _ _ _ _ _ _ (c .before .before .before .before .before .before .before .before .before .before .before .before .before .before .before .before .before .before .before .before .before .loop .inv .1) (c .before .before .before .before .before .before .before .before .before .before .before .before .before .before .one-arm .ensures .0)) (c .before .after-arm .ensures .0) (c .fewer .ensures) (end-well _ (c .before .before .before .before .before .before .before .enum-told .given .1)) (c .before .before .before .before .before .before .before .before .before .before .wide322 .ensures .0) (c .before .before .note-branch .ensures)),
@@ -293,58 +328,71 @@ choices-loop-again t c = (
   c .before .after-arm .ensures .1,
 )
 
-choices-commit-requires : (t : ℕ) → choices-lts.Need-commit-requires (next-reads.Asked, next-reads.Learnt, wide32-reads.Asked, wide32-reads.Learnt, one-arm-below t, one-arm.Post, small-reads.Asked, small-reads.Learnt, note-branch-reads.Asked, note-branch-reads.Learnt, after-arm-reads.Asked, after-arm-reads.Learnt, fewer-reads.Asked, fewer-reads.Learnt, commit-reads.Asked, commit-reads.Learnt, refuse-reads.Asked, refuse-reads.Learnt) (choices-at t) choices.Post choices-Inv-loop choices-μ-loop
+-- src/lib.rt:446:9
+choices-commit-requires : (t : ℕ) → choices-lts.Need-commit-requires (next-reads.Asked, next-reads.Learnt, wide32-reads.Asked, wide32-reads.Learnt, one-arm-below t, one-arm.Post, small-reads.Asked, small-reads.Learnt, note-branch-reads.Asked, note-branch-reads.Learnt, after-arm-reads.Asked, after-arm-reads.Learnt, fewer-reads.Asked, fewer-reads.Learnt, commit-reads.Asked, commit-reads.Learnt, conflict-reads.Asked, conflict-reads.Learnt) (choices-at t) choices.Post choices-Inv-loop choices-μ-loop
 choices-commit-requires t c κs =
     ((c .before .before .before .before .loop .inv .0) .spent .fit .high, (c .before .before .before .before .loop .inv .0) .spent .fit .long)
 
-choices-enum-told-2 : (t : ℕ) → choices-lts.Need-enum-told-2 (next-reads.Asked, next-reads.Learnt, wide32-reads.Asked, wide32-reads.Learnt, one-arm-below t, one-arm.Post, small-reads.Asked, small-reads.Learnt, note-branch-reads.Asked, note-branch-reads.Learnt, after-arm-reads.Asked, after-arm-reads.Learnt, fewer-reads.Asked, fewer-reads.Learnt, commit-reads.Asked, commit-reads.Learnt, refuse-reads.Asked, refuse-reads.Learnt) (choices-at t) choices.Post choices-Inv-loop choices-μ-loop
+-- src/lib.rt:448:25
+choices-enum-told-2 : (t : ℕ) → choices-lts.Need-enum-told-2 (next-reads.Asked, next-reads.Learnt, wide32-reads.Asked, wide32-reads.Learnt, one-arm-below t, one-arm.Post, small-reads.Asked, small-reads.Learnt, note-branch-reads.Asked, note-branch-reads.Learnt, after-arm-reads.Asked, after-arm-reads.Learnt, fewer-reads.Asked, fewer-reads.Learnt, commit-reads.Asked, commit-reads.Learnt, conflict-reads.Asked, conflict-reads.Learnt) (choices-at t) choices.Post choices-Inv-loop choices-μ-loop
 choices-enum-told-2 t c = search needs
 
-choices-enum-known-merge : (t : ℕ) → choices-lts.Need-enum-known-merge (next-reads.Asked, next-reads.Learnt, wide32-reads.Asked, wide32-reads.Learnt, one-arm-below t, one-arm.Post, small-reads.Asked, small-reads.Learnt, note-branch-reads.Asked, note-branch-reads.Learnt, after-arm-reads.Asked, after-arm-reads.Learnt, fewer-reads.Asked, fewer-reads.Learnt, commit-reads.Asked, commit-reads.Learnt, refuse-reads.Asked, refuse-reads.Learnt) (choices-at t) choices.Post choices-Inv-loop choices-μ-loop
+-- src/lib.rt:449:22
+choices-enum-known-merge : (t : ℕ) → choices-lts.Need-enum-known-merge (next-reads.Asked, next-reads.Learnt, wide32-reads.Asked, wide32-reads.Learnt, one-arm-below t, one-arm.Post, small-reads.Asked, small-reads.Learnt, note-branch-reads.Asked, note-branch-reads.Learnt, after-arm-reads.Asked, after-arm-reads.Learnt, fewer-reads.Asked, fewer-reads.Learnt, commit-reads.Asked, commit-reads.Learnt, conflict-reads.Asked, conflict-reads.Learnt) (choices-at t) choices.Post choices-Inv-loop choices-μ-loop
 choices-enum-known-merge t c = search needs
 
-choices-refuse-requires : (t : ℕ) → choices-lts.Need-refuse-requires (next-reads.Asked, next-reads.Learnt, wide32-reads.Asked, wide32-reads.Learnt, one-arm-below t, one-arm.Post, small-reads.Asked, small-reads.Learnt, note-branch-reads.Asked, note-branch-reads.Learnt, after-arm-reads.Asked, after-arm-reads.Learnt, fewer-reads.Asked, fewer-reads.Learnt, commit-reads.Asked, commit-reads.Learnt, refuse-reads.Asked, refuse-reads.Learnt) (choices-at t) choices.Post choices-Inv-loop choices-μ-loop
-choices-refuse-requires t c κs =
-    c .before .before .before .before .before .before .before .before .before .loop .inv .2
+-- src/lib.rt:451:13
+choices-conflict-requires : (t : ℕ) → choices-lts.Need-conflict-requires (next-reads.Asked, next-reads.Learnt, wide32-reads.Asked, wide32-reads.Learnt, one-arm-below t, one-arm.Post, small-reads.Asked, small-reads.Learnt, note-branch-reads.Asked, note-branch-reads.Learnt, after-arm-reads.Asked, after-arm-reads.Learnt, fewer-reads.Asked, fewer-reads.Learnt, commit-reads.Asked, commit-reads.Learnt, conflict-reads.Asked, conflict-reads.Learnt) (choices-at t) choices.Post choices-Inv-loop choices-μ-loop
+choices-conflict-requires t c κs =
+    (c .before .before .before .before .before .before .before .before .before .loop .inv .2, rw (c .before .before .merge .given .1) at (c .before .before .before .before .commit .ensures .near))
 
-choices-same-length-2 : (t : ℕ) → choices-lts.Need-same-length-2 (next-reads.Asked, next-reads.Learnt, wide32-reads.Asked, wide32-reads.Learnt, one-arm-below t, one-arm.Post, small-reads.Asked, small-reads.Learnt, note-branch-reads.Asked, note-branch-reads.Learnt, after-arm-reads.Asked, after-arm-reads.Learnt, fewer-reads.Asked, fewer-reads.Learnt, commit-reads.Asked, commit-reads.Learnt, refuse-reads.Asked, refuse-reads.Learnt) (choices-at t) choices.Post choices-Inv-loop choices-μ-loop
+-- src/lib.rt:399:1
+choices-same-length-2 : (t : ℕ) → choices-lts.Need-same-length-2 (next-reads.Asked, next-reads.Learnt, wide32-reads.Asked, wide32-reads.Learnt, one-arm-below t, one-arm.Post, small-reads.Asked, small-reads.Learnt, note-branch-reads.Asked, note-branch-reads.Learnt, after-arm-reads.Asked, after-arm-reads.Learnt, fewer-reads.Asked, fewer-reads.Learnt, commit-reads.Asked, commit-reads.Learnt, conflict-reads.Asked, conflict-reads.Learnt) (choices-at t) choices.Post choices-Inv-loop choices-μ-loop
 choices-same-length-2 t c = search needs
 
-choices-returns-2 : (t : ℕ) → choices-lts.Need-returns-2 (next-reads.Asked, next-reads.Learnt, wide32-reads.Asked, wide32-reads.Learnt, one-arm-below t, one-arm.Post, small-reads.Asked, small-reads.Learnt, note-branch-reads.Asked, note-branch-reads.Learnt, after-arm-reads.Asked, after-arm-reads.Learnt, fewer-reads.Asked, fewer-reads.Learnt, commit-reads.Asked, commit-reads.Learnt, refuse-reads.Asked, refuse-reads.Learnt) (choices-at t) choices.Post choices-Inv-loop choices-μ-loop
+-- src/lib.rt:399:1
+choices-returns-2 : (t : ℕ) → choices-lts.Need-returns-2 (next-reads.Asked, next-reads.Learnt, wide32-reads.Asked, wide32-reads.Learnt, one-arm-below t, one-arm.Post, small-reads.Asked, small-reads.Learnt, note-branch-reads.Asked, note-branch-reads.Learnt, after-arm-reads.Asked, after-arm-reads.Learnt, fewer-reads.Asked, fewer-reads.Learnt, commit-reads.Asked, commit-reads.Learnt, conflict-reads.Asked, conflict-reads.Learnt) (choices-at t) choices.Post choices-Inv-loop choices-μ-loop
 choices-returns-2 t c = (
   rw (← (parent-of (c .before .before .before .before .before .before .before .before .before .before .before .before .before .next .ensures))) (acted-from _ _ _ _ _ _ _ (c .before .before .before .before .before .before .before .before .before .wide32 .ensures .0) (done-any refl refl (done-ends refl (c .before .before .before .before .before .before .before .loop .inv .1) refl
-      (choosing-end (stmt-at (parent-of (c .before .before .before .before .before .before .before .before .before .before .before .before .before .next .ensures)) (c .before .before .before .before .before .before .before .before .before .before .before .before .before .before .before .before .pre .1 .1 .1)) (c .before .before .before .before .before .before .before .loop .inv .0) (c .before .before .before .before .before .before .loop-test .left) (rw (c .enum-told2 .given .1) at (c .before .before .commit .ensures)))))),
+      (choosing-end {n = 0} (stmt-at (parent-of (c .before .before .before .before .before .before .before .before .before .before .before .before .before .next .ensures)) (c .before .before .before .before .before .before .before .before .before .before .before .before .before .before .before .before .pre .1 .1 .1)) (c .before .before .before .before .before .before .before .loop .inv .0) (c .before .before .before .before .before .before .loop-test .left) (rw (c .enum-told2 .given .1) at (c .before .before .commit .ensures)) tt)))),
   tells-ok (c .before .before .before .before .before .before .before .loop .inv .2) (λ e. done-apart e),
 )
 
-choices-same-length-3 : (t : ℕ) → choices-lts.Need-same-length-3 (next-reads.Asked, next-reads.Learnt, wide32-reads.Asked, wide32-reads.Learnt, one-arm-below t, one-arm.Post, small-reads.Asked, small-reads.Learnt, note-branch-reads.Asked, note-branch-reads.Learnt, after-arm-reads.Asked, after-arm-reads.Learnt, fewer-reads.Asked, fewer-reads.Learnt, commit-reads.Asked, commit-reads.Learnt, refuse-reads.Asked, refuse-reads.Learnt) (choices-at t) choices.Post choices-Inv-loop choices-μ-loop
+-- src/lib.rt:399:1
+choices-same-length-3 : (t : ℕ) → choices-lts.Need-same-length-3 (next-reads.Asked, next-reads.Learnt, wide32-reads.Asked, wide32-reads.Learnt, one-arm-below t, one-arm.Post, small-reads.Asked, small-reads.Learnt, note-branch-reads.Asked, note-branch-reads.Learnt, after-arm-reads.Asked, after-arm-reads.Learnt, fewer-reads.Asked, fewer-reads.Learnt, commit-reads.Asked, commit-reads.Learnt, conflict-reads.Asked, conflict-reads.Learnt) (choices-at t) choices.Post choices-Inv-loop choices-μ-loop
 choices-same-length-3 t c = search needs
 
-choices-returns-3 : (t : ℕ) → choices-lts.Need-returns-3 (next-reads.Asked, next-reads.Learnt, wide32-reads.Asked, wide32-reads.Learnt, one-arm-below t, one-arm.Post, small-reads.Asked, small-reads.Learnt, note-branch-reads.Asked, note-branch-reads.Learnt, after-arm-reads.Asked, after-arm-reads.Learnt, fewer-reads.Asked, fewer-reads.Learnt, commit-reads.Asked, commit-reads.Learnt, refuse-reads.Asked, refuse-reads.Learnt) (choices-at t) choices.Post choices-Inv-loop choices-μ-loop
+-- src/lib.rt:399:1
+choices-returns-3 : (t : ℕ) → choices-lts.Need-returns-3 (next-reads.Asked, next-reads.Learnt, wide32-reads.Asked, wide32-reads.Learnt, one-arm-below t, one-arm.Post, small-reads.Asked, small-reads.Learnt, note-branch-reads.Asked, note-branch-reads.Learnt, after-arm-reads.Asked, after-arm-reads.Learnt, fewer-reads.Asked, fewer-reads.Learnt, commit-reads.Asked, commit-reads.Learnt, conflict-reads.Asked, conflict-reads.Learnt) (choices-at t) choices.Post choices-Inv-loop choices-μ-loop
 choices-returns-3 t c =
-    let f = refused-at (first-place (c .before .before .before .before .before .before .before .before .before .before .before .before .before .before .before .before .next .ensures)) (c .refuse .ensures) in
+    let f = refused-at (first-place (c .before .before .before .before .before .before .before .before .before .before .before .before .before .before .before .before .next .ensures)) (c .conflict .ensures .refused) in
     let k = rw (c .before .before .before .merge .given .1) at (c .before .before .before .before .before .commit .ensures) in
     let h = few-nodes ((c .before .before .before .before .before .before .before .before .before .before .before .before .before .before .before .before .before .before .before .pre .1 .1 .0) .ready .sound) in
     let i = (c .before .before .before .before .before .before .before .before .before .before .before .before .before .before .before .before .before .before .before .pre .1 .1 .1) .there in (
       rw (← (parent-of (c .before .before .before .before .before .before .before .before .before .before .before .before .before .before .before .before .next .ensures))) (acted-from _ _ _ _ _ _ _ (c .before .before .before .before .before .before .before .before .before .before .before .before .wide32 .ensures .0) (done-refused f (omega (arith, h, i, (c .before .before .before .before .before .before .before .before .before .before .before .before .before .before .before .before .next .ensures .at))) (clash-small k) (omega arith) (f .top ∙ c .before .before .before .before .before .before .before .before .before .before .loop .inv .1) (f .ret)
-          (choosing-end (stmt-at (parent-of (c .before .before .before .before .before .before .before .before .before .before .before .before .before .before .before .before .next .ensures)) (c .before .before .before .before .before .before .before .before .before .before .before .before .before .before .before .before .before .before .before .pre .1 .1 .1)) (c .before .before .before .before .before .before .before .before .before .before .loop .inv .0) (c .before .before .before .before .before .before .before .before .before .loop-test .left) k))),
+          (choosing-end (stmt-at (parent-of (c .before .before .before .before .before .before .before .before .before .before .before .before .before .before .before .before .next .ensures)) (c .before .before .before .before .before .before .before .before .before .before .before .before .before .before .before .before .before .before .before .pre .1 .1 .1)) (c .before .before .before .before .before .before .before .before .before .before .loop .inv .0) (c .before .before .before .before .before .before .before .before .before .loop-test .left) k (c .conflict .ensures .since)))),
       tells-refused (λ z. omega arith) (λ z. omega arith) f,
     )
 
+-- src/lib.rt:534:22
 define-element-copy-out-wide32 : (t : ℕ) → define-lts.Need-element-copy-out-wide32 (wide32-reads.Asked, wide32-reads.Learnt, refuse-reads.Asked, refuse-reads.Learnt, next-reads.Asked, next-reads.Learnt, clear-reads.Asked, clear-reads.Learnt, parameters-reads.Asked, parameters-reads.Learnt, small-reads.Asked, small-reads.Learnt, block-below t, block.Post) (define-at t) define.Post
 define-element-copy-out-wide32 t c = search needs
 
+-- src/lib.rt:534:9
 define-wide32-requires : (t : ℕ) → define-lts.Need-wide32-requires (wide32-reads.Asked, wide32-reads.Learnt, refuse-reads.Asked, refuse-reads.Learnt, next-reads.Asked, next-reads.Learnt, clear-reads.Asked, clear-reads.Learnt, parameters-reads.Asked, parameters-reads.Learnt, small-reads.Asked, small-reads.Learnt, block-below t, block.Post) (define-at t) define.Post
 define-wide32-requires t c κs =
     search needs
 
+-- src/lib.rt:535:15
 define-element-copy-out-ret : (t : ℕ) → define-lts.Need-element-copy-out-ret (wide32-reads.Asked, wide32-reads.Learnt, refuse-reads.Asked, refuse-reads.Learnt, next-reads.Asked, next-reads.Learnt, clear-reads.Asked, clear-reads.Learnt, parameters-reads.Asked, parameters-reads.Learnt, small-reads.Asked, small-reads.Learnt, block-below t, block.Post) (define-at t) define.Post
 define-element-copy-out-ret t c = search needs
 
+-- src/lib.rt:537:9
 define-refuse-requires : (t : ℕ) → define-lts.Need-refuse-requires (wide32-reads.Asked, wide32-reads.Learnt, refuse-reads.Asked, refuse-reads.Learnt, next-reads.Asked, next-reads.Learnt, clear-reads.Asked, clear-reads.Learnt, parameters-reads.Asked, parameters-reads.Learnt, small-reads.Asked, small-reads.Learnt, block-below t, block.Post) (define-at t) define.Post
 define-refuse-requires t c κs =
     (c .before .before .before .before .before .before .before .pre .1 .0)
 
+-- src/lib.rt:538:9
 define-returns : (t : ℕ) → define-lts.Need-returns (wide32-reads.Asked, wide32-reads.Learnt, refuse-reads.Asked, refuse-reads.Learnt, next-reads.Asked, next-reads.Learnt, clear-reads.Asked, clear-reads.Learnt, parameters-reads.Asked, parameters-reads.Learnt, small-reads.Asked, small-reads.Learnt, block-below t, block.Post) (define-at t) define.Post
 define-returns t c =
     let f = c .refuse .ensures in (
@@ -353,47 +401,59 @@ define-returns t c =
       tells-ok (record { long = f .long }) (λ e. deep-apart e),
     )
 
+-- src/lib.rt:540:9
 define-next-requires : (t : ℕ) → define-lts.Need-next-requires (wide32-reads.Asked, wide32-reads.Learnt, refuse-reads.Asked, refuse-reads.Learnt, next-reads.Asked, next-reads.Learnt, clear-reads.Asked, clear-reads.Learnt, parameters-reads.Asked, parameters-reads.Learnt, small-reads.Asked, small-reads.Learnt, block-below t, block.Post) (define-at t) define.Post
 define-next-requires t c κs =
     (((c .before .before .before .before .before .before .pre .1 .1 .0) .ready .sound) .headed, record { nodes = (c .before .before .before .before .before .before .pre .1 .1 .0) .ready .nodes-at; within = (c .before .before .before .before .before .before .pre .1 .1 .1) .there })
 
+-- src/lib.rt:543:13
 define-cast-n : (t : ℕ) → define-lts.Need-cast-n (wide32-reads.Asked, wide32-reads.Learnt, refuse-reads.Asked, refuse-reads.Learnt, next-reads.Asked, next-reads.Learnt, clear-reads.Asked, clear-reads.Learnt, parameters-reads.Asked, parameters-reads.Learnt, small-reads.Asked, small-reads.Learnt, block-below t, block.Post) (define-at t) define.Post
 define-cast-n t c = search needs
 
+-- src/lib.rt:544:17
 define-add-clear : (t : ℕ) → define-lts.Need-add-clear (wide32-reads.Asked, wide32-reads.Learnt, refuse-reads.Asked, refuse-reads.Learnt, next-reads.Asked, next-reads.Learnt, clear-reads.Asked, clear-reads.Learnt, parameters-reads.Asked, parameters-reads.Learnt, small-reads.Asked, small-reads.Learnt, block-below t, block.Post) (define-at t) define.Post
 define-add-clear t c =
     omega (arith, c .before .before .before .before .before .if1 .left)
 
+-- src/lib.rt:544:5
 define-clear-requires : (t : ℕ) → define-lts.Need-clear-requires (wide32-reads.Asked, wide32-reads.Learnt, refuse-reads.Asked, refuse-reads.Learnt, next-reads.Asked, next-reads.Learnt, clear-reads.Asked, clear-reads.Learnt, parameters-reads.Asked, parameters-reads.Learnt, small-reads.Asked, small-reads.Learnt, block-below t, block.Post) (define-at t) define.Post
 define-clear-requires t c κs =
     omega (arith, c .before .before .before .before .before .if1 .left)
 
+-- src/lib.rt:545:47
 define-add-parameters : (t : ℕ) → define-lts.Need-add-parameters (wide32-reads.Asked, wide32-reads.Learnt, refuse-reads.Asked, refuse-reads.Learnt, next-reads.Asked, next-reads.Learnt, clear-reads.Asked, clear-reads.Learnt, parameters-reads.Asked, parameters-reads.Learnt, small-reads.Asked, small-reads.Learnt, block-below t, block.Post) (define-at t) define.Post
 define-add-parameters t c =
     omega (arith, c .before .before .before .before .before .before .before .if1 .left)
 
+-- src/lib.rt:545:56
 define-sub-parameters : (t : ℕ) → define-lts.Need-sub-parameters (wide32-reads.Asked, wide32-reads.Learnt, refuse-reads.Asked, refuse-reads.Learnt, next-reads.Asked, next-reads.Learnt, clear-reads.Asked, clear-reads.Learnt, parameters-reads.Asked, parameters-reads.Learnt, small-reads.Asked, small-reads.Learnt, block-below t, block.Post) (define-at t) define.Post
 define-sub-parameters t c =
     omega (arith, def-some (c .before .before .before .before .before .before .before .before .before .before .before .before .before .pre .1 .1 .0) (c .before .before .before .before .before .before .before .before .before .before .before .before .before .pre .1 .1 .1) (ap (λ d. d .children) (c .before .before .before .before .before .before .next .ensures .node)))
 
+-- src/lib.rt:545:9
 define-parameters-requires : (t : ℕ) → define-lts.Need-parameters-requires (wide32-reads.Asked, wide32-reads.Learnt, refuse-reads.Asked, refuse-reads.Learnt, next-reads.Asked, next-reads.Learnt, clear-reads.Asked, clear-reads.Learnt, parameters-reads.Asked, parameters-reads.Learnt, small-reads.Asked, small-reads.Learnt, block-below t, block.Post) (define-at t) define.Post
 define-parameters-requires t c κs =
     (((c .before .before .before .before .before .before .before .before .before .before .before .before .before .pre .1 .1 .0) .ready .sound), (c .before .before .before .before .before .before .next .ensures .nodes, (omega (arith, c .before .before .before .before .before .before .before .if1 .left), def-params (c .before .before .before .before .before .before .before .before .before .before .before .before .before .pre .1 .1 .0) (c .before .before .before .before .before .before .before .before .before .before .before .before .before .pre .1 .1 .1) (ap (λ d. d .children) (c .before .before .before .before .before .before .next .ensures .node)) (c .before .before .before .before .before .before .next .ensures .at))))
 
+-- src/lib.rt:546:24
 define-add-small : (t : ℕ) → define-lts.Need-add-small (wide32-reads.Asked, wide32-reads.Learnt, refuse-reads.Asked, refuse-reads.Learnt, next-reads.Asked, next-reads.Learnt, clear-reads.Asked, clear-reads.Learnt, parameters-reads.Asked, parameters-reads.Learnt, small-reads.Asked, small-reads.Learnt, block-below t, block.Post) (define-at t) define.Post
 define-add-small t c =
     omega (arith, c .before .before .before .before .before .before .before .before .if1 .left)
 
+-- src/lib.rt:546:18
 define-small-requires : (t : ℕ) → define-lts.Need-small-requires (wide32-reads.Asked, wide32-reads.Learnt, refuse-reads.Asked, refuse-reads.Learnt, next-reads.Asked, next-reads.Learnt, clear-reads.Asked, clear-reads.Learnt, parameters-reads.Asked, parameters-reads.Learnt, small-reads.Asked, small-reads.Learnt, block-below t, block.Post) (define-at t) define.Post
 define-small-requires t c κs =
     omega (arith, c .before .before .before .before .before .before .before .before .if1 .left)
 
+-- src/lib.rt:546:5
 define-element-write-notes : (t : ℕ) → define-lts.Need-element-write-notes (wide32-reads.Asked, wide32-reads.Learnt, refuse-reads.Asked, refuse-reads.Learnt, next-reads.Asked, next-reads.Learnt, clear-reads.Asked, clear-reads.Learnt, parameters-reads.Asked, parameters-reads.Learnt, small-reads.Asked, small-reads.Learnt, block-below t, block.Post) (define-at t) define.Post
 define-element-write-notes t c = search needs
 
+-- src/lib.rt:547:5
 define-element-write-notes-2 : (t : ℕ) → define-lts.Need-element-write-notes-2 (wide32-reads.Asked, wide32-reads.Learnt, refuse-reads.Asked, refuse-reads.Learnt, next-reads.Asked, next-reads.Learnt, clear-reads.Asked, clear-reads.Learnt, parameters-reads.Asked, parameters-reads.Learnt, small-reads.Asked, small-reads.Learnt, block-below t, block.Post) (define-at t) define.Post
 define-element-write-notes-2 t c = search needs
 
+-- src/lib.rt:548:9
 define-block-requires : (t : ℕ) → define-lts.Need-block-requires (wide32-reads.Asked, wide32-reads.Learnt, refuse-reads.Asked, refuse-reads.Learnt, next-reads.Asked, next-reads.Learnt, clear-reads.Asked, clear-reads.Learnt, parameters-reads.Asked, parameters-reads.Learnt, small-reads.Asked, small-reads.Learnt, block-below t, block.Post) (define-at t) define.Post
 define-block-requires t c κs = (
   omega (arith, c .before .before .before .before .before .before .before .before .before .before .before .before .before .before .before .before .before .before .before .pre .0),
@@ -406,24 +466,29 @@ define-block-requires t c κs = (
   ),
 )
 
+-- src/lib.rt:560:5
 define-element-write-notes-3 : (t : ℕ) → define-lts.Need-element-write-notes-3 (wide32-reads.Asked, wide32-reads.Learnt, refuse-reads.Asked, refuse-reads.Learnt, next-reads.Asked, next-reads.Learnt, clear-reads.Asked, clear-reads.Learnt, parameters-reads.Asked, parameters-reads.Learnt, small-reads.Asked, small-reads.Learnt, block-below t, block.Post) (define-at t) define.Post
 define-element-write-notes-3 t c = search needs
 
 define-enum-told : (t : ℕ) → define-lts.Need-enum-told (wide32-reads.Asked, wide32-reads.Learnt, refuse-reads.Asked, refuse-reads.Learnt, next-reads.Asked, next-reads.Learnt, clear-reads.Asked, clear-reads.Learnt, parameters-reads.Asked, parameters-reads.Learnt, small-reads.Asked, small-reads.Learnt, block-below t, block.Post) (define-at t) define.Post
 define-enum-told t c = search needs
 
+-- src/lib.rt:562:9
 define-same-length : (t : ℕ) → define-lts.Need-same-length (wide32-reads.Asked, wide32-reads.Learnt, refuse-reads.Asked, refuse-reads.Learnt, next-reads.Asked, next-reads.Learnt, clear-reads.Asked, clear-reads.Learnt, parameters-reads.Asked, parameters-reads.Learnt, small-reads.Asked, small-reads.Learnt, block-below t, block.Post) (define-at t) define.Post
 define-same-length t c = search needs
 
+-- src/lib.rt:562:9
 define-returns-2 : (t : ℕ) → define-lts.Need-returns-2 (wide32-reads.Asked, wide32-reads.Learnt, refuse-reads.Asked, refuse-reads.Learnt, next-reads.Asked, next-reads.Learnt, clear-reads.Asked, clear-reads.Learnt, parameters-reads.Asked, parameters-reads.Learnt, small-reads.Asked, small-reads.Learnt, block-below t, block.Post) (define-at t) define.Post
 define-returns-2 t c = (
   (λ loop. acted-from _ _ _ _ _ _ _ (c .before .before .before .before .before .before .before .before .before .before .before .before .before .before .before .before .before .before .before .wide32 .ensures .0) (done-moved ((ret-back (c .before .before .before .before .before .before .before .before .before .before .before .before .before .before .before .before .before .before .before .before .before .before .before .pre .1 .0) ((c .before .before .before .block .ensures .1) .noting)) .moved) (c .before .before .before .block .ensures .1) ((ret-back (c .before .before .before .before .before .before .before .before .before .before .before .before .before .before .before .before .before .before .before .before .before .before .before .pre .1 .0) ((c .before .before .before .block .ensures .1) .noting)) .top-kept) ((ret-back (c .before .before .before .before .before .before .before .before .before .before .before .before .before .before .before .before .before .before .before .before .before .before .before .pre .1 .0) ((c .before .before .before .block .ensures .1) .noting)) .ret-is) (def-bad (standing-as refl (c .before .before .before .before .before .before .before .before .before .before .before .before .before .before .before .before .before .before .before .wide32 .ensures .0) refl (c .before .before .before .before .before .before .before .before .before .before .before .before .before .before .before .before .before .before .before .before .before .before .before .pre .1 .1 .0)) (c .before .before .before .before .before .before .before .before .before .before .before .before .before .before .before .before .before .before .before .before .before .before .before .pre .1 .1 .1) (ap (λ d. d .children) (c .before .before .before .before .before .before .before .before .before .before .before .before .before .before .before .before .next .ensures .node)) (c .before .before .before .before .before .before .before .before .before .before .before .before .before .before .before .before .before .if1 .left) (c .before .before .before .before .before .before .before .before .before .before .before .clear .ensures) (c .before .before .before .before .before .before .before .before .before .before .before .before .before .before .before .before .next .ensures .at) (c .before .before .before .before .before .before .before .before .before .parameters .ensures .1) (c .before .before .before .before .before .before .before .before .before .parameters .ensures .0 .0) _ (body-from _ _ _ _ _ _ _ (tab-moved (moved-trans ((top-set (c .before .before .before .before .before .before .before .before .before .before .before .before .before .before .before .before .before .before .before .before .before .before .before .pre .1 .0) (c .before .before .before .before .before .before .before .before .small .ensures)) .moved) ((ret-clear (moved-noting ((top-set (c .before .before .before .before .before .before .before .before .before .before .before .before .before .before .before .before .before .before .before .before .before .before .before .pre .1 .0) (c .before .before .before .before .before .before .before .before .small .ensures)) .moved))) .moved)) _) ((ret-clear (moved-noting ((top-set (c .before .before .before .before .before .before .before .before .before .before .before .before .before .before .before .before .before .before .before .before .before .before .before .pre .1 .0) (c .before .before .before .before .before .before .before .before .small .ensures)) .moved))) .top-kept ∙ (top-set (c .before .before .before .before .before .before .before .before .before .before .before .before .before .before .before .before .before .before .before .before .before .before .before .pre .1 .0) (c .before .before .before .before .before .before .before .before .small .ensures)) .top-is) ((ret-clear (moved-noting ((top-set (c .before .before .before .before .before .before .before .before .before .before .before .before .before .before .before .before .before .before .before .before .before .before .before .pre .1 .0) (c .before .before .before .before .before .before .before .before .small .ensures)) .moved))) .ret-is) (c .before .before .before .block .ensures .0)) (end-other _ (c .before .before .before .block .ensures .1) (c .match .keys2)) loop))),
   tells-moved ((ret-back (c .before .before .before .before .before .before .before .before .before .before .before .before .before .before .before .before .before .before .before .before .before .before .before .pre .1 .0) ((c .before .before .before .block .ensures .1) .noting)) .moved) (c .before .before .before .block .ensures .1),
 )
 
+-- src/lib.rt:564:18
 define-element-copy-out-notes : (t : ℕ) → define-lts.Need-element-copy-out-notes (wide32-reads.Asked, wide32-reads.Learnt, refuse-reads.Asked, refuse-reads.Learnt, next-reads.Asked, next-reads.Learnt, clear-reads.Asked, clear-reads.Learnt, parameters-reads.Asked, parameters-reads.Learnt, small-reads.Asked, small-reads.Learnt, block-below t, block.Post) (define-at t) define.Post
 define-element-copy-out-notes t c = search needs
 
+-- src/lib.rt:564:18
 define-sub-notes : (t : ℕ) → define-lts.Need-sub-notes (wide32-reads.Asked, wide32-reads.Learnt, refuse-reads.Asked, refuse-reads.Learnt, next-reads.Asked, next-reads.Learnt, clear-reads.Asked, clear-reads.Learnt, parameters-reads.Asked, parameters-reads.Learnt, small-reads.Asked, small-reads.Learnt, block-below t, block.Post) (define-at t) define.Post
 define-sub-notes t c =
     let f = c .before .before .before .before .before .block .ensures .0 .fine (end-shallow _ (c .before .enum-told .given .1)) in
@@ -432,12 +497,15 @@ define-sub-notes t c =
     let a = (top-set (c .before .before .before .before .before .before .before .before .before .before .before .before .before .before .before .before .before .before .before .before .before .before .before .before .before .pre .1 .0) (c .before .before .before .before .before .before .before .before .before .before .small .ensures)) in
     omega (arith, f .raised, z .top-kept, b .top-kept, a .top-is)
 
+-- src/lib.rt:564:5
 define-element-write-notes-4 : (t : ℕ) → define-lts.Need-element-write-notes-4 (wide32-reads.Asked, wide32-reads.Learnt, refuse-reads.Asked, refuse-reads.Learnt, next-reads.Asked, next-reads.Learnt, clear-reads.Asked, clear-reads.Learnt, parameters-reads.Asked, parameters-reads.Learnt, small-reads.Asked, small-reads.Learnt, block-below t, block.Post) (define-at t) define.Post
 define-element-write-notes-4 t c = search needs
 
+-- src/lib.rt:519:1
 define-same-length-2 : (t : ℕ) → define-lts.Need-same-length-2 (wide32-reads.Asked, wide32-reads.Learnt, refuse-reads.Asked, refuse-reads.Learnt, next-reads.Asked, next-reads.Learnt, clear-reads.Asked, clear-reads.Learnt, parameters-reads.Asked, parameters-reads.Learnt, small-reads.Asked, small-reads.Learnt, block-below t, block.Post) (define-at t) define.Post
 define-same-length-2 t c = search needs
 
+-- src/lib.rt:519:1
 define-returns-3 : (t : ℕ) → define-lts.Need-returns-3 (wide32-reads.Asked, wide32-reads.Learnt, refuse-reads.Asked, refuse-reads.Learnt, next-reads.Asked, next-reads.Learnt, clear-reads.Asked, clear-reads.Learnt, parameters-reads.Asked, parameters-reads.Learnt, small-reads.Asked, small-reads.Learnt, block-below t, block.Post) (define-at t) define.Post
 define-returns-3 t c =
     let z = (ret-back (c .before .before .before .before .before .before .before .before .before .before .before .before .before .before .before .before .before .before .before .before .before .before .before .before .before .pre .1 .0) ((c .before .before .before .before .before .block .ensures .1) .noting)) in
@@ -448,86 +516,112 @@ define-returns-3 t c =
       tells-ok (moved-noting (y .moved)) (λ e. done-apart e),
     )
 
-each-element-copy-out-wide32 : (t : ℕ) → each-lts.Need-element-copy-out-wide32 (wide32-reads.Asked, wide32-reads.Learnt, next-reads.Asked, next-reads.Learnt, elements-reads.Asked, elements-reads.Learnt, bind-reads.Asked, bind-reads.Learnt, over-reads.Asked, over-reads.Learnt, block-below t, block.Post, small-reads.Asked, small-reads.Learnt) (each-at t) each.Post
+-- src/lib.rt:585:22
+each-element-copy-out-wide32 : (t : ℕ) → each-lts.Need-element-copy-out-wide32 (wide32-reads.Asked, wide32-reads.Learnt, next-reads.Asked, next-reads.Learnt, elements-reads.Asked, elements-reads.Learnt, since-reads.Asked, since-reads.Learnt, bind-reads.Asked, bind-reads.Learnt, over-reads.Asked, over-reads.Learnt, block-below t, block.Post, small-reads.Asked, small-reads.Learnt) (each-at t) each.Post
 each-element-copy-out-wide32 t c = search needs
 
-each-wide32-requires : (t : ℕ) → each-lts.Need-wide32-requires (wide32-reads.Asked, wide32-reads.Learnt, next-reads.Asked, next-reads.Learnt, elements-reads.Asked, elements-reads.Learnt, bind-reads.Asked, bind-reads.Learnt, over-reads.Asked, over-reads.Learnt, block-below t, block.Post, small-reads.Asked, small-reads.Learnt) (each-at t) each.Post
+-- src/lib.rt:585:9
+each-wide32-requires : (t : ℕ) → each-lts.Need-wide32-requires (wide32-reads.Asked, wide32-reads.Learnt, next-reads.Asked, next-reads.Learnt, elements-reads.Asked, elements-reads.Learnt, since-reads.Asked, since-reads.Learnt, bind-reads.Asked, bind-reads.Learnt, over-reads.Asked, over-reads.Learnt, block-below t, block.Post, small-reads.Asked, small-reads.Learnt) (each-at t) each.Post
 each-wide32-requires t c κs =
     search needs
 
-each-next-requires : (t : ℕ) → each-lts.Need-next-requires (wide32-reads.Asked, wide32-reads.Learnt, next-reads.Asked, next-reads.Learnt, elements-reads.Asked, elements-reads.Learnt, bind-reads.Asked, bind-reads.Learnt, over-reads.Asked, over-reads.Learnt, block-below t, block.Post, small-reads.Asked, small-reads.Learnt) (each-at t) each.Post
+-- src/lib.rt:586:9
+each-next-requires : (t : ℕ) → each-lts.Need-next-requires (wide32-reads.Asked, wide32-reads.Learnt, next-reads.Asked, next-reads.Learnt, elements-reads.Asked, elements-reads.Learnt, since-reads.Asked, since-reads.Learnt, bind-reads.Asked, bind-reads.Learnt, over-reads.Asked, over-reads.Learnt, block-below t, block.Post, small-reads.Asked, small-reads.Learnt) (each-at t) each.Post
 each-next-requires t c κs =
     (((c .before .before .before .before .pre .1 .1 .0) .ready .sound) .headed, record { nodes = (c .before .before .before .before .pre .1 .1 .0) .ready .nodes-at; within = (c .before .before .before .before .pre .1 .1 .1) .there })
 
-each-elements-requires : (t : ℕ) → each-lts.Need-elements-requires (wide32-reads.Asked, wide32-reads.Learnt, next-reads.Asked, next-reads.Learnt, elements-reads.Asked, elements-reads.Learnt, bind-reads.Asked, bind-reads.Learnt, over-reads.Asked, over-reads.Learnt, block-below t, block.Post, small-reads.Asked, small-reads.Learnt) (each-at t) each.Post
+-- src/lib.rt:589:9
+each-elements-requires : (t : ℕ) → each-lts.Need-elements-requires (wide32-reads.Asked, wide32-reads.Learnt, next-reads.Asked, next-reads.Learnt, elements-reads.Asked, elements-reads.Learnt, since-reads.Asked, since-reads.Learnt, bind-reads.Asked, bind-reads.Learnt, over-reads.Asked, over-reads.Learnt, block-below t, block.Post, small-reads.Asked, small-reads.Learnt) (each-at t) each.Post
 each-elements-requires t c κs =
     ((c .before .before .before .before .before .before .before .before .before .before .pre .1 .0), rw (c .before .before .before .before .before .next .ensures .at) (ready-nodes (c .before .before .before .before .before .next .ensures .nodes) (first-ready (standing-as refl (c .before .before .before .before .before .before .wide32 .ensures .0) refl (c .before .before .before .before .before .before .before .before .before .before .pre .1 .1 .0)) (pair-for ((c .before .before .before .before .before .before .before .before .before .before .pre .1 .1 .0) .ready .sound) (c .before .before .before .before .before .before .before .before .before .before .pre .1 .1 .1))), (pair-for ((c .before .before .before .before .before .before .before .before .before .before .pre .1 .1 .0) .ready .sound) (c .before .before .before .before .before .before .before .before .before .before .pre .1 .1 .1)) .first))
 
-each-enum-known-v : (t : ℕ) → each-lts.Need-enum-known-v (wide32-reads.Asked, wide32-reads.Learnt, next-reads.Asked, next-reads.Learnt, elements-reads.Asked, elements-reads.Learnt, bind-reads.Asked, bind-reads.Learnt, over-reads.Asked, over-reads.Learnt, block-below t, block.Post, small-reads.Asked, small-reads.Learnt) (each-at t) each.Post
+-- src/lib.rt:590:19
+each-enum-known-v : (t : ℕ) → each-lts.Need-enum-known-v (wide32-reads.Asked, wide32-reads.Learnt, next-reads.Asked, next-reads.Learnt, elements-reads.Asked, elements-reads.Learnt, since-reads.Asked, since-reads.Learnt, bind-reads.Asked, bind-reads.Learnt, over-reads.Asked, over-reads.Learnt, block-below t, block.Post, small-reads.Asked, small-reads.Learnt) (each-at t) each.Post
 each-enum-known-v t c = search needs
 
-each-enum-told : (t : ℕ) → each-lts.Need-enum-told (wide32-reads.Asked, wide32-reads.Learnt, next-reads.Asked, next-reads.Learnt, elements-reads.Asked, elements-reads.Learnt, bind-reads.Asked, bind-reads.Learnt, over-reads.Asked, over-reads.Learnt, block-below t, block.Post, small-reads.Asked, small-reads.Learnt) (each-at t) each.Post
+-- src/lib.rt:591:9
+each-enum-told : (t : ℕ) → each-lts.Need-enum-told (wide32-reads.Asked, wide32-reads.Learnt, next-reads.Asked, next-reads.Learnt, elements-reads.Asked, elements-reads.Learnt, since-reads.Asked, since-reads.Learnt, bind-reads.Asked, bind-reads.Learnt, over-reads.Asked, over-reads.Learnt, block-below t, block.Post, small-reads.Asked, small-reads.Learnt) (each-at t) each.Post
 each-enum-told t c = search needs
 
-each-same-length : (t : ℕ) → each-lts.Need-same-length (wide32-reads.Asked, wide32-reads.Learnt, next-reads.Asked, next-reads.Learnt, elements-reads.Asked, elements-reads.Learnt, bind-reads.Asked, bind-reads.Learnt, over-reads.Asked, over-reads.Learnt, block-below t, block.Post, small-reads.Asked, small-reads.Learnt) (each-at t) each.Post
+-- src/lib.rt:591:9
+each-same-length : (t : ℕ) → each-lts.Need-same-length (wide32-reads.Asked, wide32-reads.Learnt, next-reads.Asked, next-reads.Learnt, elements-reads.Asked, elements-reads.Learnt, since-reads.Asked, since-reads.Learnt, bind-reads.Asked, bind-reads.Learnt, over-reads.Asked, over-reads.Learnt, block-below t, block.Post, small-reads.Asked, small-reads.Learnt) (each-at t) each.Post
 each-same-length t c = search needs
 
-each-returns : (t : ℕ) → each-lts.Need-returns (wide32-reads.Asked, wide32-reads.Learnt, next-reads.Asked, next-reads.Learnt, elements-reads.Asked, elements-reads.Learnt, bind-reads.Asked, bind-reads.Learnt, over-reads.Asked, over-reads.Learnt, block-below t, block.Post, small-reads.Asked, small-reads.Learnt) (each-at t) each.Post
+-- src/lib.rt:591:9
+each-returns : (t : ℕ) → each-lts.Need-returns (wide32-reads.Asked, wide32-reads.Learnt, next-reads.Asked, next-reads.Learnt, elements-reads.Asked, elements-reads.Learnt, since-reads.Asked, since-reads.Learnt, bind-reads.Asked, bind-reads.Learnt, over-reads.Asked, over-reads.Learnt, block-below t, block.Post, small-reads.Asked, small-reads.Learnt) (each-at t) each.Post
 each-returns t c = (
   (λ loop. acted-from _ _ _ _ _ _ _ (c .before .before .before .before .before .before .before .before .before .before .before .wide32 .ensures .0) (done-ends refl ((c .before .before .before .before .elements .ensures .1) .top ∙ sym (c .before .before .before .before .before .before .before .before .before .before .before .wide32 .ensures .0)) ((c .before .before .before .before .elements .ensures .1) .ret) (for-bad (standing-as refl (c .before .before .before .before .before .before .before .before .before .before .before .wide32 .ensures .0) refl (c .before .before .before .before .before .before .before .before .before .before .before .before .before .before .before .pre .1 .1 .0)) (c .before .before .before .before .before .before .before .before .before .before .before .before .before .before .before .pre .1 .1 .1) (ap (λ d. d .arg) (c .before .before .before .before .before .before .before .before .before .before .next .ensures .node)) (iterated-err _ (c .enum-told .given .1) (rw (c .before .before .before .before .before .before .before .before .before .before .next .ensures .at) at (c .before .before .before .before .elements .ensures .0))) ((c .before .before .before .before .elements .ensures .1) .coded (c .enum-told .given .1)) _ loop))),
   tells-kept (kept-as (λ _. (c .enum-told .given .1)) (c .before .before .before .before .elements .ensures .1)) (λ _. (iterated-err _ (c .enum-told .given .1) (rw (c .before .before .before .before .before .before .before .before .before .before .next .ensures .at) at (c .before .before .before .before .elements .ensures .0))) .typing),
 )
 
-each-cast-bind : (t : ℕ) → each-lts.Need-cast-bind (wide32-reads.Asked, wide32-reads.Learnt, next-reads.Asked, next-reads.Learnt, elements-reads.Asked, elements-reads.Learnt, bind-reads.Asked, bind-reads.Learnt, over-reads.Asked, over-reads.Learnt, block-below t, block.Post, small-reads.Asked, small-reads.Learnt) (each-at t) each.Post
+-- src/lib.rt:597:9
+each-cast-bind : (t : ℕ) → each-lts.Need-cast-bind (wide32-reads.Asked, wide32-reads.Learnt, next-reads.Asked, next-reads.Learnt, elements-reads.Asked, elements-reads.Learnt, since-reads.Asked, since-reads.Learnt, bind-reads.Asked, bind-reads.Learnt, over-reads.Asked, over-reads.Learnt, block-below t, block.Post, small-reads.Asked, small-reads.Learnt) (each-at t) each.Post
 each-cast-bind t c = search needs
 
-each-bind-requires : (t : ℕ) → each-lts.Need-bind-requires (wide32-reads.Asked, wide32-reads.Learnt, next-reads.Asked, next-reads.Learnt, elements-reads.Asked, elements-reads.Learnt, bind-reads.Asked, bind-reads.Learnt, over-reads.Asked, over-reads.Learnt, block-below t, block.Post, small-reads.Asked, small-reads.Learnt) (each-at t) each.Post
-each-bind-requires t c κs =
-    ((standing-as refl (c .before .before .before .before .before .before .before .before .before .before .before .before .before .before .before .wide32 .ensures .0) refl (c .before .before .before .before .before .before .before .before .before .before .before .before .before .before .before .before .before .before .before .pre .1 .1 .0)) .ready .fit .high, for-name (standing-as refl (c .before .before .before .before .before .before .before .before .before .before .before .before .before .before .before .wide32 .ensures .0) refl (c .before .before .before .before .before .before .before .before .before .before .before .before .before .before .before .before .before .before .before .pre .1 .1 .0)) (c .before .before .before .before .before .before .before .before .before .before .before .before .before .before .before .before .before .before .before .pre .1 .1 .1) (ap (λ d. d .arg) (c .before .before .before .before .before .before .before .before .before .before .before .before .before .before .next .ensures .node)) (iterated-ok _ (c .before .before .before .before .v .given .1) (rw (c .before .before .before .before .before .before .before .before .before .before .before .before .before .before .next .ensures .at) at (c .before .before .before .before .before .before .before .before .elements .ensures .0))), for-small (standing-as refl (c .before .before .before .before .before .before .before .before .before .before .before .before .before .before .before .wide32 .ensures .0) refl (c .before .before .before .before .before .before .before .before .before .before .before .before .before .before .before .before .before .before .before .pre .1 .1 .0)) (c .before .before .before .before .before .before .before .before .before .before .before .before .before .before .before .before .before .before .before .pre .1 .1 .1) (ap (λ d. d .arg) (c .before .before .before .before .before .before .before .before .before .before .before .before .before .before .next .ensures .node)) (iterated-ok _ (c .before .before .before .before .v .given .1) (rw (c .before .before .before .before .before .before .before .before .before .before .before .before .before .before .next .ensures .at) at (c .before .before .before .before .before .before .before .before .elements .ensures .0))) refl)
+-- src/lib.rt:598:9
+each-since-requires : (t : ℕ) → each-lts.Need-since-requires (wide32-reads.Asked, wide32-reads.Learnt, next-reads.Asked, next-reads.Learnt, elements-reads.Asked, elements-reads.Learnt, since-reads.Asked, since-reads.Learnt, bind-reads.Asked, bind-reads.Learnt, over-reads.Asked, over-reads.Learnt, block-below t, block.Post, small-reads.Asked, small-reads.Learnt) (each-at t) each.Post
+each-since-requires t c κs =
+    tt
 
-each-over-requires : (t : ℕ) → each-lts.Need-over-requires (wide32-reads.Asked, wide32-reads.Learnt, next-reads.Asked, next-reads.Learnt, elements-reads.Asked, elements-reads.Learnt, bind-reads.Asked, bind-reads.Learnt, over-reads.Asked, over-reads.Learnt, block-below t, block.Post, small-reads.Asked, small-reads.Learnt) (each-at t) each.Post
+-- src/lib.rt:594:5
+each-bind-requires : (t : ℕ) → each-lts.Need-bind-requires (wide32-reads.Asked, wide32-reads.Learnt, next-reads.Asked, next-reads.Learnt, elements-reads.Asked, elements-reads.Learnt, since-reads.Asked, since-reads.Learnt, bind-reads.Asked, bind-reads.Learnt, over-reads.Asked, over-reads.Learnt, block-below t, block.Post, small-reads.Asked, small-reads.Learnt) (each-at t) each.Post
+each-bind-requires t c κs = (
+  ((standing-as refl (c .before .before .before .before .before .before .before .before .before .before .before .before .before .before .before .before .wide32 .ensures .0) refl (c .before .before .before .before .before .before .before .before .before .before .before .before .before .before .before .before .before .before .before .before .pre .1 .1 .0)) .ready .fit .high, for-name (standing-as refl (c .before .before .before .before .before .before .before .before .before .before .before .before .before .before .before .before .wide32 .ensures .0) refl (c .before .before .before .before .before .before .before .before .before .before .before .before .before .before .before .before .before .before .before .before .pre .1 .1 .0)) (c .before .before .before .before .before .before .before .before .before .before .before .before .before .before .before .before .before .before .before .before .pre .1 .1 .1) (ap (λ d. d .arg) (c .before .before .before .before .before .before .before .before .before .before .before .before .before .before .before .next .ensures .node)) (iterated-ok _ (c .before .before .before .before .before .v .given .1) (rw (c .before .before .before .before .before .before .before .before .before .before .before .before .before .before .before .next .ensures .at) at (c .before .before .before .before .before .before .before .before .before .elements .ensures .0)))),
+  (rw (c .since .ensures .type-is) (for-small (standing-as refl (c .before .before .before .before .before .before .before .before .before .before .before .before .before .before .before .before .wide32 .ensures .0) refl (c .before .before .before .before .before .before .before .before .before .before .before .before .before .before .before .before .before .before .before .before .pre .1 .1 .0)) (c .before .before .before .before .before .before .before .before .before .before .before .before .before .before .before .before .before .before .before .before .pre .1 .1 .1) (ap (λ d. d .arg) (c .before .before .before .before .before .before .before .before .before .before .before .before .before .before .before .next .ensures .node)) (iterated-ok _ (c .before .before .before .before .before .v .given .1) (rw (c .before .before .before .before .before .before .before .before .before .before .before .before .before .before .before .next .ensures .at) at (c .before .before .before .before .before .before .before .before .before .elements .ensures .0))) refl), c .since .ensures .near tt (omega (arith, few-nodes ((c .before .before .before .before .before .before .before .before .before .before .before .before .before .before .before .before .before .before .before .before .pre .1 .1 .0) .ready .sound), (pair-for ((c .before .before .before .before .before .before .before .before .before .before .before .before .before .before .before .before .before .before .before .before .pre .1 .1 .0) .ready .sound) (c .before .before .before .before .before .before .before .before .before .before .before .before .before .before .before .before .before .before .before .before .pre .1 .1 .1)) .first .there, (c .before .before .before .before .before .before .before .before .before .before .before .before .before .before .before .next .ensures .at)))),
+)
+
+-- src/lib.rt:600:9
+each-over-requires : (t : ℕ) → each-lts.Need-over-requires (wide32-reads.Asked, wide32-reads.Learnt, next-reads.Asked, next-reads.Learnt, elements-reads.Asked, elements-reads.Learnt, since-reads.Asked, since-reads.Learnt, bind-reads.Asked, bind-reads.Learnt, over-reads.Asked, over-reads.Learnt, block-below t, block.Post, small-reads.Asked, small-reads.Learnt) (each-at t) each.Post
 each-over-requires t c κs =
-    (((c .before .before .before .before .before .before .before .before .before .before .before .before .before .before .before .before .before .before .before .before .pre .1 .1 .0) .ready .sound) .headed, record { nodes = c .before .before .before .before .before .before .before .before .before .before .before .before .before .before .before .next .ensures .nodes; within = rw (c .before .before .before .before .before .before .before .before .before .before .before .before .before .before .before .next .ensures .at) ((pair-for ((c .before .before .before .before .before .before .before .before .before .before .before .before .before .before .before .before .before .before .before .before .pre .1 .1 .0) .ready .sound) (c .before .before .before .before .before .before .before .before .before .before .before .before .before .before .before .before .before .before .before .before .pre .1 .1 .1)) .first .there) })
+    (((c .before .before .before .before .before .before .before .before .before .before .before .before .before .before .before .before .before .before .before .before .before .pre .1 .1 .0) .ready .sound) .headed, record { nodes = c .before .before .before .before .before .before .before .before .before .before .before .before .before .before .before .before .next .ensures .nodes; within = rw (c .before .before .before .before .before .before .before .before .before .before .before .before .before .before .before .before .next .ensures .at) ((pair-for ((c .before .before .before .before .before .before .before .before .before .before .before .before .before .before .before .before .before .before .before .before .before .pre .1 .1 .0) .ready .sound) (c .before .before .before .before .before .before .before .before .before .before .before .before .before .before .before .before .before .before .before .before .before .pre .1 .1 .1)) .first .there) })
 
-each-block-requires : (t : ℕ) → each-lts.Need-block-requires (wide32-reads.Asked, wide32-reads.Learnt, next-reads.Asked, next-reads.Learnt, elements-reads.Asked, elements-reads.Learnt, bind-reads.Asked, bind-reads.Learnt, over-reads.Asked, over-reads.Learnt, block-below t, block.Post, small-reads.Asked, small-reads.Learnt) (each-at t) each.Post
+-- src/lib.rt:602:9
+each-block-requires : (t : ℕ) → each-lts.Need-block-requires (wide32-reads.Asked, wide32-reads.Learnt, next-reads.Asked, next-reads.Learnt, elements-reads.Asked, elements-reads.Learnt, since-reads.Asked, since-reads.Learnt, bind-reads.Asked, bind-reads.Learnt, over-reads.Asked, over-reads.Learnt, block-below t, block.Post, small-reads.Asked, small-reads.Learnt) (each-at t) each.Post
 each-block-requires t c κs = (
-  omega (arith, c .before .before .before .before .before .before .before .before .before .before .before .before .before .before .before .before .before .before .before .before .before .before .before .before .before .before .pre .0),
+  omega (arith, c .before .before .before .before .before .before .before .before .before .before .before .before .before .before .before .before .before .before .before .before .before .before .before .before .before .before .before .pre .0),
   (
-    kept-noting (c .before .before .before .before .before .before .before .before .before .before .before .before .before .before .before .elements .ensures .1),
+    kept-noting (c .before .before .before .before .before .before .before .before .before .before .before .before .before .before .before .before .elements .ensures .1),
     (
-      standing-as refl ((c .before .before .before .before .before .before .before .before .before .before .before .before .before .before .before .elements .ensures .1) .top ∙ sym (c .before .before .before .before .before .before .before .before .before .before .before .before .before .before .before .before .before .before .before .before .before .before .wide32 .ensures .0)) ((c .before .before .before .before .before .before .before .before .before .before .before .before .before .before .before .elements .ensures .1) .ret)
-          (standing-nodes (c .before .before .before .before .before .over .ensures .nodes) (for-standing (standing-as refl (c .before .before .before .before .before .before .before .before .before .before .before .before .before .before .before .before .before .before .before .before .before .before .wide32 .ensures .0) refl (c .before .before .before .before .before .before .before .before .before .before .before .before .before .before .before .before .before .before .before .before .before .before .before .before .before .before .pre .1 .1 .0)) (c .before .before .before .before .before .before .before .before .before .before .before .before .before .before .before .before .before .before .before .before .before .before .before .before .before .before .pre .1 .1 .1) (ap (λ d. d .arg) (c .before .before .before .before .before .before .before .before .before .before .before .before .before .before .before .before .before .before .before .before .before .next .ensures .node)) (iterated-ok _ (c .before .before .before .before .before .before .before .before .before .before .before .v .given .1) (rw (c .before .before .before .before .before .before .before .before .before .before .before .before .before .before .before .before .before .before .before .before .before .next .ensures .at) at (c .before .before .before .before .before .before .before .before .before .before .before .before .before .before .before .elements .ensures .0))) refl (c .before .before .before .before .before .before .bind .ensures) (second-of (c .before .before .before .before .before .before .before .before .before .before .before .before .before .before .before .before .before .before .before .before .before .next .ensures) (c .before .before .before .before .before .over .ensures)))),
-      second-at (standing-as refl (c .before .before .before .before .before .before .before .before .before .before .before .before .before .before .before .before .before .before .before .before .before .before .wide32 .ensures .0) refl (c .before .before .before .before .before .before .before .before .before .before .before .before .before .before .before .before .before .before .before .before .before .before .before .before .before .before .pre .1 .1 .0)) (pair-for ((c .before .before .before .before .before .before .before .before .before .before .before .before .before .before .before .before .before .before .before .before .before .before .before .before .before .before .pre .1 .1 .0) .ready .sound) (c .before .before .before .before .before .before .before .before .before .before .before .before .before .before .before .before .before .before .before .before .before .before .before .before .before .before .pre .1 .1 .1)) (second-of (c .before .before .before .before .before .before .before .before .before .before .before .before .before .before .before .before .before .before .before .before .before .next .ensures) (c .before .before .before .before .before .over .ensures)),
+      standing-as refl ((c .before .before .before .before .before .before .before .before .before .before .before .before .before .before .before .before .elements .ensures .1) .top ∙ sym (c .before .before .before .before .before .before .before .before .before .before .before .before .before .before .before .before .before .before .before .before .before .before .before .wide32 .ensures .0)) ((c .before .before .before .before .before .before .before .before .before .before .before .before .before .before .before .before .elements .ensures .1) .ret)
+          (standing-nodes (c .before .before .before .before .before .over .ensures .nodes) (for-standing (standing-as refl (c .before .before .before .before .before .before .before .before .before .before .before .before .before .before .before .before .before .before .before .before .before .before .before .wide32 .ensures .0) refl (c .before .before .before .before .before .before .before .before .before .before .before .before .before .before .before .before .before .before .before .before .before .before .before .before .before .before .before .pre .1 .1 .0)) (c .before .before .before .before .before .before .before .before .before .before .before .before .before .before .before .before .before .before .before .before .before .before .before .before .before .before .before .pre .1 .1 .1) (ap (λ d. d .arg) (c .before .before .before .before .before .before .before .before .before .before .before .before .before .before .before .before .before .before .before .before .before .before .next .ensures .node)) (iterated-ok _ (c .before .before .before .before .before .before .before .before .before .before .before .before .v .given .1) (rw (c .before .before .before .before .before .before .before .before .before .before .before .before .before .before .before .before .before .before .before .before .before .before .next .ensures .at) at (c .before .before .before .before .before .before .before .before .before .before .before .before .before .before .before .before .elements .ensures .0))) refl (c .before .before .before .before .before .before .before .before .before .before .before .before .before .before .before .before .before .before .before .before .before .before .next .ensures .at) (c .before .before .before .before .before .before .before .since .ensures) (c .before .before .before .before .before .before .bind .ensures) (second-of (c .before .before .before .before .before .before .before .before .before .before .before .before .before .before .before .before .before .before .before .before .before .before .next .ensures) (c .before .before .before .before .before .over .ensures)))),
+      second-at (standing-as refl (c .before .before .before .before .before .before .before .before .before .before .before .before .before .before .before .before .before .before .before .before .before .before .before .wide32 .ensures .0) refl (c .before .before .before .before .before .before .before .before .before .before .before .before .before .before .before .before .before .before .before .before .before .before .before .before .before .before .before .pre .1 .1 .0)) (pair-for ((c .before .before .before .before .before .before .before .before .before .before .before .before .before .before .before .before .before .before .before .before .before .before .before .before .before .before .before .pre .1 .1 .0) .ready .sound) (c .before .before .before .before .before .before .before .before .before .before .before .before .before .before .before .before .before .before .before .before .before .before .before .before .before .before .before .pre .1 .1 .1)) (second-of (c .before .before .before .before .before .before .before .before .before .before .before .before .before .before .before .before .before .before .before .before .before .before .next .ensures) (c .before .before .before .before .before .over .ensures)),
     ),
   ),
 )
 
-each-small-requires : (t : ℕ) → each-lts.Need-small-requires (wide32-reads.Asked, wide32-reads.Learnt, next-reads.Asked, next-reads.Learnt, elements-reads.Asked, elements-reads.Learnt, bind-reads.Asked, bind-reads.Learnt, over-reads.Asked, over-reads.Learnt, block-below t, block.Post, small-reads.Asked, small-reads.Learnt) (each-at t) each.Post
+-- src/lib.rt:614:18
+each-small-requires : (t : ℕ) → each-lts.Need-small-requires (wide32-reads.Asked, wide32-reads.Learnt, next-reads.Asked, next-reads.Learnt, elements-reads.Asked, elements-reads.Learnt, since-reads.Asked, since-reads.Learnt, bind-reads.Asked, bind-reads.Learnt, over-reads.Asked, over-reads.Learnt, block-below t, block.Post, small-reads.Asked, small-reads.Learnt) (each-at t) each.Post
 each-small-requires t c κs =
-    omega (arith, (c .before .before .before .before .before .before .before .before .before .before .before .before .before .before .before .before .before .before .before .before .before .before .before .before .before .wide32 .ensures .0), (c .before .before .before .before .before .before .before .before .before .before .before .before .before .before .before .before .before .before .before .before .before .before .before .before .before .before .before .before .before .pre .1 .1 .0) .ready .fit .high)
+    omega (arith, (c .before .before .before .before .before .before .before .before .before .before .before .before .before .before .before .before .before .before .before .before .before .before .before .before .before .before .wide32 .ensures .0), (c .before .before .before .before .before .before .before .before .before .before .before .before .before .before .before .before .before .before .before .before .before .before .before .before .before .before .before .before .before .before .pre .1 .1 .0) .ready .fit .high)
 
-each-element-write-notes : (t : ℕ) → each-lts.Need-element-write-notes (wide32-reads.Asked, wide32-reads.Learnt, next-reads.Asked, next-reads.Learnt, elements-reads.Asked, elements-reads.Learnt, bind-reads.Asked, bind-reads.Learnt, over-reads.Asked, over-reads.Learnt, block-below t, block.Post, small-reads.Asked, small-reads.Learnt) (each-at t) each.Post
+-- src/lib.rt:614:5
+each-element-write-notes : (t : ℕ) → each-lts.Need-element-write-notes (wide32-reads.Asked, wide32-reads.Learnt, next-reads.Asked, next-reads.Learnt, elements-reads.Asked, elements-reads.Learnt, since-reads.Asked, since-reads.Learnt, bind-reads.Asked, bind-reads.Learnt, over-reads.Asked, over-reads.Learnt, block-below t, block.Post, small-reads.Asked, small-reads.Learnt) (each-at t) each.Post
 each-element-write-notes t c = search needs
 
-each-same-length-2 : (t : ℕ) → each-lts.Need-same-length-2 (wide32-reads.Asked, wide32-reads.Learnt, next-reads.Asked, next-reads.Learnt, elements-reads.Asked, elements-reads.Learnt, bind-reads.Asked, bind-reads.Learnt, over-reads.Asked, over-reads.Learnt, block-below t, block.Post, small-reads.Asked, small-reads.Learnt) (each-at t) each.Post
+-- src/lib.rt:570:1
+each-same-length-2 : (t : ℕ) → each-lts.Need-same-length-2 (wide32-reads.Asked, wide32-reads.Learnt, next-reads.Asked, next-reads.Learnt, elements-reads.Asked, elements-reads.Learnt, since-reads.Asked, since-reads.Learnt, bind-reads.Asked, bind-reads.Learnt, over-reads.Asked, over-reads.Learnt, block-below t, block.Post, small-reads.Asked, small-reads.Learnt) (each-at t) each.Post
 each-same-length-2 t c =
     let a = c .before .before .table2 .given in
-    let b = c .before .before .before .before .before .before .before .before .before .before .before .before .before .before .before .before .before .before .table .given in
+    let b = c .before .before .before .before .before .before .before .before .before .before .before .before .before .before .before .before .before .before .before .table .given in
     search needs
 
-each-returns-2 : (t : ℕ) → each-lts.Need-returns-2 (wide32-reads.Asked, wide32-reads.Learnt, next-reads.Asked, next-reads.Learnt, elements-reads.Asked, elements-reads.Learnt, bind-reads.Asked, bind-reads.Learnt, over-reads.Asked, over-reads.Learnt, block-below t, block.Post, small-reads.Asked, small-reads.Learnt) (each-at t) each.Post
+-- src/lib.rt:570:1
+each-returns-2 : (t : ℕ) → each-lts.Need-returns-2 (wide32-reads.Asked, wide32-reads.Learnt, next-reads.Asked, next-reads.Learnt, elements-reads.Asked, elements-reads.Learnt, since-reads.Asked, since-reads.Learnt, bind-reads.Asked, bind-reads.Learnt, over-reads.Asked, over-reads.Learnt, block-below t, block.Post, small-reads.Asked, small-reads.Learnt) (each-at t) each.Post
 each-returns-2 t c = (
-  (λ loop. acted-from _ _ _ _ _ _ _ (c .before .before .before .before .before .before .before .before .before .before .before .before .before .before .before .before .before .before .before .before .before .before .before .before .before .before .wide32 .ensures .0) (done-moved ((top-set ((c .before .before .before .block .ensures .1) .noting) (c .small .ensures)) .moved) (c .before .before .before .block .ensures .1) ((top-set ((c .before .before .before .block .ensures .1) .noting) (c .small .ensures)) .top-is) ((top-set ((c .before .before .before .block .ensures .1) .noting) (c .small .ensures)) .ret-kept) (for-done (standing-as refl (c .before .before .before .before .before .before .before .before .before .before .before .before .before .before .before .before .before .before .before .before .before .before .before .before .before .before .wide32 .ensures .0) refl (c .before .before .before .before .before .before .before .before .before .before .before .before .before .before .before .before .before .before .before .before .before .before .before .before .before .before .before .before .before .before .pre .1 .1 .0)) (c .before .before .before .before .before .before .before .before .before .before .before .before .before .before .before .before .before .before .before .before .before .before .before .before .before .before .before .before .before .before .pre .1 .1 .1) (ap (λ d. d .arg) (c .before .before .before .before .before .before .before .before .before .before .before .before .before .before .before .before .before .before .before .before .before .before .before .before .before .next .ensures .node)) (iterated-ok _ (c .before .before .before .before .before .before .before .before .before .before .before .before .before .before .before .v .given .1) (rw (c .before .before .before .before .before .before .before .before .before .before .before .before .before .before .before .before .before .before .before .before .before .before .before .before .before .next .ensures .at) at (c .before .before .before .before .before .before .before .before .before .before .before .before .before .before .before .before .before .before .before .elements .ensures .0))) refl (c .before .before .before .before .before .before .before .before .before .before .bind .ensures) _ (second-of (c .before .before .before .before .before .before .before .before .before .before .before .before .before .before .before .before .before .before .before .before .before .before .before .before .before .next .ensures) (c .before .before .before .before .before .before .before .before .before .over .ensures)) (body-from _ _ _ _ _ _ _ refl ((c .before .before .before .before .before .before .before .before .before .before .before .before .before .before .before .before .before .before .before .elements .ensures .1) .top ∙ sym (c .before .before .before .before .before .before .before .before .before .before .before .before .before .before .before .before .before .before .before .before .before .before .before .before .before .before .wide32 .ensures .0)) ((c .before .before .before .before .before .before .before .before .before .before .before .before .before .before .before .before .before .before .before .elements .ensures .1) .ret) (c .before .before .before .block .ensures .0)) loop))),
+  (λ loop. acted-from _ _ _ _ _ _ _ (c .before .before .before .before .before .before .before .before .before .before .before .before .before .before .before .before .before .before .before .before .before .before .before .before .before .before .before .wide32 .ensures .0) (done-moved ((top-set ((c .before .before .before .block .ensures .1) .noting) (c .small .ensures)) .moved) (c .before .before .before .block .ensures .1) ((top-set ((c .before .before .before .block .ensures .1) .noting) (c .small .ensures)) .top-is) ((top-set ((c .before .before .before .block .ensures .1) .noting) (c .small .ensures)) .ret-kept) (for-done (standing-as refl (c .before .before .before .before .before .before .before .before .before .before .before .before .before .before .before .before .before .before .before .before .before .before .before .before .before .before .before .wide32 .ensures .0) refl (c .before .before .before .before .before .before .before .before .before .before .before .before .before .before .before .before .before .before .before .before .before .before .before .before .before .before .before .before .before .before .before .pre .1 .1 .0)) (c .before .before .before .before .before .before .before .before .before .before .before .before .before .before .before .before .before .before .before .before .before .before .before .before .before .before .before .before .before .before .before .pre .1 .1 .1) (ap (λ d. d .arg) (c .before .before .before .before .before .before .before .before .before .before .before .before .before .before .before .before .before .before .before .before .before .before .before .before .before .before .next .ensures .node)) (iterated-ok _ (c .before .before .before .before .before .before .before .before .before .before .before .before .before .before .before .before .v .given .1) (rw (c .before .before .before .before .before .before .before .before .before .before .before .before .before .before .before .before .before .before .before .before .before .before .before .before .before .before .next .ensures .at) at (c .before .before .before .before .before .before .before .before .before .before .before .before .before .before .before .before .before .before .before .before .elements .ensures .0))) refl (c .before .before .before .before .before .before .before .before .before .before .before .before .before .before .before .before .before .before .before .before .before .before .before .before .before .before .next .ensures .at) (c .before .before .before .before .before .before .before .before .before .before .before .since .ensures) (c .before .before .before .before .before .before .before .before .before .before .bind .ensures) _ (second-of (c .before .before .before .before .before .before .before .before .before .before .before .before .before .before .before .before .before .before .before .before .before .before .before .before .before .before .next .ensures) (c .before .before .before .before .before .before .before .before .before .over .ensures)) (body-from _ _ _ _ _ _ _ refl ((c .before .before .before .before .before .before .before .before .before .before .before .before .before .before .before .before .before .before .before .before .elements .ensures .1) .top ∙ sym (c .before .before .before .before .before .before .before .before .before .before .before .before .before .before .before .before .before .before .before .before .before .before .before .before .before .before .before .wide32 .ensures .0)) ((c .before .before .before .before .before .before .before .before .before .before .before .before .before .before .before .before .before .before .before .before .elements .ensures .1) .ret) (c .before .before .before .block .ensures .0)) loop))),
   tells-moved ((top-set ((c .before .before .before .block .ensures .1) .noting) (c .small .ensures)) .moved) (c .before .before .before .block .ensures .1),
 )
 
+-- src/lib.rt:484:26
 one-arm-element-copy-out-wide32 : (t : ℕ) → one-arm-lts.Need-element-copy-out-wide32 (wide32-reads.Asked, wide32-reads.Learnt, ensure-bool-reads.Asked, ensure-bool-reads.Learnt, over-reads.Asked, over-reads.Learnt, block-below t, block.Post) (one-arm-at t) one-arm.Post
 one-arm-element-copy-out-wide32 t c = search needs
 
+-- src/lib.rt:484:13
 one-arm-wide32-requires : (t : ℕ) → one-arm-lts.Need-wide32-requires (wide32-reads.Asked, wide32-reads.Learnt, ensure-bool-reads.Asked, ensure-bool-reads.Learnt, over-reads.Asked, over-reads.Learnt, block-below t, block.Post) (one-arm-at t) one-arm.Post
 one-arm-wide32-requires t c κs =
     search needs
 
+-- src/lib.rt:485:13
 one-arm-ensure-bool-requires : (t : ℕ) → one-arm-lts.Need-ensure-bool-requires (wide32-reads.Asked, wide32-reads.Learnt, ensure-bool-reads.Asked, ensure-bool-reads.Learnt, over-reads.Asked, over-reads.Learnt, block-below t, block.Post) (one-arm-at t) one-arm.Post
 one-arm-ensure-bool-requires t c κs =
     ((c .before .before .before .before .before .before .before .before .before .pre .1 .0), (when-ready true (standing-as refl (c .before .before .before .before .wide32 .ensures .0) refl (c .before .before .before .before .before .before .before .before .before .pre .1 .1 .0)) (c .before .before .before .before .before .before .before .before .before .pre .1 .1 .1) (c .before .before .before .before .before .before .if1 .taken), (c .before .before .before .before .before .before .before .before .before .pre .1 .1 .1) .first))
@@ -535,22 +629,27 @@ one-arm-ensure-bool-requires t c κs =
 one-arm-enum-told : (t : ℕ) → one-arm-lts.Need-enum-told (wide32-reads.Asked, wide32-reads.Learnt, ensure-bool-reads.Asked, ensure-bool-reads.Learnt, over-reads.Asked, over-reads.Learnt, block-below t, block.Post) (one-arm-at t) one-arm.Post
 one-arm-enum-told t c = search needs
 
+-- src/lib.rt:487:13
 one-arm-enum-told-2 : (t : ℕ) → one-arm-lts.Need-enum-told-2 (wide32-reads.Asked, wide32-reads.Learnt, ensure-bool-reads.Asked, ensure-bool-reads.Learnt, over-reads.Asked, over-reads.Learnt, block-below t, block.Post) (one-arm-at t) one-arm.Post
 one-arm-enum-told-2 t c = search needs
 
+-- src/lib.rt:487:13
 one-arm-same-length : (t : ℕ) → one-arm-lts.Need-same-length (wide32-reads.Asked, wide32-reads.Learnt, ensure-bool-reads.Asked, ensure-bool-reads.Learnt, over-reads.Asked, over-reads.Learnt, block-below t, block.Post) (one-arm-at t) one-arm.Post
 one-arm-same-length t c = search needs
 
+-- src/lib.rt:487:13
 one-arm-returns : (t : ℕ) → one-arm-lts.Need-returns (wide32-reads.Asked, wide32-reads.Learnt, ensure-bool-reads.Asked, ensure-bool-reads.Learnt, over-reads.Asked, over-reads.Learnt, block-below t, block.Post) (one-arm-at t) one-arm.Post
 one-arm-returns t c = (
   armed-from _ _ _ _ _ _ _ _ (c .before .before .before .before .before .before .before .before .before .wide32 .ensures .0) (done-ends refl ((c .before .before .before .before .ensure-bool .ensures .1) .top ∙ sym (c .before .before .before .before .before .before .before .before .before .wide32 .ensures .0)) ((c .before .before .before .before .ensure-bool .ensures .1) .ret) (arm-bad _ (standing-as refl (c .before .before .before .before .before .before .before .before .before .wide32 .ensures .0) refl (c .before .before .before .before .before .before .before .before .before .before .before .before .before .before .pre .1 .1 .0)) (c .before .before .before .before .before .before .before .before .before .before .before .before .before .before .pre .1 .1 .1) (c .before .before .before .before .before .before .before .before .before .before .before .if1 .taken) (assigned-err _ (c .enum-told2 .given .1) (c .before .before .before .before .ensure-bool .ensures .0)) _ ((c .before .before .before .before .ensure-bool .ensures .1) .coded (c .enum-told2 .given .1)))),
   tells-kept (kept-as (λ _. (c .enum-told2 .given .1)) (c .before .before .before .before .ensure-bool .ensures .1)) (λ _. (assigned-err _ (c .enum-told2 .given .1) (c .before .before .before .before .ensure-bool .ensures .0)) .typing),
 )
 
+-- src/lib.rt:489:13
 one-arm-over-requires : (t : ℕ) → one-arm-lts.Need-over-requires (wide32-reads.Asked, wide32-reads.Learnt, ensure-bool-reads.Asked, ensure-bool-reads.Learnt, over-reads.Asked, over-reads.Learnt, block-below t, block.Post) (one-arm-at t) one-arm.Post
 one-arm-over-requires t c κs =
     (((c .before .before .before .before .before .before .before .before .before .before .before .before .before .before .pre .1 .1 .0) .ready .sound) .headed, record { nodes = (c .before .before .before .before .before .before .before .before .before .before .before .before .before .before .pre .1 .1 .0) .ready .nodes-at; within = (c .before .before .before .before .before .before .before .before .before .before .before .before .before .before .pre .1 .1 .1) .first .there })
 
+-- src/lib.rt:491:9
 one-arm-block-requires : (t : ℕ) → one-arm-lts.Need-block-requires (wide32-reads.Asked, wide32-reads.Learnt, ensure-bool-reads.Asked, ensure-bool-reads.Learnt, over-reads.Asked, over-reads.Learnt, block-below t, block.Post) (one-arm-at t) one-arm.Post
 one-arm-block-requires t c κs = (
   omega (arith, c .before .before .before .before .before .before .before .before .before .before .before .before .before .before .before .before .before .before .before .before .pre .0),
@@ -563,35 +662,44 @@ one-arm-block-requires t c κs = (
   ),
 )
 
+-- src/lib.rt:491:9
 one-arm-same-length-2 : (t : ℕ) → one-arm-lts.Need-same-length-2 (wide32-reads.Asked, wide32-reads.Learnt, ensure-bool-reads.Asked, ensure-bool-reads.Learnt, over-reads.Asked, over-reads.Learnt, block-below t, block.Post) (one-arm-at t) one-arm.Post
 one-arm-same-length-2 t c = search needs
 
+-- src/lib.rt:491:9
 one-arm-returns-2 : (t : ℕ) → one-arm-lts.Need-returns-2 (wide32-reads.Asked, wide32-reads.Learnt, ensure-bool-reads.Asked, ensure-bool-reads.Learnt, over-reads.Asked, over-reads.Learnt, block-below t, block.Post) (one-arm-at t) one-arm.Post
 one-arm-returns-2 t c =
     (armed-from _ _ _ _ _ _ _ _ (c .before .before .before .before .before .before .before .before .before .before .before .before .before .before .before .before .before .before .wide32 .ensures .0) (arm-done _ (standing-as refl (c .before .before .before .before .before .before .before .before .before .before .before .before .before .before .before .before .before .before .wide32 .ensures .0) refl (c .before .before .before .before .before .before .before .before .before .before .before .before .before .before .before .before .before .before .before .before .before .before .before .pre .1 .1 .0)) (c .before .before .before .before .before .before .before .before .before .before .before .before .before .before .before .before .before .before .before .before .before .before .before .pre .1 .1 .1) (c .before .before .before .before .before .before .before .before .before .before .before .before .before .before .before .before .before .before .before .before .if1 .taken) (assigned-ok _ (c .before .before .before .before .before .before .before .before .before .enum-told .given .1) (c .before .before .before .before .before .before .before .before .before .before .before .before .before .ensure-bool .ensures .0)) (stops (c .before .before .before .before .before .before .before .before .over .ensures)) _ (drops-if _) refl (body-from _ _ _ _ _ _ _ refl ((c .before .before .before .before .before .before .before .before .before .before .before .before .before .ensure-bool .ensures .1) .top ∙ sym (c .before .before .before .before .before .before .before .before .before .before .before .before .before .before .before .before .before .before .wide32 .ensures .0)) ((c .before .before .before .before .before .before .before .before .before .before .before .before .before .ensure-bool .ensures .1) .ret) (c .before .before .block .ensures .0))), c .before .before .block .ensures .1)
 
+-- src/lib.rt:504:5
 one-arm-block-requires-2 : (t : ℕ) → one-arm-lts.Need-block-requires-2 (wide32-reads.Asked, wide32-reads.Learnt, ensure-bool-reads.Asked, ensure-bool-reads.Learnt, over-reads.Asked, over-reads.Learnt, block-below t, block.Post) (one-arm-at t) one-arm.Post
 one-arm-block-requires-2 t c κs =
     (omega (arith, c .before .before .before .before .before .before .before .pre .0), ((c .before .before .before .before .before .before .before .pre .1 .0), (last-standing true (c .before .before .before .before .before .before .before .pre .1 .1 .0) (c .before .before .before .before .before .before .before .pre .1 .1 .1) (c .before .before .before .before .if1 .left), (c .before .before .before .before .before .before .before .pre .1 .1 .1) .first)))
 
+-- src/lib.rt:465:1
 one-arm-same-length-3 : (t : ℕ) → one-arm-lts.Need-same-length-3 (wide32-reads.Asked, wide32-reads.Learnt, ensure-bool-reads.Asked, ensure-bool-reads.Learnt, over-reads.Asked, over-reads.Learnt, block-below t, block.Post) (one-arm-at t) one-arm.Post
 one-arm-same-length-3 t c = search needs
 
+-- src/lib.rt:465:1
 one-arm-returns-3 : (t : ℕ) → one-arm-lts.Need-returns-3 (wide32-reads.Asked, wide32-reads.Learnt, ensure-bool-reads.Asked, ensure-bool-reads.Learnt, over-reads.Asked, over-reads.Learnt, block-below t, block.Post) (one-arm-at t) one-arm.Post
 one-arm-returns-3 t c =
     (arm-last _ (c .before .before .before .before .before .before .before .before .before .before .pre .1 .1 .0) (c .before .before .before .before .before .before .before .before .before .before .pre .1 .1 .1) (c .before .before .before .before .before .before .before .if1 .left) _ (drops-if _) (c .before .before .block2 .ensures .0), c .before .before .block2 .ensures .1)
 
+-- src/lib.rt:634:22
 repeat-element-copy-out-wide32 : (t : ℕ) → repeat-lts.Need-element-copy-out-wide32 (wide32-reads.Asked, wide32-reads.Learnt, next-reads.Asked, next-reads.Learnt, ensure-bool-reads.Asked, ensure-bool-reads.Learnt, over-reads.Asked, over-reads.Learnt, block-below t, block.Post, small-reads.Asked, small-reads.Learnt) (repeat-at t) repeat.Post
 repeat-element-copy-out-wide32 t c = search needs
 
+-- src/lib.rt:634:9
 repeat-wide32-requires : (t : ℕ) → repeat-lts.Need-wide32-requires (wide32-reads.Asked, wide32-reads.Learnt, next-reads.Asked, next-reads.Learnt, ensure-bool-reads.Asked, ensure-bool-reads.Learnt, over-reads.Asked, over-reads.Learnt, block-below t, block.Post, small-reads.Asked, small-reads.Learnt) (repeat-at t) repeat.Post
 repeat-wide32-requires t c κs =
     search needs
 
+-- src/lib.rt:635:9
 repeat-next-requires : (t : ℕ) → repeat-lts.Need-next-requires (wide32-reads.Asked, wide32-reads.Learnt, next-reads.Asked, next-reads.Learnt, ensure-bool-reads.Asked, ensure-bool-reads.Learnt, over-reads.Asked, over-reads.Learnt, block-below t, block.Post, small-reads.Asked, small-reads.Learnt) (repeat-at t) repeat.Post
 repeat-next-requires t c κs =
     (((c .before .before .before .before .pre .1 .1 .0) .ready .sound) .headed, record { nodes = (c .before .before .before .before .pre .1 .1 .0) .ready .nodes-at; within = (c .before .before .before .before .pre .1 .1 .1) .there })
 
+-- src/lib.rt:637:9
 repeat-ensure-bool-requires : (t : ℕ) → repeat-lts.Need-ensure-bool-requires (wide32-reads.Asked, wide32-reads.Learnt, next-reads.Asked, next-reads.Learnt, ensure-bool-reads.Asked, ensure-bool-reads.Learnt, over-reads.Asked, over-reads.Learnt, block-below t, block.Post, small-reads.Asked, small-reads.Learnt) (repeat-at t) repeat.Post
 repeat-ensure-bool-requires t c κs =
     ((c .before .before .before .before .before .before .before .before .before .pre .1 .0), rw (c .before .before .before .before .next .ensures .at) (ready-nodes (c .before .before .before .before .next .ensures .nodes) (first-ready (standing-as refl (c .before .before .before .before .before .wide32 .ensures .0) refl (c .before .before .before .before .before .before .before .before .before .pre .1 .1 .0)) (pair-while ((c .before .before .before .before .before .before .before .before .before .pre .1 .1 .0) .ready .sound) (c .before .before .before .before .before .before .before .before .before .pre .1 .1 .1))), (pair-while ((c .before .before .before .before .before .before .before .before .before .pre .1 .1 .0) .ready .sound) (c .before .before .before .before .before .before .before .before .before .pre .1 .1 .1)) .first))
@@ -599,22 +707,27 @@ repeat-ensure-bool-requires t c κs =
 repeat-enum-told : (t : ℕ) → repeat-lts.Need-enum-told (wide32-reads.Asked, wide32-reads.Learnt, next-reads.Asked, next-reads.Learnt, ensure-bool-reads.Asked, ensure-bool-reads.Learnt, over-reads.Asked, over-reads.Learnt, block-below t, block.Post, small-reads.Asked, small-reads.Learnt) (repeat-at t) repeat.Post
 repeat-enum-told t c = search needs
 
+-- src/lib.rt:639:9
 repeat-enum-told-2 : (t : ℕ) → repeat-lts.Need-enum-told-2 (wide32-reads.Asked, wide32-reads.Learnt, next-reads.Asked, next-reads.Learnt, ensure-bool-reads.Asked, ensure-bool-reads.Learnt, over-reads.Asked, over-reads.Learnt, block-below t, block.Post, small-reads.Asked, small-reads.Learnt) (repeat-at t) repeat.Post
 repeat-enum-told-2 t c = search needs
 
+-- src/lib.rt:639:9
 repeat-same-length : (t : ℕ) → repeat-lts.Need-same-length (wide32-reads.Asked, wide32-reads.Learnt, next-reads.Asked, next-reads.Learnt, ensure-bool-reads.Asked, ensure-bool-reads.Learnt, over-reads.Asked, over-reads.Learnt, block-below t, block.Post, small-reads.Asked, small-reads.Learnt) (repeat-at t) repeat.Post
 repeat-same-length t c = search needs
 
+-- src/lib.rt:639:9
 repeat-returns : (t : ℕ) → repeat-lts.Need-returns (wide32-reads.Asked, wide32-reads.Learnt, next-reads.Asked, next-reads.Learnt, ensure-bool-reads.Asked, ensure-bool-reads.Learnt, over-reads.Asked, over-reads.Learnt, block-below t, block.Post, small-reads.Asked, small-reads.Learnt) (repeat-at t) repeat.Post
 repeat-returns t c = (
   (λ loop. acted-from _ _ _ _ _ _ _ (c .before .before .before .before .before .before .before .before .before .before .wide32 .ensures .0) (done-ends refl ((c .before .before .before .before .ensure-bool .ensures .1) .top ∙ sym (c .before .before .before .before .before .before .before .before .before .before .wide32 .ensures .0)) ((c .before .before .before .before .ensure-bool .ensures .1) .ret) (while-bad (standing-as refl (c .before .before .before .before .before .before .before .before .before .before .wide32 .ensures .0) refl (c .before .before .before .before .before .before .before .before .before .before .before .before .before .before .pre .1 .1 .0)) (c .before .before .before .before .before .before .before .before .before .before .before .before .before .before .pre .1 .1 .1) (assigned-err _ (c .enum-told2 .given .1) (rw (c .before .before .before .before .before .before .before .before .before .next .ensures .at) at (c .before .before .before .before .ensure-bool .ensures .0))) ((c .before .before .before .before .ensure-bool .ensures .1) .coded (c .enum-told2 .given .1)) _ loop))),
   tells-kept (kept-as (λ _. (c .enum-told2 .given .1)) (c .before .before .before .before .ensure-bool .ensures .1)) (λ _. (assigned-err _ (c .enum-told2 .given .1) (rw (c .before .before .before .before .before .before .before .before .before .next .ensures .at) at (c .before .before .before .before .ensure-bool .ensures .0))) .typing),
 )
 
+-- src/lib.rt:643:9
 repeat-over-requires : (t : ℕ) → repeat-lts.Need-over-requires (wide32-reads.Asked, wide32-reads.Learnt, next-reads.Asked, next-reads.Learnt, ensure-bool-reads.Asked, ensure-bool-reads.Learnt, over-reads.Asked, over-reads.Learnt, block-below t, block.Post, small-reads.Asked, small-reads.Learnt) (repeat-at t) repeat.Post
 repeat-over-requires t c κs =
     (((c .before .before .before .before .before .before .before .before .before .before .before .before .before .before .before .pre .1 .1 .0) .ready .sound) .headed, record { nodes = c .before .before .before .before .before .before .before .before .before .before .next .ensures .nodes; within = rw (c .before .before .before .before .before .before .before .before .before .before .next .ensures .at) ((pair-while ((c .before .before .before .before .before .before .before .before .before .before .before .before .before .before .before .pre .1 .1 .0) .ready .sound) (c .before .before .before .before .before .before .before .before .before .before .before .before .before .before .before .pre .1 .1 .1)) .first .there) })
 
+-- src/lib.rt:645:9
 repeat-block-requires : (t : ℕ) → repeat-lts.Need-block-requires (wide32-reads.Asked, wide32-reads.Learnt, next-reads.Asked, next-reads.Learnt, ensure-bool-reads.Asked, ensure-bool-reads.Learnt, over-reads.Asked, over-reads.Learnt, block-below t, block.Post, small-reads.Asked, small-reads.Learnt) (repeat-at t) repeat.Post
 repeat-block-requires t c κs = (
   omega (arith, c .before .before .before .before .before .before .before .before .before .before .before .before .before .before .before .before .before .before .before .before .before .pre .0),
@@ -628,54 +741,67 @@ repeat-block-requires t c κs = (
   ),
 )
 
+-- src/lib.rt:657:18
 repeat-small-requires : (t : ℕ) → repeat-lts.Need-small-requires (wide32-reads.Asked, wide32-reads.Learnt, next-reads.Asked, next-reads.Learnt, ensure-bool-reads.Asked, ensure-bool-reads.Learnt, over-reads.Asked, over-reads.Learnt, block-below t, block.Post, small-reads.Asked, small-reads.Learnt) (repeat-at t) repeat.Post
 repeat-small-requires t c κs =
     omega (arith, (c .before .before .before .before .before .before .before .before .before .before .before .before .before .before .before .before .before .before .before .before .wide32 .ensures .0), (c .before .before .before .before .before .before .before .before .before .before .before .before .before .before .before .before .before .before .before .before .before .before .before .before .pre .1 .1 .0) .ready .fit .high)
 
+-- src/lib.rt:657:5
 repeat-element-write-notes : (t : ℕ) → repeat-lts.Need-element-write-notes (wide32-reads.Asked, wide32-reads.Learnt, next-reads.Asked, next-reads.Learnt, ensure-bool-reads.Asked, ensure-bool-reads.Learnt, over-reads.Asked, over-reads.Learnt, block-below t, block.Post, small-reads.Asked, small-reads.Learnt) (repeat-at t) repeat.Post
 repeat-element-write-notes t c = search needs
 
+-- src/lib.rt:619:1
 repeat-same-length-2 : (t : ℕ) → repeat-lts.Need-same-length-2 (wide32-reads.Asked, wide32-reads.Learnt, next-reads.Asked, next-reads.Learnt, ensure-bool-reads.Asked, ensure-bool-reads.Learnt, over-reads.Asked, over-reads.Learnt, block-below t, block.Post, small-reads.Asked, small-reads.Learnt) (repeat-at t) repeat.Post
 repeat-same-length-2 t c = search needs
 
+-- src/lib.rt:619:1
 repeat-returns-2 : (t : ℕ) → repeat-lts.Need-returns-2 (wide32-reads.Asked, wide32-reads.Learnt, next-reads.Asked, next-reads.Learnt, ensure-bool-reads.Asked, ensure-bool-reads.Learnt, over-reads.Asked, over-reads.Learnt, block-below t, block.Post, small-reads.Asked, small-reads.Learnt) (repeat-at t) repeat.Post
 repeat-returns-2 t c = (
   (λ loop. acted-from _ _ _ _ _ _ _ (c .before .before .before .before .before .before .before .before .before .before .before .before .before .before .before .before .before .before .before .before .before .wide32 .ensures .0) (done-moved ((top-set ((c .before .before .before .block .ensures .1) .noting) (c .small .ensures)) .moved) (c .before .before .before .block .ensures .1) ((top-set ((c .before .before .before .block .ensures .1) .noting) (c .small .ensures)) .top-is) ((top-set ((c .before .before .before .block .ensures .1) .noting) (c .small .ensures)) .ret-kept) (while-done (standing-as refl (c .before .before .before .before .before .before .before .before .before .before .before .before .before .before .before .before .before .before .before .before .before .wide32 .ensures .0) refl (c .before .before .before .before .before .before .before .before .before .before .before .before .before .before .before .before .before .before .before .before .before .before .before .before .before .pre .1 .1 .0)) (c .before .before .before .before .before .before .before .before .before .before .before .before .before .before .before .before .before .before .before .before .before .before .before .before .before .pre .1 .1 .1) (assigned-ok _ (c .before .before .before .before .before .before .before .before .before .before .before .enum-told .given .1) (rw (c .before .before .before .before .before .before .before .before .before .before .before .before .before .before .before .before .before .before .before .before .next .ensures .at) at (c .before .before .before .before .before .before .before .before .before .before .before .before .before .before .before .ensure-bool .ensures .0))) _ (drops-if _) refl (second-of (c .before .before .before .before .before .before .before .before .before .before .before .before .before .before .before .before .before .before .before .before .next .ensures) (c .before .before .before .before .before .before .before .before .before .over .ensures)) (body-from _ _ _ _ _ _ _ refl ((c .before .before .before .before .before .before .before .before .before .before .before .before .before .before .before .ensure-bool .ensures .1) .top ∙ sym (c .before .before .before .before .before .before .before .before .before .before .before .before .before .before .before .before .before .before .before .before .before .wide32 .ensures .0)) ((c .before .before .before .before .before .before .before .before .before .before .before .before .before .before .before .ensure-bool .ensures .1) .ret) (c .before .before .before .block .ensures .0)) loop))),
   tells-moved ((top-set ((c .before .before .before .block .ensures .1) .noting) (c .small .ensures)) .moved) (c .before .before .before .block .ensures .1),
 )
 
+-- src/lib.rt:339:9
 tc-stmt-next-requires : (t : ℕ) → tc-stmt-lts.Need-next-requires (next-reads.Asked, next-reads.Learnt, choices-below t, choices.Post, repeat-below t, repeat.Post, each-below t, each.Post, define-below t, define.Post, wide32-reads.Asked, wide32-reads.Learnt, simple-reads.Asked, simple-reads.Learnt, end-of-reads.Asked, end-of-reads.Learnt) (tc-stmt-at t) tc-stmt.Post
 tc-stmt-next-requires t c κs =
     (((c .before .before .pre .1 .1 .0) .ready .sound) .headed, record { nodes = (c .before .before .pre .1 .1 .0) .ready .nodes-at; within = (c .before .before .pre .1 .1 .1) .there })
 
+-- src/lib.rt:342:13
 tc-stmt-sub-d : (t : ℕ) → tc-stmt-lts.Need-sub-d (next-reads.Asked, next-reads.Learnt, choices-below t, choices.Post, repeat-below t, repeat.Post, each-below t, each.Post, define-below t, define.Post, wide32-reads.Asked, wide32-reads.Learnt, simple-reads.Asked, simple-reads.Learnt, end-of-reads.Asked, end-of-reads.Learnt) (tc-stmt-at t) tc-stmt.Post
 tc-stmt-sub-d t c =
     let h = (shallow ((c .before .before .before .before .pre .1 .1 .0) .ready .sound) (c .before .before .before .before .pre .1 .1 .1)) in
     omega arith
 
+-- src/lib.rt:344:22
 tc-stmt-choices-requires : (t : ℕ) → tc-stmt-lts.Need-choices-requires (next-reads.Asked, next-reads.Learnt, choices-below t, choices.Post, repeat-below t, repeat.Post, each-below t, each.Post, define-below t, define.Post, wide32-reads.Asked, wide32-reads.Learnt, simple-reads.Asked, simple-reads.Learnt, end-of-reads.Asked, end-of-reads.Learnt) (tc-stmt-at t) tc-stmt.Post
 tc-stmt-choices-requires t c κs =
     (omega (arith, c .before .before .before .before .before .before .before .before .before .pre .0, (shallow ((c .before .before .before .before .before .before .before .before .before .pre .1 .1 .0) .ready .sound) (c .before .before .before .before .before .before .before .before .before .pre .1 .1 .1))), ((c .before .before .before .before .before .before .before .before .before .pre .1 .0), ((c .before .before .before .before .before .before .before .before .before .pre .1 .1 .0), stmt-here ((c .before .before .before .before .before .before .before .before .before .pre .1 .1 .0) .ready .sound) (c .before .before .before .before .before .before .before .before .before .pre .1 .1 .1) (sym (c .before .before .before .before .match .keys1) ∙ (ap (λ d. d .kind) (c .before .before .before .before .before .before .next .ensures .node))))))
 
+-- src/lib.rt:345:25
 tc-stmt-repeat-requires : (t : ℕ) → tc-stmt-lts.Need-repeat-requires (next-reads.Asked, next-reads.Learnt, choices-below t, choices.Post, repeat-below t, repeat.Post, each-below t, each.Post, define-below t, define.Post, wide32-reads.Asked, wide32-reads.Learnt, simple-reads.Asked, simple-reads.Learnt, end-of-reads.Asked, end-of-reads.Learnt) (tc-stmt-at t) tc-stmt.Post
 tc-stmt-repeat-requires t c κs =
     (omega (arith, c .before .before .before .before .before .before .before .before .before .pre .0, (shallow ((c .before .before .before .before .before .before .before .before .before .pre .1 .1 .0) .ready .sound) (c .before .before .before .before .before .before .before .before .before .pre .1 .1 .1))), ((c .before .before .before .before .before .before .before .before .before .pre .1 .0), ((c .before .before .before .before .before .before .before .before .before .pre .1 .1 .0), stmt-here ((c .before .before .before .before .before .before .before .before .before .pre .1 .1 .0) .ready .sound) (c .before .before .before .before .before .before .before .before .before .pre .1 .1 .1) (sym (c .before .before .before .before .match .keys2) ∙ (ap (λ d. d .kind) (c .before .before .before .before .before .before .next .ensures .node))))))
 
+-- src/lib.rt:346:23
 tc-stmt-each-requires : (t : ℕ) → tc-stmt-lts.Need-each-requires (next-reads.Asked, next-reads.Learnt, choices-below t, choices.Post, repeat-below t, repeat.Post, each-below t, each.Post, define-below t, define.Post, wide32-reads.Asked, wide32-reads.Learnt, simple-reads.Asked, simple-reads.Learnt, end-of-reads.Asked, end-of-reads.Learnt) (tc-stmt-at t) tc-stmt.Post
 tc-stmt-each-requires t c κs =
     (omega (arith, c .before .before .before .before .before .before .before .before .before .pre .0, (shallow ((c .before .before .before .before .before .before .before .before .before .pre .1 .1 .0) .ready .sound) (c .before .before .before .before .before .before .before .before .before .pre .1 .1 .1))), ((c .before .before .before .before .before .before .before .before .before .pre .1 .0), ((c .before .before .before .before .before .before .before .before .before .pre .1 .1 .0), stmt-here ((c .before .before .before .before .before .before .before .before .before .pre .1 .1 .0) .ready .sound) (c .before .before .before .before .before .before .before .before .before .pre .1 .1 .1) (sym (c .before .before .before .before .match .keys3) ∙ (ap (λ d. d .kind) (c .before .before .before .before .before .before .next .ensures .node))))))
 
+-- src/lib.rt:347:23
 tc-stmt-define-requires : (t : ℕ) → tc-stmt-lts.Need-define-requires (next-reads.Asked, next-reads.Learnt, choices-below t, choices.Post, repeat-below t, repeat.Post, each-below t, each.Post, define-below t, define.Post, wide32-reads.Asked, wide32-reads.Learnt, simple-reads.Asked, simple-reads.Learnt, end-of-reads.Asked, end-of-reads.Learnt) (tc-stmt-at t) tc-stmt.Post
 tc-stmt-define-requires t c κs =
     (omega (arith, c .before .before .before .before .before .before .before .before .before .pre .0, (shallow ((c .before .before .before .before .before .before .before .before .before .pre .1 .1 .0) .ready .sound) (c .before .before .before .before .before .before .before .before .before .pre .1 .1 .1))), ((c .before .before .before .before .before .before .before .before .before .pre .1 .0), ((c .before .before .before .before .before .before .before .before .before .pre .1 .1 .0), stmt-here ((c .before .before .before .before .before .before .before .before .before .pre .1 .1 .0) .ready .sound) (c .before .before .before .before .before .before .before .before .before .pre .1 .1 .1) (sym (c .before .before .before .before .match .keys4) ∙ (ap (λ d. d .kind) (c .before .before .before .before .before .before .next .ensures .node))))))
 
+-- src/lib.rt:349:30
 tc-stmt-element-copy-out-wide32 : (t : ℕ) → tc-stmt-lts.Need-element-copy-out-wide32 (next-reads.Asked, next-reads.Learnt, choices-below t, choices.Post, repeat-below t, repeat.Post, each-below t, each.Post, define-below t, define.Post, wide32-reads.Asked, wide32-reads.Learnt, simple-reads.Asked, simple-reads.Learnt, end-of-reads.Asked, end-of-reads.Learnt) (tc-stmt-at t) tc-stmt.Post
 tc-stmt-element-copy-out-wide32 t c = search needs
 
+-- src/lib.rt:349:17
 tc-stmt-wide32-requires : (t : ℕ) → tc-stmt-lts.Need-wide32-requires (next-reads.Asked, next-reads.Learnt, choices-below t, choices.Post, repeat-below t, repeat.Post, each-below t, each.Post, define-below t, define.Post, wide32-reads.Asked, wide32-reads.Learnt, simple-reads.Asked, simple-reads.Learnt, end-of-reads.Asked, end-of-reads.Learnt) (tc-stmt-at t) tc-stmt.Post
 tc-stmt-wide32-requires t c κs =
     search needs
 
+-- src/lib.rt:350:17
 tc-stmt-simple-requires : (t : ℕ) → tc-stmt-lts.Need-simple-requires (next-reads.Asked, next-reads.Learnt, choices-below t, choices.Post, repeat-below t, repeat.Post, each-below t, each.Post, define-below t, define.Post, wide32-reads.Asked, wide32-reads.Learnt, simple-reads.Asked, simple-reads.Learnt, end-of-reads.Asked, end-of-reads.Learnt) (tc-stmt-at t) tc-stmt.Post
 tc-stmt-simple-requires t c κs =
     let o = c .before .before .before .before .before .before .match .rest in (
@@ -689,41 +815,52 @@ tc-stmt-simple-requires t c κs =
       ),
     )
 
+-- src/lib.rt:351:13
 tc-stmt-end-of-requires : (t : ℕ) → tc-stmt-lts.Need-end-of-requires (next-reads.Asked, next-reads.Learnt, choices-below t, choices.Post, repeat-below t, repeat.Post, each-below t, each.Post, define-below t, define.Post, wide32-reads.Asked, wide32-reads.Learnt, simple-reads.Asked, simple-reads.Learnt, end-of-reads.Asked, end-of-reads.Learnt) (tc-stmt-at t) tc-stmt.Post
 tc-stmt-end-of-requires t c κs =
     search needs
 
+-- src/lib.rt:323:1
 tc-stmt-same-length : (t : ℕ) → tc-stmt-lts.Need-same-length (next-reads.Asked, next-reads.Learnt, choices-below t, choices.Post, repeat-below t, repeat.Post, each-below t, each.Post, define-below t, define.Post, wide32-reads.Asked, wide32-reads.Learnt, simple-reads.Asked, simple-reads.Learnt, end-of-reads.Asked, end-of-reads.Learnt) (tc-stmt-at t) tc-stmt.Post
 tc-stmt-same-length t c = search needs
 
+-- src/lib.rt:323:1
 tc-stmt-returns : (t : ℕ) → tc-stmt-lts.Need-returns (next-reads.Asked, next-reads.Learnt, choices-below t, choices.Post, repeat-below t, repeat.Post, each-below t, each.Post, define-below t, define.Post, wide32-reads.Asked, wide32-reads.Learnt, simple-reads.Asked, simple-reads.Learnt, end-of-reads.Asked, end-of-reads.Learnt) (tc-stmt-at t) tc-stmt.Post
 tc-stmt-returns t c =
     (stmt-done ((c .before .before .before .before .before .before .before .before .before .before .before .before .pre .1 .1 .0) .ready .sound) (c .before .before .before .before .before .before .before .before .before .before .before .before .pre .1 .1 .1) _ _ _ (c .before .before .choices .ensures .0), c .before .before .choices .ensures .1)
 
+-- src/lib.rt:323:1
 tc-stmt-same-length-2 : (t : ℕ) → tc-stmt-lts.Need-same-length-2 (next-reads.Asked, next-reads.Learnt, choices-below t, choices.Post, repeat-below t, repeat.Post, each-below t, each.Post, define-below t, define.Post, wide32-reads.Asked, wide32-reads.Learnt, simple-reads.Asked, simple-reads.Learnt, end-of-reads.Asked, end-of-reads.Learnt) (tc-stmt-at t) tc-stmt.Post
 tc-stmt-same-length-2 t c = search needs
 
+-- src/lib.rt:323:1
 tc-stmt-returns-2 : (t : ℕ) → tc-stmt-lts.Need-returns-2 (next-reads.Asked, next-reads.Learnt, choices-below t, choices.Post, repeat-below t, repeat.Post, each-below t, each.Post, define-below t, define.Post, wide32-reads.Asked, wide32-reads.Learnt, simple-reads.Asked, simple-reads.Learnt, end-of-reads.Asked, end-of-reads.Learnt) (tc-stmt-at t) tc-stmt.Post
 tc-stmt-returns-2 t c =
     (stmt-done ((c .before .before .before .before .before .before .before .before .before .before .before .before .pre .1 .1 .0) .ready .sound) (c .before .before .before .before .before .before .before .before .before .before .before .before .pre .1 .1 .1) _ _ _ (c .before .before .repeat .ensures .0 _), c .before .before .repeat .ensures .1)
 
+-- src/lib.rt:323:1
 tc-stmt-same-length-3 : (t : ℕ) → tc-stmt-lts.Need-same-length-3 (next-reads.Asked, next-reads.Learnt, choices-below t, choices.Post, repeat-below t, repeat.Post, each-below t, each.Post, define-below t, define.Post, wide32-reads.Asked, wide32-reads.Learnt, simple-reads.Asked, simple-reads.Learnt, end-of-reads.Asked, end-of-reads.Learnt) (tc-stmt-at t) tc-stmt.Post
 tc-stmt-same-length-3 t c = search needs
 
+-- src/lib.rt:323:1
 tc-stmt-returns-3 : (t : ℕ) → tc-stmt-lts.Need-returns-3 (next-reads.Asked, next-reads.Learnt, choices-below t, choices.Post, repeat-below t, repeat.Post, each-below t, each.Post, define-below t, define.Post, wide32-reads.Asked, wide32-reads.Learnt, simple-reads.Asked, simple-reads.Learnt, end-of-reads.Asked, end-of-reads.Learnt) (tc-stmt-at t) tc-stmt.Post
 tc-stmt-returns-3 t c =
     (stmt-done ((c .before .before .before .before .before .before .before .before .before .before .before .before .pre .1 .1 .0) .ready .sound) (c .before .before .before .before .before .before .before .before .before .before .before .before .pre .1 .1 .1) _ _ _ (c .before .before .each .ensures .0 _), c .before .before .each .ensures .1)
 
+-- src/lib.rt:323:1
 tc-stmt-same-length-4 : (t : ℕ) → tc-stmt-lts.Need-same-length-4 (next-reads.Asked, next-reads.Learnt, choices-below t, choices.Post, repeat-below t, repeat.Post, each-below t, each.Post, define-below t, define.Post, wide32-reads.Asked, wide32-reads.Learnt, simple-reads.Asked, simple-reads.Learnt, end-of-reads.Asked, end-of-reads.Learnt) (tc-stmt-at t) tc-stmt.Post
 tc-stmt-same-length-4 t c = search needs
 
+-- src/lib.rt:323:1
 tc-stmt-returns-4 : (t : ℕ) → tc-stmt-lts.Need-returns-4 (next-reads.Asked, next-reads.Learnt, choices-below t, choices.Post, repeat-below t, repeat.Post, each-below t, each.Post, define-below t, define.Post, wide32-reads.Asked, wide32-reads.Learnt, simple-reads.Asked, simple-reads.Learnt, end-of-reads.Asked, end-of-reads.Learnt) (tc-stmt-at t) tc-stmt.Post
 tc-stmt-returns-4 t c =
     (stmt-done ((c .before .before .before .before .before .before .before .before .before .before .before .before .pre .1 .1 .0) .ready .sound) (c .before .before .before .before .before .before .before .before .before .before .before .before .pre .1 .1 .1) _ _ _ (c .before .before .define .ensures .0 _), c .before .before .define .ensures .1)
 
+-- src/lib.rt:323:1
 tc-stmt-same-length-5 : (t : ℕ) → tc-stmt-lts.Need-same-length-5 (next-reads.Asked, next-reads.Learnt, choices-below t, choices.Post, repeat-below t, repeat.Post, each-below t, each.Post, define-below t, define.Post, wide32-reads.Asked, wide32-reads.Learnt, simple-reads.Asked, simple-reads.Learnt, end-of-reads.Asked, end-of-reads.Learnt) (tc-stmt-at t) tc-stmt.Post
 tc-stmt-same-length-5 t c = search needs
 
+-- src/lib.rt:323:1
 tc-stmt-returns-5 : (t : ℕ) → tc-stmt-lts.Need-returns-5 (next-reads.Asked, next-reads.Learnt, choices-below t, choices.Post, repeat-below t, repeat.Post, each-below t, each.Post, define-below t, define.Post, wide32-reads.Asked, wide32-reads.Learnt, simple-reads.Asked, simple-reads.Learnt, end-of-reads.Asked, end-of-reads.Learnt) (tc-stmt-at t) tc-stmt.Post
 tc-stmt-returns-5 t c =
     (stmt-done ((c .before .before .before .before .before .before .before .before .before .before .before .before .before .before .before .pre .1 .1 .0) .ready .sound) (c .before .before .before .before .before .before .before .before .before .before .before .before .before .before .before .pre .1 .1 .1) _ _ _ (acted-from _ _ _ _ _ _ _ (c .before .before .before .before .before .before .before .before .wide32 .ensures .0) (done-end (c .before .before .before .simple .ensures .1) (c .end-of .ensures) (c .before .before .before .simple .ensures .0 _))), tells-end (c .end-of .ensures) (c .before .before .before .simple .ensures .1))
@@ -777,8 +914,8 @@ pub +block+choices+define+each+one-arm+repeat+tc-stmt-spec : {M : Type 1} → st
       fewer-reads.Learnt,
       commit-reads.Asked,
       commit-reads.Learnt,
-      refuse-reads.Asked,
-      refuse-reads.Learnt,
+      conflict-reads.Asked,
+      conflict-reads.Learnt,
     )
     (choices-at t)
     choices.Post
@@ -805,7 +942,7 @@ pub +block+choices+define+each+one-arm+repeat+tc-stmt-spec : {M : Type 1} → st
     (choices-commit-requires t)
     (choices-enum-told-2 t)
     (choices-enum-known-merge t)
-    (choices-refuse-requires t)
+    (choices-conflict-requires t)
     (choices-same-length-2 t)
     (choices-returns-2 t)
     (choices-same-length-3 t)
@@ -861,6 +998,8 @@ pub +block+choices+define+each+one-arm+repeat+tc-stmt-spec : {M : Type 1} → st
       next-reads.Learnt,
       elements-reads.Asked,
       elements-reads.Learnt,
+      since-reads.Asked,
+      since-reads.Learnt,
       bind-reads.Asked,
       bind-reads.Learnt,
       over-reads.Asked,
@@ -881,6 +1020,7 @@ pub +block+choices+define+each+one-arm+repeat+tc-stmt-spec : {M : Type 1} → st
     (each-same-length t)
     (each-returns t)
     (each-cast-bind t)
+    (each-since-requires t)
     (each-bind-requires t)
     (each-over-requires t)
     (each-block-requires t)

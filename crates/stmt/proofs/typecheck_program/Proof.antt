@@ -1,5 +1,5 @@
 -- The answers stand by name in answers/typecheck_program.txt.
-use Rattle.stmt.proofs.Cells.{end-handed, tells-refuses, done-refuses}
+use Rattle.stmt.proofs.Cells.{end-handed, tells-refuses, done-refuses, ran-first, points-ended}
 use Prim.Native.Nat.{_+_}
 use Rattle.stmt.proofs.Cells.{end-other, end-well, moved-noting, ran-as, ret-clear, standing-as, standing-nodes, tab-moved, walked-from}
 use Rattle.stmt.proofs.Modules.{Running, running-at, running-end, running-first, running-here, running-next, running-out, running-standing}
@@ -19,6 +19,7 @@ use Rattle.image.proofs.Cursor.first.Reads as first-reads
 use Rattle.image.proofs.Cursor.next.Reads as next-reads
 use Rattle.image.proofs.Cursor.over.Reads as over-reads
 use Rattle.state.proofs.counts_of.Reads as counts-of-reads
+use Rattle.stmt.proofs.first_place.Reads as first-place-reads
 use Rattle.stmt.proofs.tc_stmt.Reads as tc-stmt-reads
 use Rattle.words.proofs.wide32.Reads as wide32-reads
 
@@ -29,33 +30,33 @@ Inv-loop image frames₀ table₀ stack₀ plain notes₀ next₀ left₀ frames
 abbrev μ-loop : tie.MeasureT-loop
 μ-loop image frames₀ table₀ stack₀ plain notes₀ next₀ left₀ frames table stack notes next left = left
 
--- src/lib.rt:673:5
+-- src/lib.rt:703:5
 array-write-notes : tie.Need-array-write-notes Inv-loop μ-loop
 array-write-notes c = search needs
 
--- src/lib.rt:674:5
+-- src/lib.rt:704:5
 array-write-notes-2 : tie.Need-array-write-notes-2 Inv-loop μ-loop
 array-write-notes-2 c = search needs
 
--- src/lib.rt:675:5
+-- src/lib.rt:705:5
 array-write-notes-3 : tie.Need-array-write-notes-3 Inv-loop μ-loop
 array-write-notes-3 c = search needs
 
--- src/lib.rt:676:9
+-- src/lib.rt:706:9
 first-requires : tie.Need-first-requires Inv-loop μ-loop
 first-requires c κs =
     (c .before .before .pre .sound .headed)
 
--- src/lib.rt:677:9
+-- src/lib.rt:707:9
 next-requires : tie.Need-next-requires Inv-loop μ-loop
 next-requires c κs =
     ((c .before .before .before .pre .sound .headed), c .first .ensures .0)
 
--- src/lib.rt:680:20
+-- src/lib.rt:710:20
 cast-left : tie.Need-cast-left Inv-loop μ-loop
 cast-left c = search needs
 
--- src/lib.rt:681:5
+-- src/lib.rt:711:5
 loop-holds : tie.Need-loop-holds Inv-loop μ-loop
 loop-holds c =
     let z = c .before .before .before .before .first .ensures .1 in (
@@ -64,11 +65,11 @@ loop-holds c =
       c .before .before .before .next .ensures .nodes,
     )
 
--- src/lib.rt:682:9
+-- src/lib.rt:712:9
 array-write-notes-4 : tie.Need-array-write-notes-4 Inv-loop μ-loop
 array-write-notes-4 c = search needs
 
--- src/lib.rt:683:13
+-- src/lib.rt:713:13
 tc-stmt-requires : tie.Need-tc-stmt-requires Inv-loop μ-loop
 tc-stmt-requires c κs = (
   moved-noting ((ret-clear (c .before .before .before .before .before .loop .inv .1)) .moved),
@@ -82,100 +83,113 @@ tc-stmt-requires c κs = (
 enum-told : tie.Need-enum-told Inv-loop μ-loop
 enum-told c = search needs
 
--- src/lib.rt:697:23
+-- src/lib.rt:727:23
 array-read-t30 : tie.Need-array-read-t30 Inv-loop μ-loop
 array-read-t30 c = search needs
 
--- src/lib.rt:698:29
+-- src/lib.rt:728:31
 array-read-wide32 : tie.Need-array-read-wide32 Inv-loop μ-loop
 array-read-wide32 c = search needs
 
--- src/lib.rt:698:24
+-- src/lib.rt:728:24
 wide32-requires : tie.Need-wide32-requires Inv-loop μ-loop
 wide32-requires c κs =
     search needs
 
--- src/lib.rt:699:25
+-- src/lib.rt:729:36
+array-read-first-place : tie.Need-array-read-first-place Inv-loop μ-loop
+array-read-first-place c = search needs
+
+-- src/lib.rt:729:49
+array-read-first-place-2 : tie.Need-array-read-first-place-2 Inv-loop μ-loop
+array-read-first-place-2 c = search needs
+
+-- src/lib.rt:729:24
+first-place-requires : tie.Need-first-place-requires Inv-loop μ-loop
+first-place-requires c κs =
+    tt
+
+-- src/lib.rt:730:27
 array-read-wide32-2 : tie.Need-array-read-wide32-2 Inv-loop μ-loop
 array-read-wide32-2 c = search needs
 
--- src/lib.rt:699:20
+-- src/lib.rt:730:20
 wide32-requires-2 : tie.Need-wide32-requires-2 Inv-loop μ-loop
 wide32-requires-2 c κs =
     search needs
 
--- src/lib.rt:700:25
+-- src/lib.rt:731:27
 array-read-wide32-3 : tie.Need-array-read-wide32-3 Inv-loop μ-loop
 array-read-wide32-3 c = search needs
 
--- src/lib.rt:700:20
+-- src/lib.rt:731:20
 wide32-requires-3 : tie.Need-wide32-requires-3 Inv-loop μ-loop
 wide32-requires-3 c κs =
     search needs
 
--- src/lib.rt:701:25
+-- src/lib.rt:732:25
 counts-of-requires : tie.Need-counts-of-requires Inv-loop μ-loop
 counts-of-requires c κs =
     search needs
 
--- src/lib.rt:702:27
+-- src/lib.rt:733:29
 array-read-wide32-4 : tie.Need-array-read-wide32-4 Inv-loop μ-loop
 array-read-wide32-4 c = search needs
 
--- src/lib.rt:702:22
+-- src/lib.rt:733:22
 wide32-requires-4 : tie.Need-wide32-requires-4 Inv-loop μ-loop
 wide32-requires-4 c κs =
     search needs
 
--- src/lib.rt:695:13
+-- src/lib.rt:725:13
 same-length : tie.Need-same-length Inv-loop μ-loop
 same-length c = search needs
 
--- src/lib.rt:695:13
+-- src/lib.rt:725:13
 returns : tie.Need-returns Inv-loop μ-loop
 returns c = (
-  ran-as ((c .before .before .before .before .before .before .before .before .before .tc-stmt .ensures .1) .noting) (c .before .counts-of .ensures .0) (c .before .counts-of .ensures .1) (c .wide324 .ensures .0) (end-handed (c .before .before .before .before .before .before .before .before .before .tc-stmt .ensures .1)) (c .before .before .before .before .before .wide32 .ensures .0) (c .before .before .before .before .wide322 .ensures .0) (c .before .before .before .wide323 .ensures .0)
-      (running-out (c .before .before .before .before .before .before .before .before .before .before .before .before .before .before .before .loop .inv .0) (c .before .before .before .before .before .before .before .before .before .before .before .before .before .before .loop-test .taken) (walked-from _ _ _ _ _ _ (tab-moved ((ret-clear (c .before .before .before .before .before .before .before .before .before .before .before .before .before .before .before .loop .inv .1)) .moved) _) ((ret-clear (c .before .before .before .before .before .before .before .before .before .before .before .before .before .before .before .loop .inv .1)) .top-kept) ((ret-clear (c .before .before .before .before .before .before .before .before .before .before .before .before .before .before .before .loop .inv .1)) .ret-is) (c .before .before .before .before .before .before .before .before .before .tc-stmt .ensures .0)) (end-other _ (c .before .before .before .before .before .before .before .before .before .tc-stmt .ensures .1) (c .before .before .before .before .before .before .match .keys2))),
-  tells-refuses (c .before .before .before .before .before .before .before .before .before .tc-stmt .ensures .1),
+  ran-first (points-ended _ _ (c .before .before .before .before .before .before .before .before .before .before .tc-stmt .result) (c .before .before .before .before .before .first-place .result) (c .before .before .before .before .before .first-place .ensures)) (ran-as ((c .before .before .before .before .before .before .before .before .before .before .tc-stmt .ensures .1) .noting) (c .before .counts-of .ensures .0) (c .before .counts-of .ensures .1) (c .wide324 .ensures .0) (end-handed (c .before .before .before .before .before .before .before .before .before .before .tc-stmt .ensures .1)) (c .before .before .before .before .before .before .wide32 .ensures .0) (c .before .before .before .before .wide322 .ensures .0) (c .before .before .before .wide323 .ensures .0)
+      (running-out (c .before .before .before .before .before .before .before .before .before .before .before .before .before .before .before .before .loop .inv .0) (c .before .before .before .before .before .before .before .before .before .before .before .before .before .before .before .loop-test .taken) (walked-from _ _ _ _ _ _ (tab-moved ((ret-clear (c .before .before .before .before .before .before .before .before .before .before .before .before .before .before .before .before .loop .inv .1)) .moved) _) ((ret-clear (c .before .before .before .before .before .before .before .before .before .before .before .before .before .before .before .before .loop .inv .1)) .top-kept) ((ret-clear (c .before .before .before .before .before .before .before .before .before .before .before .before .before .before .before .before .loop .inv .1)) .ret-is) (c .before .before .before .before .before .before .before .before .before .before .tc-stmt .ensures .0)) (end-other _ (c .before .before .before .before .before .before .before .before .before .before .tc-stmt .ensures .1) (c .before .before .before .before .before .before .before .match .keys2)))),
+  tells-refuses (c .before .before .before .before .before .before .before .before .before .before .tc-stmt .ensures .1) (c .before .before .before .before .before .first-place .ensures),
 )
 
--- src/lib.rt:705:13
+-- src/lib.rt:736:13
 over-requires : tie.Need-over-requires Inv-loop μ-loop
 over-requires c κs =
     ((c .before .before .before .before .before .before .before .before .before .before .before .before .before .before .before .before .before .before .pre .sound .headed), record { nodes = c .before .before .before .before .before .before .before .before .before .before .loop .inv .2; within = running-here (c .before .before .before .before .before .before .before .before .before .before .loop .inv .0) (c .before .before .before .before .before .before .before .before .before .loop-test .taken) })
 
--- src/lib.rt:707:9
+-- src/lib.rt:738:9
 sub-left : tie.Need-sub-left Inv-loop μ-loop
 sub-left c = search needs
 
--- src/lib.rt:681:5
+-- src/lib.rt:711:5
 loop-less : tie.Need-loop-less Inv-loop μ-loop
 loop-less c = search needs
 
--- src/lib.rt:681:5
+-- src/lib.rt:711:5
 loop-again : tie.Need-loop-again Inv-loop μ-loop
 loop-again c =
     (running-next (c .before .before .before .before .before .before .before .before .before .before .before .before .loop .inv .0) (c .before .before .before .before .before .before .before .before .before .before .before .loop-test .taken) (walked-from _ _ _ _ _ _ (tab-moved ((ret-clear (c .before .before .before .before .before .before .before .before .before .before .before .before .loop .inv .1)) .moved) _) ((ret-clear (c .before .before .before .before .before .before .before .before .before .before .before .before .loop .inv .1)) .top-kept) ((ret-clear (c .before .before .before .before .before .before .before .before .before .before .before .before .loop .inv .1)) .ret-is) (c .before .before .before .before .before .before .tc-stmt .ensures .0)) (stops (c .before .over .ensures)) (end-well _ (c .before .before .enum-told .given .1)), (c .before .before .before .before .before .before .tc-stmt .ensures .1) .noting, c .before .over .ensures .nodes)
 
--- src/lib.rt:715:17
+-- src/lib.rt:747:17
 counts-of-requires-2 : tie.Need-counts-of-requires-2 Inv-loop μ-loop
 counts-of-requires-2 c κs =
     search needs
 
--- src/lib.rt:716:19
+-- src/lib.rt:748:21
 array-read-wide32-5 : tie.Need-array-read-wide32-5 Inv-loop μ-loop
 array-read-wide32-5 c = search needs
 
--- src/lib.rt:716:14
+-- src/lib.rt:748:14
 wide32-requires-5 : tie.Need-wide32-requires-5 Inv-loop μ-loop
 wide32-requires-5 c κs =
     search needs
 
--- src/lib.rt:658:1
+-- src/lib.rt:687:1
 same-length-2 : tie.Need-same-length-2 Inv-loop μ-loop
 same-length-2 c = search needs
 
--- src/lib.rt:658:1
+-- src/lib.rt:687:1
 returns-2 : tie.Need-returns-2 Inv-loop μ-loop
 returns-2 c = (
   ran-as (c .before .before .before .before .loop .inv .1) (c .before .counts-of2 .ensures .0) (c .before .counts-of2 .ensures .1) (c .wide325 .ensures .0) refl refl refl refl (running-end (c .before .before .before .before .loop .inv .0) (c .before .before .before .loop-test .left)),
@@ -201,6 +215,9 @@ typecheck-program-spec =
     array-read-t30
     array-read-wide32
     wide32-requires
+    array-read-first-place
+    array-read-first-place-2
+    first-place-requires
     array-read-wide32-2
     wide32-requires-2
     array-read-wide32-3

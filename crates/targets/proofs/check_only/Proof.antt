@@ -1,6 +1,7 @@
 -- The answers stand by name in answers/check_only.txt.
 use Rattle.state.proofs.Noting.{kept-as, kept-ok, outcome-apart, typed-well}
 use Rattle.targets.proofs.Endings.{assigned-well}
+use Rattle.targets.proofs.Answers.{check-refused}
 use Rattle.targets.proofs.Singles.{only-checked}
 use mathlib.Core.Path.{refl}
 use native.Mathlib.Omega.{arith}
@@ -29,7 +30,7 @@ same-length c = search needs
 -- src/lib.rt:107:9
 returns : tie.Need-returns
 returns c =
-    (rw (c .enum-told2 .given .1) at (only-checked _ (c .before .before .before .before .before .before .before .before .before .before .pre .1 .0 .fit) (c .before .before .before .before .tc-expr .ensures .0)), kept-as (λ e. c .enum-told2 .given .1) (c .before .before .before .before .tc-expr .ensures .1))
+    check-refused _ (c .before .before .before .before .before .before .before .before .before .before .pre .1 .0 .fit) (c .before .before .before .before .tc-expr .ensures .0) (c .before .before .before .before .tc-expr .ensures .1) (c .enum-told2 .given .1)
 
 -- src/lib.rt:90:1
 same-length-2 : tie.Need-same-length-2
@@ -38,7 +39,7 @@ same-length-2 c = search needs
 -- src/lib.rt:90:1
 returns-2 : tie.Need-returns-2
 returns-2 c =
-    (assigned-well (typed-well _ (c .enum-told .given .1)) refl (only-checked _ (c .before .before .before .before .before .before .before .before .before .before .pre .1 .0 .fit) (c .before .before .before .before .tc-expr .ensures .0)), kept-ok (λ e. outcome-apart e) (c .before .before .before .before .tc-expr .ensures .1))
+    (assigned-well (typed-well _ (c .enum-told .given .1)) refl (only-checked _ 0 (c .before .before .before .before .before .before .before .before .before .before .pre .1 .0 .fit) (c .before .before .before .before .tc-expr .ensures .0)), kept-ok (λ e. outcome-apart e) (c .before .before .before .before .tc-expr .ensures .1))
 
 pub check-only-spec : {M : Type 1} → statement M
 check-only-spec =

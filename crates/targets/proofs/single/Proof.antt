@@ -2,6 +2,7 @@
 use Rattle.expr.proofs.Rows.{few-nodes}
 use Rattle.state.proofs.Noting.{settled-ill}
 use Rattle.targets.proofs.Answers.{settled-ends}
+use Rattle.meaning.proofs.Faults.{sizes}
 use Rattle.targets.proofs.Singles.{single-checked, single-name, single-other, small-name}
 use mathlib.Core.Logic.{inl, inr}
 use native.Mathlib.Omega.{arith}
@@ -28,7 +29,7 @@ cast-assign-name c = search needs
 assign-name-requires : tie.Need-assign-name-requires
 assign-name-requires c κs =
     let r = c .before .before .before .before .before .before .before .before .pre .1 .0 in
-    (c .before .before .before .before .before .before .before .before .pre .0, (r .fit .high, small-name (c .before .before .before .before .before .before .before .before .pre .1 .0) (c .before .before .before .before .before .before .before .before .pre .1 .1 .0) (c .before .before .before .before .before .before .before .before .pre .1 .1 .1 .1) _ (c .before .before .before .before .before .next .ensures .node) (c .before .before .before .match .keys1), omega (arith, c .before .before .before .before .before .before .before .before .pre .1 .1 .1 .1, r .wf .room, r .wf .most)))
+    (c .before .before .before .before .before .before .before .before .pre .0, (r .fit .high, omega (arith, sizes (r .sound .headed) .nodes, c .before .before .before .before .before .before .before .before .pre .1 .1 .0 .there), small-name (c .before .before .before .before .before .before .before .before .pre .1 .0) (c .before .before .before .before .before .before .before .before .pre .1 .1 .0) (c .before .before .before .before .before .before .before .before .pre .1 .1 .1 .1) _ (c .before .before .before .before .before .next .ensures .node) (c .before .before .before .match .keys1), omega (arith, c .before .before .before .before .before .before .before .before .pre .1 .1 .1 .1, r .wf .room, r .wf .most)))
 
 -- src/lib.rt:135:13
 check-only-requires : tie.Need-check-only-requires

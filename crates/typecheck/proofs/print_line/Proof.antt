@@ -37,7 +37,7 @@ same-length c = search needs
 returns : tie.Need-returns
 returns c =
     let n = length-replicate {A = ℕ} sheetBuffer 0 in let m = length-replicate {A = ℕ} messageBuffer 0 in
-    let l = rw (n, m) at (c .before .before .before .before .of-image .ensures) in (shows _ _ l (omega (arith, n)) _ (c .before .before .before .before .before .before .before .before .setting-told .ensures), l .front .inside)
+    let l = rw (n, m) at (c .before .before .before .before .of-image .ensures .0) in (shows _ _ l (omega (arith, n)) _ (c .before .before .before .before .before .before .before .before .setting-told .ensures), l .front .inside)
 
 pub print-line-spec : {M : Type 1} → statement M
 print-line-spec =
