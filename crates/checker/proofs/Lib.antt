@@ -12,4 +12,5 @@ pub mod Settings
 pub mod Starred
 pub mod Exactly
 pub mod Within
+pub mod First
 pub mod Few
