@@ -11,10 +11,10 @@
  * buffer that is written must not overlap another buffer. No pointer may be null, even where its length is 0.
  *
  * They allocate nothing and work on the caller's stack. The most that each was seen to need (measured on the deepest inputs known, by
- * bench/stack, and not proved): cablebirch_check and cablebirch_load 143 KB (142,824 and 143,000 bytes), cablebirch_read_sheet and
+ * bench/stack, and not proved): cablebirch_check and cablebirch_load 219 KB (218,600 and 218,792 bytes), cablebirch_read_sheet and
  * cablebirch_write_sheet 90 KB (89,704 and 89,768), cablebirch_show 124 KB (123,944), cablebirch_changes 253 KB (252,472). With a message
  * buffer of more than CABLEBIRCH_MESSAGE_ROOM, cablebirch_check and cablebirch_load need more where a message names a type that is
- * nested deeper than such a buffer can tell: 290,456 and 290,632 bytes for one of 1,891 levels.
+ * nested deeper than such a buffer can tell: 292,520 and 292,712 bytes for one of 1,891 levels.
  *
  * A script loads unseen exactly when it is accepted and its sheet equals the last approved sheet, byte for byte:
  *
@@ -60,6 +60,10 @@ extern "C" {
 #define CABLEBIRCH_SHEET_TOO_LONG 10
 #define CABLEBIRCH_NO_SHEET 12
 #define CABLEBIRCH_NO_SETTING 13
+/* The codes with a second span: after an `if` a name would have different types by branch, and a name gets a value of
+ * another type than it has. Go by the code: that span too is as the image has it, and may be 0 and 0. */
+#define CABLEBIRCH_BRANCHES_DIFFER 23
+#define CABLEBIRCH_CANNOT_ASSIGN 25
 
 /* ---- libchecker.a */
 
@@ -67,6 +71,8 @@ typedef struct {
     uint32_t code;         /* 0 accepted, else why not */
     uint32_t span_start;   /* codes 20 to 50: the span of the node at `place`, as the image has it; else 0 */
     uint32_t span_end;
+    uint32_t second_start; /* codes 23 and 25: the span of what first made the old type known; else 0 */
+    uint32_t second_end;
     size_t place;          /* codes 4 and 5: a name's number; 6 to 9 and 20 to 50: a node's number; else 0 */
     size_t sheet_length;   /* code 0: how many bytes of the sheet were written, at its front; else 0 */
     size_t message_length; /* codes 20 to 50: how many bytes of the message were written, at its front; 0 if it did not fit */
@@ -77,7 +83,9 @@ typedef struct {
  * the script may assign outside functions and classes, loop names too, with its type at the end, or Unknown where that is not known.
  * Codes 20 to 50 write the message to the front of `message` if it fits (ASCII, each byte 32 to 126, with no 0 at its end); `sheet`
  * stays as it is.
- * For every other code, 10 too, no buffer is touched. */
+ * For every other code, 10 too, no buffer is touched.
+ * Codes 23 and 25 tell in a second span where the old type was first set: the name where it was assigned, or what a loop goes
+ * over if the loop binds the name. The old type is for 25 the one that the name has, for 23 that of the first branch that knows one. */
 cablebirch_answer cablebirch_check(uint32_t setting, const uint8_t *image, size_t image_len, uint8_t *sheet, size_t sheet_len,
                                    uint8_t *message, size_t message_len);
 
@@ -85,7 +93,7 @@ cablebirch_answer cablebirch_check(uint32_t setting, const uint8_t *image, size_
 uint32_t cablebirch_read_sheet(const uint8_t *sheet, size_t len);
 
 /* Reads a sheet and writes it again to the front of `out`. Code 0, with sheet_length; 10 if `out` is too short; 12 if it is no
- * sheet. On a refusal `out` is not touched. Place, span and message length are 0. */
+ * sheet. On a refusal `out` is not touched. Place, both spans and message length are 0. */
 cablebirch_answer cablebirch_write_sheet(const uint8_t *sheet, size_t len, uint8_t *out, size_t out_len);
 
 /* ---- libload.a */
@@ -100,6 +108,8 @@ typedef struct {
     uint32_t code;         /* this and the rest: the answer that cablebirch_check gives */
     uint32_t span_start;
     uint32_t span_end;
+    uint32_t second_start;
+    uint32_t second_end;
     size_t place;
     size_t sheet_length;
     size_t message_length;

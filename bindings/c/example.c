@@ -1,6 +1,7 @@
 /* usage: example [plain | strict] IMAGE [SHEET]
- * Prints the checker's line for a program image, in plain if no setting is named, and, given the last approved sheet, whether the
- * script loads unseen; if someone must look, the names that changed too, or all names if the approved file is no type sheet. */
+ * Prints the checker's line for a program image, in plain if no setting is named, and for codes 23 and 25 where the old type was
+ * first set. Given the last approved sheet, it says whether the script loads unseen; if someone must look, the names that changed
+ * too, or all names if the approved file is no type sheet. */
 #include "cablebirch.h"
 #include <stdio.h>
 #include <string.h>
@@ -69,12 +70,21 @@ int main(int count, char **words)
     } else {
         cablebirch_verdict v = cablebirch_load(setting, image, image_length, approved, approved_length, sheet, sizeof sheet,
                                                message, sizeof message);
-        a = (cablebirch_answer){v.code, v.span_start, v.span_end, v.place, v.sheet_length, v.message_length};
+        a = (cablebirch_answer){.code = v.code,
+                                .span_start = v.span_start,
+                                .span_end = v.span_end,
+                                .second_start = v.second_start,
+                                .second_end = v.second_end,
+                                .place = v.place,
+                                .sheet_length = v.sheet_length,
+                                .message_length = v.message_length};
         loading = v.loading;
     }
     if (a.code != CABLEBIRCH_ACCEPTED) {
         printf("refused %u %zu %u %u ", a.code, a.place, a.span_start, a.span_end);
         printf("%.*s\n", a.message_length ? (int)a.message_length : 1, a.message_length ? (char *)message : "-");
+        if (a.code == CABLEBIRCH_BRANCHES_DIFFER || a.code == CABLEBIRCH_CANNOT_ASSIGN)
+            printf("first set here %u %u\n", a.second_start, a.second_end);
         return 0;
     }
     printf("accepted %u %u %zu\n", word(5), word(1), a.sheet_length);

@@ -1,6 +1,7 @@
-//! usage: check [plain | strict] IMAGE: prints the checker's line for a program image, in plain if no setting is named.
+//! usage: check [plain | strict] IMAGE: prints the checker's line for a program image, in plain if no setting is named, and for codes
+//! 23 and 25 where the old type was first set.
 
-use cablebirch::Setting;
+use cablebirch::{Answer, Refusal, Setting};
 
 fn main() {
     let words: Vec<String> = std::env::args().skip(1).collect();
@@ -11,5 +12,9 @@ fn main() {
     };
     let image = std::fs::read(name).expect("the image can be read");
     let (mut sheet, mut message) = (vec![0; cablebirch::SHEET_MAX], [0; cablebirch::MESSAGE_ROOM]);
-    println!("{}", cablebirch::check(setting, &image, &mut sheet, &mut message));
+    let answer = cablebirch::check(setting, &image, &mut sheet, &mut message);
+    println!("{}", answer);
+    if let Answer::Refused(Refusal { second: Some((start, end)), .. }) = answer {
+        println!("first set here {} {}", start, end);
+    }
 }

@@ -17,8 +17,8 @@
 //! ```
 //!
 //! The functions keep no state: any number of threads may call them at once. They work on the caller's stack: [`check`] was seen to
-//! need 142,824 bytes at most, [`load`] 143,000, [`read_sheet`] 89,704, [`write_sheet`] 89,768, [`show`] 123,944 and [`changes`] 252,472; with a
-//! message buffer of more than [`MESSAGE_ROOM`], [`check`] up to 290,456 and [`load`] up to 290,632, where a message names a type nested 1,891
+//! need 218,600 bytes at most, [`load`] 218,792, [`read_sheet`] 89,704, [`write_sheet`] 89,768, [`show`] 123,944 and [`changes`] 252,472; with a
+//! message buffer of more than [`MESSAGE_ROOM`], [`check`] up to 292,520 and [`load`] up to 292,712, where a message names a type nested 1,891
 //! deep (measured, not proved: `bench/stack`).
 
 #![warn(missing_docs)]
@@ -35,6 +35,11 @@ pub const SHOW_MAX: usize = 34_176;
 pub const CHANGES_MAX: usize = 68_864;
 /// The room for a message that the program `typecheck` has. A message that does not fit is left out whole.
 pub const MESSAGE_ROOM: usize = 1_024;
+
+/// The code for a name that would have different types by branch after an `if`.
+pub const BRANCHES_DIFFER: u32 = 23;
+/// The code for a name that gets a value of another type than it has.
+pub const CANNOT_ASSIGN: u32 = 25;
 
 /// What becomes of a typing error inside the body of an `if` or a `while`. What strict accepts, plain accepts with the same sheet.
 #[derive(Debug, Clone, Copy, PartialEq, Eq)]
@@ -67,6 +72,9 @@ pub struct Refusal<'a> {
     pub place: usize,
     /// Codes 20 to 50: start and end of that node's span, as the image has them; else 0 and 0.
     pub span: (u32, u32),
+    /// Codes 23 and 25, and no other: where the old type was first set, start and end as the image has the span. It is the name where it was
+    /// assigned, or what a loop goes over if the loop binds the name.
+    pub second: Option<(u32, u32)>,
     /// Codes 20 to 50: the message, the front of the buffer that was lent for it; empty if it did not fit, and for other codes.
     pub message: &'a [u8],
 }
@@ -119,8 +127,14 @@ pub fn check<'a>(setting: Setting, image: &[u8], sheet: &'a mut [u8], message: &
         code: raw.code,
         place: raw.place,
         span: (raw.span_start, raw.span_end),
+        second: second(raw.code, raw.second_start, raw.second_end),
         message: &message[..raw.message_length],
     })
+}
+
+/// The second span of the codes that have one. It goes by the code: the image may have 0 and 0 there.
+fn second(code: u32, start: u32, end: u32) -> Option<(u32, u32)> {
+    matches!(code, BRANCHES_DIFFER | CANNOT_ASSIGN).then_some((start, end))
 }
 
 /// Whether these bytes are a type sheet, as a check writes it.
@@ -173,6 +187,7 @@ pub fn load<'a>(
             code: raw.code,
             place: raw.place,
             span: (raw.span_start, raw.span_end),
+            second: second(raw.code, raw.second_start, raw.second_end),
             message: &message[..raw.message_length],
         }),
     }
@@ -220,7 +235,7 @@ impl fmt::Display for Answer<'_> {
     }
 }
 
-/// The line that the program `typecheck` prints.
+/// The line that the program `typecheck` prints; the second span is not in it.
 impl fmt::Display for Refusal<'_> {
     fn fmt(&self, f: &mut fmt::Formatter<'_>) -> fmt::Result {
         let message = if self.message.is_empty() { "-".into() } else { String::from_utf8_lossy(self.message) };
@@ -246,6 +261,8 @@ mod raw {
         pub code: u32,
         pub span_start: u32,
         pub span_end: u32,
+        pub second_start: u32,
+        pub second_end: u32,
         pub place: usize,
         pub sheet_length: usize,
         pub message_length: usize,
@@ -257,6 +274,8 @@ mod raw {
         pub code: u32,
         pub span_start: u32,
         pub span_end: u32,
+        pub second_start: u32,
+        pub second_end: u32,
         pub place: usize,
         pub sheet_length: usize,
         pub message_length: usize,

@@ -41,12 +41,31 @@ fn line_of(setting: Setting, name: &str) -> String {
 
 #[test]
 fn each_example_gives_its_line() {
-    assert!(names().len() >= 7);
+    assert!(names().len() >= 9);
     for (setting, name) in cases() {
         let (mut sheet, mut message) = (vec![0; SHEET_MAX], [0; MESSAGE_ROOM]);
         let answer = check(setting, &file(&(name.clone() + ".image")), &mut sheet, &mut message);
         assert_eq!(format!("{}\n", answer), line_of(setting, &name), "{} {:?}", name, setting);
     }
+}
+
+#[test]
+fn an_example_tells_where_the_old_type_was_first_set() {
+    let mut places = 0;
+    for (setting, name) in cases() {
+        let (mut sheet, mut message) = (vec![0; SHEET_MAX], [0; MESSAGE_ROOM]);
+        let refusal = match check(setting, &file(&(name.clone() + ".image")), &mut sheet, &mut message) {
+            Answer::Accepted { .. } => continue,
+            Answer::Refused(refusal) => refusal,
+        };
+        let told = refusal.second.map(|(start, end)| format!("first set here {} {}\n", start, end).into_bytes());
+        let line = line_of(setting, &name);
+        let first = line.starts_with("refused 25 ") || line.starts_with("refused 23 ");
+        assert_eq!(told, first.then(|| file(&(name.clone() + ".first"))), "{} {:?}", name, setting);
+        places += u32::from(first);
+    }
+    // dial, limit and wet in both settings, race in strict.
+    assert_eq!(places, 7);
 }
 
 #[test]
@@ -81,6 +100,8 @@ fn plain_passes_over_what_strict_returns() {
             let script = String::from_utf8(file("race.py")).expect("a script is ASCII");
             let start = script.find("    step = 2.5").expect("the branch has it") as u32 + 4;
             assert_eq!((refusal.code, refusal.span), (25, (start, start + 4)));
+            let first = script.find("step = 5").expect("the first step") as u32;
+            assert_eq!(refusal.second, Some((first, first + 4)));
             assert_eq!(refusal.message, b"TypeError: cannot assign value of type Float to variable of type Int");
         }
     }
