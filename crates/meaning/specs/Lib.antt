@@ -16,3 +16,4 @@ pub mod Answer
 pub mod Line
 pub mod Show
 pub mod Load
+pub mod Known
