@@ -29,7 +29,7 @@ module _ (old t : Ty) where
   unfolding agreed _or_ if_then_else_
   agreed-differ e p = Option·none-ne-some t (sym (rw (same-yes old unknown p) at e))
 
-  agreed-kept : (u : Ty) → agreed old t ≡ some u → (old ≡ unknown → ⊥) → u ≡ old
+  pub agreed-kept : (u : Ty) → agreed old t ≡ some u → (old ≡ unknown → ⊥) → u ≡ old
   unfolding agreed _or_ if_then_else_
   agreed-kept u e n = elim (Ty-discrete old t) [
     | yes p ↦ sym (Option·some-injective t u (rw (same-no old unknown n, same-yes old t p) at e)) ∙ sym p
