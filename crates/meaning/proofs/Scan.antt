@@ -48,12 +48,12 @@ scan ds (suc k) i =
 -- ---- a choice whose row gives nothing
 
 module _ {A : Type 0} (f : A → List ℕ) (k : ℕ) where
-  data Quiet : List (ℕ × A) → Type 0 where
+  pub data Quiet : List (ℕ × A) → Type 0 where
     no-rows : Quiet []
     another : {r : ℕ × A} {rs : List (ℕ × A)} → (k ≡ r .0 → ⊥) → Quiet rs → Quiet (r ∷ rs)
     nothing : {r : ℕ × A} {rs : List (ℕ × A)} → f (r .1) ≡ [] → Quiet rs → Quiet (r ∷ rs)
 
-  quiet : (d : A) (rs : List (ℕ × A)) → f d ≡ [] → Quiet rs → f (choose k d rs) ≡ []
+  pub quiet : (d : A) (rs : List (ℕ × A)) → f d ≡ [] → Quiet rs → f (choose k d rs) ≡ []
   unfolding choose if_then_else_
   quiet d [] e no-rows = e
   quiet d (r ∷ rs) e (another n q) = rw (ne-eqb k (r .0) n) (quiet d rs e q)
@@ -126,11 +126,11 @@ module _ (ds : List Node) (e j : ℕ) where
 -- ---- the target at node j
 
 module _ {N : ℕ} {ds : List Node} (sound : Nested N ds) (i : ℕ) (m : i < length ds) where
-  stop-above : i < stopOf ds i
+  pub stop-above : i < stopOf ds i
   unfolding stopOf
   stop-above = node-stands sound i m .above
 
-  stop-within : stopOf ds i ≤ length ds
+  pub stop-within : stopOf ds i ≤ length ds
   unfolding stopOf
   stop-within = node-stands sound i m .within
 
@@ -255,23 +255,23 @@ module _ (ds : List Node) (i : ℕ) (inside : i < length ds) (xs : List ℕ) whe
 
 -- ---- who has business where
 
-expression-high : (k : ℕ) → isExpression k ≡ true → 20 ≤ k
+pub expression-high : (k : ℕ) → isExpression k ≡ true → 20 ≤ k
 unfolding isExpression
 expression-high k e = leb-true 20 k (and-left _ _ e)
 
-statement-low : (k : ℕ) → isStatement k ≡ true → k ≤ 11
+pub statement-low : (k : ℕ) → isStatement k ≡ true → k ≤ 11
 unfolding isStatement
 statement-low k e = leb-true k 11 (and-right _ _ e)
 
-block-below : (p c j k : ℕ) → p ≡ 12 → belongs p c j k ≡ true → isStatement k ≡ true
+pub block-below : (p c j k : ℕ) → p ≡ 12 → belongs p c j k ≡ true → isStatement k ≡ true
 unfolding belongs choose if_then_else_
 block-below p c j k e b = rw e at b
 
-if-condition : (p c j k : ℕ) → p ≡ 8 → j % 2 ≡ 0 → (j + 1 ≡ c → ⊥) → belongs p c j k ≡ true → isExpression k ≡ true
+pub if-condition : (p c j k : ℕ) → p ≡ 8 → j % 2 ≡ 0 → (j + 1 ≡ c → ⊥) → belongs p c j k ≡ true → isExpression k ≡ true
 unfolding belongs choose if_then_else_ _or_
 if-condition p c j k e o n b = rw (e, ne-eqb (j + 1) c n, o) at b
 
-if-block : (p c j k : ℕ) → p ≡ 8 → j % 2 ≡ 1 → belongs p c j k ≡ true → k ≡ 12
+pub if-block : (p c j k : ℕ) → p ≡ 8 → j % 2 ≡ 1 → belongs p c j k ≡ true → k ≡ 12
 unfolding belongs choose if_then_else_ _or_
 if-block p c j k e o b = eqb-true k 12 (by (eqb (j + 1) c) refl)
   where
@@ -279,26 +279,26 @@ if-block p c j k e o b = eqb-true k 12 (by (eqb (j + 1) c) refl)
     by true q = rw (e, q) at b
     by false q = rw (e, q, o) at b
 
-if-last : (p c j k : ℕ) → p ≡ 8 → j + 1 ≡ c → belongs p c j k ≡ true → k ≡ 12
+pub if-last : (p c j k : ℕ) → p ≡ 8 → j + 1 ≡ c → belongs p c j k ≡ true → k ≡ 12
 unfolding belongs choose if_then_else_ _or_
 if-last p c j k e l b = eqb-true k 12 (rw (e, eq-eqb (j + 1) c l) at b)
 
 -- a While's children and a For's
-data Loop : ℕ → Type 0 where
+pub data Loop : ℕ → Type 0 where
   the-while : Loop 9
   the-for : Loop 10
 
-loop-condition : {p : ℕ} → Loop p → (k : ℕ) → belongs p 2 0 k ≡ true → isExpression k ≡ true
+pub loop-condition : {p : ℕ} → Loop p → (k : ℕ) → belongs p 2 0 k ≡ true → isExpression k ≡ true
 unfolding belongs choose if_then_else_
 loop-condition the-while k b = b
 loop-condition the-for k b = b
 
-loop-block : {p : ℕ} → Loop p → (k : ℕ) → belongs p 2 1 k ≡ true → k ≡ 12
+pub loop-block : {p : ℕ} → Loop p → (k : ℕ) → belongs p 2 1 k ≡ true → k ≡ 12
 unfolding belongs choose if_then_else_
 loop-block the-while k b = eqb-true k 12 b
 loop-block the-for k b = eqb-true k 12 b
 
-loop-two : {p : ℕ} → Loop p → (c : ℕ) → countStands p c ≡ true → c ≡ 2
+pub loop-two : {p : ℕ} → Loop p → (c : ℕ) → countStands p c ≡ true → c ≡ 2
 unfolding countStands choose if_then_else_
 loop-two the-while c b = eqb-true c 2 b
 loop-two the-for c b = eqb-true c 2 b
@@ -307,7 +307,7 @@ assign-two : (p c : ℕ) → p ≡ 5 → countStands p c ≡ true → c ≡ 2
 unfolding countStands choose if_then_else_
 assign-two p c e b = eqb-true c 2 (rw e at b)
 
-first-deep : (ds : List Node) → 0 < length ds → 0 < nodeOf ds 0 .stop → 1 ≤ depth 0 0 ds
+pub first-deep : (ds : List Node) → 0 < length ds → 0 < nodeOf ds 0 .stop → 1 ≤ depth 0 0 ds
 unfolding depth nodeOf if_then_else_ _and_
 first-deep [] m h = absurd (omega arith)
 first-deep (d ∷ ds) m h = rw (lt-ltb 0 (d .stop) h) (omega arith)
