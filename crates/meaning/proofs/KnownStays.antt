@@ -140,12 +140,18 @@ module _ (ws : List Name) where
       → StillKnown (s .frames) (s₁ .frames)
   strict-statement-known-stays a s s₁ one e = module-known _ _ one (strict-keeps ws false a s s₁ e)
 
+  -- what is accepted has been accepted statement by statement
+  pub each-accepted : (setting : Setting) (b : Stmts) (e : State) → program ws setting b start ≡ done e → (k : ℕ)
+      → (s : State) × (afterFirst k ws setting b ≡ done s)
+  unfolding afterFirst
+  each-accepted setting b e h k = each-done ws setting k b start e h
+
   -- where strict accepts a program, plain stands where strict stands, behind each statement
   strict-first : (b : Stmts) (k : ℕ) (s e : State) → program ws strict b start ≡ done e → afterFirst k ws plain b ≡ done s
       → afterFirst k ws strict b ≡ done s
   unfolding afterFirst
   strict-first b k s e h d =
-      let t = each-done ws strict k b start e h in
+      let t = each-accepted strict b e h k in
       t .1 ∙ sym (accepts-program ws (upTo k b) start (t .0) (t .1)) ∙ d
 
   -- "For programs that strict accepts, prove it without the premise": of plain's walk too
