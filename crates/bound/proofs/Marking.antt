@@ -13,16 +13,15 @@ use lib.ListN.{length, getD, set, replicate, length-set, length-map, length-repl
 use lib.Seq.{getD-set-same, getD-set-other, ext-getD}
 use Rattle.meaning.specs.Limits.{mostNames}
 use Rattle.meaning.specs.Base.{_or_, isIn, count}
-use Rattle.meaning.specs.Image.{nodesOf, nodeOf, nodeCount}
-use Rattle.meaning.specs.Image.{Node as ImageNode}
+use Rattle.meaning.specs.Image.{nodesOf, nodeCount}
 use Rattle.meaning.specs.Bound.{mayBind}
-use Rattle.meaning.specs.Decode.{treeOf, stopOf}
+use Rattle.meaning.specs.Decode.{treeOf}
 use Rattle.meaning.proofs.Choices.{count-long, counted-at}
 use Rattle.meaning.proofs.Faults.{Sound, sizes}
-use Rattle.meaning.proofs.Nesting.{nodes-many, sound-nested, node-stands}
+use Rattle.meaning.proofs.Nesting.{nodes-many, sound-nested}
 use Rattle.meaning.proofs.Scan.{scanTarget, scan, target-end, target-variable, target-tuple, target-other, scan-end, scan-assign, scan-for, scan-enter, scan-over, Enters, an-if, a-while, a-block, Jumped, scan-bound, variable-named, for-named, target-inside}
-use Rattle.image.specs.Parts.{nodeMeans}
 use Rattle.image.specs.declared.Node.{Node}
+use Rattle.image.proofs.Here.{Here, many, kind-is, arg-is, stop-is, stop-up, stop-in}
 use Rattle.bound.specs.Marks.{marksOf, marked, Targeted, Stepped}
 
 mark-one : (x : ℕ) (xs : List ℕ) (ms : List Bool) → marked (x ∷ xs) ms ≡ marked xs (set ms x true)
@@ -40,44 +39,15 @@ mark-none ms = refl
 
 -- ---- a node that was read
 
-pub record Here (bs : List ℕ) (i : ℕ) (d : Node) : Type 0 where
-  pub sound : Sound bs
-  pub inside : i < nodeCount bs
-  pub means : nodeMeans d ≡ nodeOf (nodesOf bs) i
-
-pub here : {bs : List ℕ} {i : ℕ} (d : Node) → Sound bs → i < nodeCount bs → nodeMeans d ≡ nodeOf (nodesOf bs) i → Here bs i d
-here d s l e = record { sound = s; inside = l; means = e }
-
 module _ {bs : List ℕ} {i : ℕ} {d : Node} (h : Here bs i d) where
-  kind-is : nodeOf (nodesOf bs) i .kind ≡ d .kind
-  kind-is = ap (λ (x : ImageNode). x .kind) (sym (h .means))
-
-  arg-is : nodeOf (nodesOf bs) i .arg ≡ d .arg
-  arg-is = ap (λ (x : ImageNode). x .arg) (sym (h .means))
-
-  stop-is : stopOf (nodesOf bs) i ≡ d .stop
-  unfolding stopOf
-  stop-is = ap (λ (x : ImageNode). x .stop) (sym (h .means))
-
-  many : i < length (nodesOf bs)
-  many = omega (arith, h .inside, nodes-many bs)
-
-  pub stop-up : i < d .stop
-  unfolding stopOf
-  stop-up = omega (arith, stop-is, node-stands (sound-nested (h .sound)) i many .above)
-
-  pub stop-in : d .stop ≤ nodeCount bs
-  unfolding stopOf
-  stop-in = omega (arith, stop-is, node-stands (sound-nested (h .sound)) i many .within, nodes-many bs)
-
   pub variable-low : d .kind ≡ 21 → d .arg < mostNames
-  variable-low q = omega (arith, arg-is, variable-named (sound-nested (h .sound)) i many (kind-is ∙ q), sizes (h .sound .headed) .names)
+  variable-low q = omega (arith, arg-is h, variable-named (sound-nested (h .sound)) i (many h) (kind-is h ∙ q), sizes (h .sound .headed) .names)
 
   pub for-low : d .kind ≡ 10 → d .arg < mostNames
-  for-low q = omega (arith, arg-is, for-named (sound-nested (h .sound)) i many (kind-is ∙ q), sizes (h .sound .headed) .names)
+  for-low q = omega (arith, arg-is h, for-named (sound-nested (h .sound)) i (many h) (kind-is h ∙ q), sizes (h .sound .headed) .names)
 
   pub target-in : d .kind ≡ 5 → i + 1 < nodeCount bs
-  target-in q = omega (arith, stop-is, stop-in, target-inside (sound-nested (h .sound)) i many (kind-is ∙ q))
+  target-in q = omega (arith, stop-is h, stop-in h, target-inside (sound-nested (h .sound)) i (many h) (kind-is h ∙ q))
 
 -- ---- a target, from j on
 

@@ -1,4 +1,5 @@
 pub mod Records
+pub mod Here
 pub mod Searches
 pub mod Choosing
 pub mod Nesting

@@ -1,5 +1,6 @@
 -- The answers stand by name in answers/mark_node.txt.
-use Rattle.bound.proofs.Marking.{here, stop-in, for-low, target-in, step-assign, step-for, step-block, step-branch, step-over}
+use Rattle.bound.proofs.Marking.{for-low, target-in, step-assign, step-for, step-block, step-branch, step-over}
+use Rattle.image.proofs.Here.{here, stop-in}
 use Rattle.meaning.proofs.Faults.{sizes}
 use mathlib.Core.Logic.{⊎-elim, inl, inr}
 use native.Mathlib.Omega.{arith}

@@ -1,5 +1,6 @@
 -- The answers stand by name in answers/mark_target.txt.
-use Rattle.bound.proofs.Marking.{here, stop-up, variable-low, Aiming, aiming-first, aiming-tuple, aiming-variable, aiming-other, aiming-end}
+use Rattle.bound.proofs.Marking.{variable-low, Aiming, aiming-first, aiming-tuple, aiming-variable, aiming-other, aiming-end}
+use Rattle.image.proofs.Here.{here, stop-up}
 use Prim.Native.Nat.{_-_}
 use native.Mathlib.Omega.{arith}
 use borrow.Author.Needs.{needs}
