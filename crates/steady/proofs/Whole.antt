@@ -1,0 +1,143 @@
+-- About runs of `steady`, from its promise: no second outcome fits, and when a program has no Def inside an If. Assumes nothing.
+use mathlib.Core.Path.{_≡_, refl, sym, ap, _∙_}
+use mathlib.Core.Bool.{true}
+use mathlib.Core.Logic.{_↔_, ⊎-elim}
+use mathlib.Core.List.{List, [], _∷_}
+use mathlib.Core.Option.{Option, none, some}
+use Prim.Native.Nat.{ℕ, _≤_}
+use native.Mathlib.Omega.{arith}
+use borrow.Author.Tests.{leb-true}
+use types.Run.{OneOf}
+use denote.Enum.Declared.{tagOf}
+use lib.Dec.{leb}
+use Rattle.meaning.specs.Base.{_and_, all, ifSome}
+use Rattle.meaning.specs.Image.{Fault, imageFault, nodesOf}
+use Rattle.meaning.specs.Image.{Node as ImageNode}
+use Rattle.meaning.specs.Decode.{treeOf}
+use Rattle.meaning.specs.Known.{defsInIfs, NoDefInIf, steady, defInIf, faulty, steadyBy, steadiness}
+use Rattle.meaning.specs.Known.{Steadiness as Meant}
+use Rattle.meaning.proofs.Choices.{and-left, and-right}
+use Rattle.meaning.proofs.Faults.{Sound, sound}
+use Rattle.image.specs.Outcome.{faultOf}
+use Rattle.image.specs.declared.Judged.{Judged}
+use Rattle.image.specs.declared.Judged.the-variants.{WellFormed}
+use Rattle.image.proofs.Answers.{fault-injective, judged-sound}
+use Rattle.image.proofs.Judged.{the-type}
+use Rattle.steady.specs.declared.Def.{Def}
+use Rattle.steady.specs.declared.Steadiness.{Steadiness}
+use Rattle.steady.specs.declared.Steadiness.the-variants.{Steady, DefInIf, Faulty}
+use Rattle.steady.specs.Told.{meant}
+
+-- ---- the steadiness of bytes, by whether they are an image
+
+pub steadiness-sound : {bs : List ℕ} → Sound bs → steadiness bs ≡ steadyBy (nodesOf bs) (defsInIfs (treeOf (nodesOf bs)))
+unfolding steadiness ifSome
+steadiness-sound {bs} s = rw (sound bs .1 s)
+
+pub steadiness-faulty : (bs : List ℕ) (f : Fault) → imageFault bs ≡ some f → steadiness bs ≡ faulty f
+unfolding steadiness ifSome
+steadiness-faulty bs f e = rw e
+
+-- ---- what `steady` hands out
+
+pub sound-told : {bs : List ℕ} (r : Steadiness) → Sound bs → meant r ≡ some (steadyBy (nodesOf bs) (defsInIfs (treeOf (nodesOf bs))))
+    → meant r ≡ some (steadiness bs)
+sound-told r s e = e ∙ ap some (sym (steadiness-sound s))
+
+-- none of some positive numbers is 0
+pub not-zero : (k : ℕ) (ks : List ℕ) → all (leb 1) (k ∷ ks) ≡ true → OneOf (k ∷ ks) 0 → ⊥
+unfolding all
+not-zero k [] a h = omega (arith, leb-true 1 k (and-left _ _ a), h)
+not-zero k (l ∷ ks) a h = ⊎-elim (λ e. omega (arith, leb-true 1 k (and-left _ _ a), e)) (λ r. not-zero l ks (and-right _ _ a) r) h
+
+-- the cases of a judgment but the first, by their places in the enum
+abbrev behind : List ℕ
+behind = 2 ∷ 3 ∷ 4 ∷ 5 ∷ 6 ∷ 7 ∷ 8 ∷ []
+
+-- each of them is another than WellFormed
+ill-formed : (j : Judged) → OneOf (1 ∷ behind) (tagOf the-type j) → j ≡ WellFormed → ⊥
+unfolding all _and_
+ill-formed j h e = not-zero 1 behind refl (rw e at h)
+
+pub faulty-told : (bs : List ℕ) (j : Judged) → OneOf (1 ∷ behind) (tagOf the-type j) → faultOf j ≡ imageFault bs → meant (Faulty j) ≡ some (steadiness bs)
+unfolding ifSome
+faulty-told bs j n e = by (faultOf j) refl
+  where
+    by : (o : Option Fault) → faultOf j ≡ o → ifSome o (λ f. some (faulty f)) none ≡ some (steadiness bs)
+    by none h = absurd (ill-formed j n (judged-sound bs j e .1 (sound bs .0 (sym e ∙ h))))
+    by (some f) h = ap some (sym (steadiness-faulty bs f (sym e ∙ h)))
+
+-- ---- no second outcome fits
+
+-- what an answer's meaning holds
+abbrev number : Option Meant → ℕ
+number none = 3
+number (some steady) = 0
+number (some (defInIf n b e)) = 1
+number (some (faulty f)) = 2
+
+abbrev faultIn : Option Meant → Option Fault
+faultIn none = none
+faultIn (some steady) = none
+faultIn (some (defInIf n b e)) = none
+faultIn (some (faulty f)) = some f
+
+abbrev defIn : Option Meant → Def
+defIn none = record { node = 0; begins = 0; ends = 0 }
+defIn (some steady) = record { node = 0; begins = 0; ends = 0 }
+defIn (some (defInIf n b e)) = record { node = n; begins = b; ends = e }
+defIn (some (faulty f)) = record { node = 0; begins = 0; ends = 0 }
+
+fault-number : (o : Option Fault) → 2 ≤ number (ifSome o (λ f. some (faulty f)) none)
+unfolding ifSome
+fault-number none = omega arith
+fault-number (some f) = omega arith
+
+fault-back : (o : Option Fault) → faultIn (ifSome o (λ f. some (faulty f)) none) ≡ o
+unfolding ifSome
+fault-back none = refl
+fault-back (some f) = refl
+
+-- answers that mean the same are equal
+meant-injective : (r q : Steadiness) → meant r ≡ meant q → r ≡ q
+meant-injective Steady Steady e = refl
+meant-injective Steady (DefInIf d) e = absurd (omega (arith, ap number e))
+meant-injective Steady (Faulty k) e = absurd (omega (arith, ap number e, fault-number (faultOf k)))
+meant-injective (DefInIf d) Steady e = absurd (omega (arith, ap number e))
+meant-injective (DefInIf d) (DefInIf f) e = ap DefInIf (ap defIn e)
+meant-injective (DefInIf d) (Faulty k) e = absurd (omega (arith, ap number e, fault-number (faultOf k)))
+meant-injective (Faulty j) Steady e = absurd (omega (arith, ap number e, fault-number (faultOf j)))
+meant-injective (Faulty j) (DefInIf d) e = absurd (omega (arith, ap number e, fault-number (faultOf j)))
+meant-injective (Faulty j) (Faulty k) e = ap Faulty (fault-injective (sym (fault-back (faultOf j)) ∙ (ap faultIn e ∙ fault-back (faultOf k))))
+
+pub one-steadiness : (bs : List ℕ) (r q : Steadiness) → meant r ≡ some (steadiness bs) → meant q ≡ some (steadiness bs) → r ≡ q
+one-steadiness bs r q p s = meant-injective r q (p ∙ sym s)
+
+-- ---- what is told of a program that has none
+
+first-none : (ds : List ImageNode) (ns : List ℕ) → steadyBy ds ns ≡ steady → ns ≡ []
+unfolding steadyBy
+first-none ds [] e = refl
+first-none ds (n ∷ ns) e = absurd (omega (arith, ap (λ (m : Meant). number (some m)) e))
+
+pub steadiness-exactly : (bs : List ℕ) → (steadiness bs ≡ steady) ↔ (Sound bs × NoDefInIf (treeOf (nodesOf bs)))
+unfolding steadyBy
+steadiness-exactly bs = (λ e. by e (imageFault bs) refl, λ p. steadiness-sound (p .0) ∙ ap (steadyBy (nodesOf bs)) (p .1))
+  where
+    by : steadiness bs ≡ steady → (o : Option Fault) → imageFault bs ≡ o → Sound bs × NoDefInIf (treeOf (nodesOf bs))
+    by e none h = let s = sound bs .0 h in (s, first-none (nodesOf bs) _ (sym (steadiness-sound s) ∙ e))
+    by e (some f) h = absurd (omega (arith, ap (λ (m : Meant). number (some m)) (sym (steadiness-faulty bs f h) ∙ e)))
+
+-- `steady` answers Steady exactly then
+pub steady-exactly : (bs : List ℕ) (r : Steadiness) → meant r ≡ some (steadiness bs) → (r ≡ Steady) ↔ (Sound bs × NoDefInIf (treeOf (nodesOf bs)))
+steady-exactly bs r p = (
+  λ e. steadiness-exactly bs .0 (meaning-of (sym p ∙ ap meant e)),
+  λ h. meant-injective r Steady (p ∙ ap some (steadiness-exactly bs .1 h)),
+)
+  where
+    inner : Option Meant → Meant
+    inner none = steady
+    inner (some m) = m
+
+    meaning-of : {m n : Meant} → some m ≡ some n → m ≡ n
+    meaning-of e = ap inner e
