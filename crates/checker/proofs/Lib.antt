@@ -8,6 +8,7 @@ pub mod Outcomes
 pub mod Sheets
 pub mod Demand
 pub mod Listing
+pub mod Known
 pub mod Settings
 pub mod Starred
 pub mod Exactly

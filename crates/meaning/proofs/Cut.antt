@@ -16,6 +16,7 @@ use Rattle.meaning.specs.Image.{Fault, version, nameCount, nodeCount, te
 use Rattle.meaning.specs.Read.{isSheet, readSheet}
 use Rattle.meaning.specs.Walk.{Setting}
 use Rattle.meaning.specs.Answer.{bare, answerUnder, settingOf, answer, readAnswer}
+use Rattle.meaning.specs.Known.{steadiness}
 use Rattle.meaning.specs.Line.{lineOf, settingTold, printed}
 use Rattle.meaning.proofs.Choices.{not-so}
 use Rattle.meaning.proofs.Faults.{fault, fault-1, fault-2, fault-3, image-length}
@@ -72,6 +73,10 @@ module _ (n : ℕ) (bs : List ℕ) (least : largestImage < n) (more : n < length
   chosen-cut none x y = refl
   chosen-cut (some setting) x y = under-cut setting x y
 
+  steady-long-cut : steadiness (take n bs) ≡ steadiness bs
+  unfolding steadiness ifSome
+  steady-long-cut = rw (fault-cut .1, fault-cut .2) refl
+
   sheet-cut : isSheet (take n bs) ≡ isSheet bs
   sheet-cut = no-sheet (take n bs) (omega (arith, cut-long)) ∙ sym (no-sheet bs (omega arith))
 
@@ -94,6 +99,9 @@ module _ (n : ℕ) (bs : List ℕ) (least : largestImage < n) where
   unfolding answer
   answer-any-cut setting x y = whole (λ s. answer setting s x y) (λ m. chosen-cut n bs least m (settingOf setting) x y)
 
+  pub steady-any-cut : steadiness (take n bs) ≡ steadiness bs
+  steady-any-cut = whole steadiness (λ m. steady-long-cut n bs least m)
+
   pub is-sheet-any-cut : isSheet (take n bs) ≡ isSheet bs
   is-sheet-any-cut = whole isSheet (λ m. sheet-cut n bs least m)
 
@@ -106,6 +114,9 @@ module _ (bs : List ℕ) where
   -- ruled out: a count of text bytes that is not looked at, so that an image of 59,938 bytes is accepted whole and gets 3 when it is cut
   pub answer-cut : (setting x y : ℕ) → answer setting (take readAtMost bs) x y ≡ answer setting bs x y
   answer-cut setting x y = answer-any-cut readAtMost bs (omega arith) setting x y
+
+  pub steady-cut : steadiness (take readAtMost bs) ≡ steadiness bs
+  steady-cut = steady-any-cut readAtMost bs (omega arith)
 
   -- ruled out: a reader without a limit of names, which takes a sheet of 59,938 bytes and refuses it when it is cut
   pub is-sheet-cut : isSheet (take readAtMost bs) ≡ isSheet bs

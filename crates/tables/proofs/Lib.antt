@@ -3,3 +3,4 @@ mod Damaged
 mod Decisions
 mod Strict
 mod Places
+mod Steady
