@@ -1,19 +1,16 @@
 -- What each case of `load` leaves, from what `check` left. Assumes nothing.
 use mathlib.Core.Path.{_≡_, refl, sym, ap, _∙_, subst}
 use mathlib.Core.Bool.{true, false, false≢true}
-use mathlib.Core.Logic.{⊎-elim}
 use mathlib.Core.List.{List, [], _∷_}
 use Prim.Native.Nat.{ℕ, _≤_}
 use native.Mathlib.Omega.{arith}
-use borrow.Author.Tests.{leb-true}
 use types.Run.{OneOf}
 use denote.Enum.Declared.{tagOf}
-use lib.Dec.{leb}
 use lib.ListN.{length, take}
 use Rattle.meaning.specs.Base.{_and_, all, sameText}
 use Rattle.meaning.specs.Answer.{Answer as Meant, answer}
 use Rattle.meaning.specs.Load.{loadingNumber}
-use Rattle.meaning.proofs.Choices.{and-left, and-right, same-text, text-same}
+use Rattle.meaning.proofs.Choices.{same-text, text-same}
 use Rattle.meaning.proofs.Loads.{loads-exactly, look-exactly, refused-exactly}
 use Rattle.meaning.proofs.Answers.{overlaid-length, overlaid-front}
 use Rattle.meaning.proofs.Answers.{answered as bounds}
@@ -21,15 +18,10 @@ use Rattle.checker.specs.Answers.{Numbers, sheetNumbers, numbersOf, Stands, Rep
 use Rattle.checker.specs.declared.Answer.{Answer}
 use Rattle.checker.specs.declared.Answer.the-variants.{Accepted, BadHead, BadCount, BadOffset, BadName, UnsafeName, BadNode, BadNesting, TooDeep, NinthFrame, ShortBuffer, NoSetting, Typing}
 use Rattle.checker.proofs.Answer.{the-type}
+use Rattle.steady.proofs.Whole.{not-zero}
 use Rattle.load.specs.Rule.{kindOf, numbersTold, Decides, Decided}
 use Rattle.load.specs.declared.Loading.{Loading}
 use Rattle.load.specs.declared.Loading.the-variants.{Loads, Look, Refused}
-
--- none of some positive numbers is 0
-not-zero : (k : ℕ) (ks : List ℕ) → all (leb 1) (k ∷ ks) ≡ true → OneOf (k ∷ ks) 0 → ⊥
-unfolding all
-not-zero k [] a h = omega (arith, leb-true 1 k (and-left _ _ a), h)
-not-zero k (l ∷ ks) a h = ⊎-elim (λ e. omega (arith, leb-true 1 k (and-left _ _ a), e)) (λ r. not-zero l ks (and-right _ _ a) r) h
 
 -- the cases of an answer but the first, by their places in the enum
 abbrev behind : List ℕ

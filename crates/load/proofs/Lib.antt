@@ -1,3 +1,4 @@
 pub mod Cases
 pub mod Rule
 pub mod Legible
+pub mod Steadiness

@@ -1,19 +1,24 @@
-// The load rule, and what other languages call of it and of `show`. "A script loads unseen exactly when it is accepted
-// and its type sheet equals the last approved sheet, byte for byte." Nothing is asked of the caller.
+// The load rule, and what other languages call of it, of `show` and of `steady`. "A script loads unseen exactly when it
+// is accepted and its type sheet equals the last approved sheet, byte for byte." Nothing is asked of the caller.
 ghost use mathlib.Core.Path.{_≡_};
 ghost use lib.ListN.{length};
 ghost use Rattle.meaning.specs.Answer.{answer};
+ghost use Rattle.meaning.specs.Known.{steadiness};
 ghost use Rattle.meaning.specs.Load.{loadingNumber};
 ghost use Rattle.meaning.specs.Show.{showAnswer, changesAnswer};
 ghost use Rattle.checker.specs.Answers.{sheetNumbers, numbersOf};
+ghost use Rattle.image.specs.Outcome.{faultOf};
 ghost use Rattle.show.specs.Words.{Tells};
 ghost use Rattle.load.specs.Rule.{kindOf, numbersTold, Decided, Decides, verdictMeans, Numbered};
+ghost use Rattle.load.specs.Steadiness.{steadyNumbers, faultNumbers, steadyMeans, blame};
 use checker::Answer;
 use checker::NO_SHEET;
 use checker::SHORT_BUFFER;
 use checker::check;
 use checker::replied;
+use image::Judged;
 use show::Telling;
+use steady::Steadiness;
 use words::same;
 use words::text;
 
@@ -173,4 +178,75 @@ pub extern "C" fn cablebirch_changes(old: &[u8], new: &[u8], out: &mut [u8]) -> 
         (r .code) (r .length) (now (out .entry)) (now (out .exit)) ⌝ }
 {
     in_numbers(show::changes(old, new, out))
+}
+
+// ---- whether a Def stands inside an If, for C and Rust
+
+// Steady 1 and all else 0, for a program with no Def inside an If; steady 0 and code 0 with the first such Def and its
+// span; or steady 0 with the code 1 to 8 and its place, for bytes that are no image.
+#[repr(C)]
+pub struct Steady {
+    pub steady: u32,
+    pub code: u32,
+    pub span_start: u32,
+    pub span_end: u32,
+    pub place: usize,
+}
+
+const STEADY: u32 = 1;
+
+const UNSTEADY: u32 = 0;
+
+// A fault of the bytes.
+fn fault(code: u32, place: usize) -> Steady
+    ensures { λ r. ⌜ steadyMeans r ≡ faultNumbers code place ⌝ }
+{
+    Steady {
+        steady: UNSTEADY,
+        code,
+        span_start: 0,
+        span_end: 0,
+        place,
+    }
+}
+
+// By the codes of document 01. `steady` never hands out a well-formed image as faulty.
+fn blamed(j: Judged) -> Steady
+    ensures { λ r. ⌜ steadyMeans r ≡ blame (faultOf j) ⌝ }
+{
+    match j {
+        Judged::WellFormed => fault(0, 0),
+        Judged::BadHead => fault(1, 0),
+        Judged::BadCount => fault(2, 0),
+        Judged::BadOffset => fault(3, 0),
+        Judged::BadName(i) => fault(4, i),
+        Judged::UnsafeName(i) => fault(5, i),
+        Judged::BadNode(i) => fault(6, i),
+        Judged::BadNesting(i) => fault(7, i),
+        Judged::TooDeep(i) => fault(8, i),
+    }
+}
+
+// `steady::steady` for other languages.
+#[no_mangle]
+pub extern "C" fn cablebirch_steady(image: &[u8]) -> Steady
+    ensures { λ r. ⌜ steadyMeans r ≡ steadyNumbers (steadiness (now (image .entry))) ⌝ }
+{
+    match steady::steady(image) {
+        Steadiness::Steady => Steady {
+            steady: STEADY,
+            code: 0,
+            span_start: 0,
+            span_end: 0,
+            place: 0,
+        },
+        Steadiness::DefInIf(d) => Steady {
+            steady: UNSTEADY,
+            code: 0,
+            span_start: d.begins,
+            span_end: d.ends,
+            place: d.node,
+        },
+        Steadiness::Faulty(j) => blamed(j),
+    }
 }

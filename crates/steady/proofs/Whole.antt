@@ -3,7 +3,7 @@ use mathlib.Core.Path.{_≡_, refl, sym, ap, _∙_}
 use mathlib.Core.Bool.{true}
 use mathlib.Core.Logic.{_↔_, ⊎-elim}
 use mathlib.Core.List.{List, [], _∷_}
-use mathlib.Core.Option.{Option, none, some}
+use mathlib.Core.Option.{Option, none, some, Option·some-injective}
 use Prim.Native.Nat.{ℕ, _≤_}
 use native.Mathlib.Omega.{arith}
 use borrow.Author.Tests.{leb-true}
@@ -131,13 +131,6 @@ steadiness-exactly bs = (λ e. by e (imageFault bs) refl, λ p. steadiness-sound
 -- `steady` answers Steady exactly then
 pub steady-exactly : (bs : List ℕ) (r : Steadiness) → meant r ≡ some (steadiness bs) → (r ≡ Steady) ↔ (Sound bs × NoDefInIf (treeOf (nodesOf bs)))
 steady-exactly bs r p = (
-  λ e. steadiness-exactly bs .0 (meaning-of (sym p ∙ ap meant e)),
+  λ e. steadiness-exactly bs .0 (Option·some-injective _ _ (sym p ∙ ap meant e)),
   λ h. meant-injective r Steady (p ∙ ap some (steadiness-exactly bs .1 h)),
 )
-  where
-    inner : Option Meant → Meant
-    inner none = steady
-    inner (some m) = m
-
-    meaning-of : {m n : Meant} → some m ≡ some n → m ≡ n
-    meaning-of e = ap inner e
