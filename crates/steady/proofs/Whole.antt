@@ -110,6 +110,8 @@ meant-injective (Faulty j) Steady e = absurd (omega (arith, ap number e, fault-n
 meant-injective (Faulty j) (DefInIf d) e = absurd (omega (arith, ap number e, fault-number (faultOf j)))
 meant-injective (Faulty j) (Faulty k) e = ap Faulty (fault-injective (sym (fault-back (faultOf j)) ∙ (ap faultIn e ∙ fault-back (faultOf k))))
 
+-- Two answers that both meet the promise of `steady` are equal. (False of a promise that lets it tell any Def inside an If, and not the first, or
+-- that lets it call a well-formed image faulty.)
 pub one-steadiness : (bs : List ℕ) (r q : Steadiness) → meant r ≡ some (steadiness bs) → meant q ≡ some (steadiness bs) → r ≡ q
 one-steadiness bs r q p s = meant-injective r q (p ∙ sym s)
 
@@ -128,7 +130,7 @@ steadiness-exactly bs = (λ e. by e (imageFault bs) refl, λ p. steadiness-sound
     by e none h = let s = sound bs .0 h in (s, first-none (nodesOf bs) _ (sym (steadiness-sound s) ∙ e))
     by e (some f) h = absurd (omega (arith, ap (λ (m : Meant). number (some m)) (sym (steadiness-faulty bs f h) ∙ e)))
 
--- `steady` answers Steady exactly then
+-- `steady` answers Steady exactly for a well-formed image with no Def anywhere inside an If
 pub steady-exactly : (bs : List ℕ) (r : Steadiness) → meant r ≡ some (steadiness bs) → (r ≡ Steady) ↔ (Sound bs × NoDefInIf (treeOf (nodesOf bs)))
 steady-exactly bs r p = (
   λ e. steadiness-exactly bs .0 (Option·some-injective _ _ (sym p ∙ ap meant e)),
