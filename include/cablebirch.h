@@ -3,7 +3,7 @@
  * Two archives for x86-64 Linux, in target/staticlib; `rt staticlib checker` and `rt staticlib load` prove and write them:
  *
  *     libchecker.a    cablebirch_check, cablebirch_read_sheet, cablebirch_write_sheet
- *     libload.a       cablebirch_load, cablebirch_show, cablebirch_changes
+ *     libload.a       cablebirch_load, cablebirch_show, cablebirch_changes, cablebirch_steady
  *
  * Link the one whose functions you call, or both, in any order: neither needs the other.
  *
@@ -140,6 +140,22 @@ cablebirch_words cablebirch_show(const uint8_t *sheet, size_t len, uint8_t *out,
  * byte for byte; 10 if `out` is too short; 12 if one of them is no sheet. */
 cablebirch_words cablebirch_changes(const uint8_t *old, size_t old_len, const uint8_t *new_, size_t new_len, uint8_t *out,
                                     size_t out_len);
+
+typedef struct {
+    uint32_t steady;     /* 1 if no def stands inside an if; else 0 */
+    uint32_t code;       /* 1 to 8 if the image is not well formed; else 0 */
+    uint32_t span_start; /* of a def inside an if: its span, as the image has it; else 0 */
+    uint32_t span_end;
+    size_t place;        /* of a def inside an if: its node's number; codes 4 and 5: a name's number; 6 to 8: a node's number; else 0 */
+} cablebirch_steadiness;
+
+/* Does no `def` stand anywhere inside an `if`? At any depth, through loops and other defs, in any branch; a def that holds an `if` is no
+ * matter. `steady` is 1 exactly if none does, and every other field is 0 then. If one does, `steady` and `code` are 0, with the place and
+ * span of the first one in program order. If the image is not well formed, code and place are those that cablebirch_check gives.
+ * What it is for: slots may be laid out while a script is read. Once a name's type is known after a module statement that was accepted, it
+ * stays that type, with the place where it was first set, and it is the type in the sheet of the accepted script: in strict always, in
+ * plain if `steady` is 1. (Plain passes over errors inside an `if`, and a def that fails there leaves its own variables behind.) */
+cablebirch_steadiness cablebirch_steady(const uint8_t *image, size_t image_len);
 
 #ifdef __cplusplus
 }

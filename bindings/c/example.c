@@ -1,7 +1,9 @@
 /* usage: example [plain | strict] IMAGE [SHEET]
+ *        example steady IMAGE
  * Prints the checker's line for a program image, in plain if no setting is named, and for codes 23 and 25 where the old type was
  * first set. Given the last approved sheet, it says whether the script loads unseen; if someone must look, the names that changed
- * too, or all names if the approved file is no type sheet. */
+ * too, or all names if the approved file is no type sheet. With `steady` it says whether no def stands inside an if, and else which
+ * one does. */
 #include "cablebirch.h"
 #include <stdio.h>
 #include <string.h>
@@ -48,18 +50,35 @@ static void print_changes(size_t approved_length, size_t sheet_length)
     fwrite(text, 1, w.length, stdout);
 }
 
+/* The line that says whether no def stands inside an if. */
+static void print_steadiness(size_t image_length)
+{
+    cablebirch_steadiness s = cablebirch_steady(image, image_length);
+    if (s.steady)
+        puts("steady");
+    else if (s.code)
+        printf("refused %u %zu\n", s.code, s.place);
+    else
+        printf("a def inside an if %zu %u %u\n", s.place, s.span_start, s.span_end);
+}
+
 int main(int count, char **words)
 {
     uint32_t setting = CABLEBIRCH_PLAIN;
     size_t image_length, approved_length = 0;
-    if (count > 1 && names_setting(words[1], &setting))
+    int steady = count == 3 && strcmp(words[1], "steady") == 0;
+    if (steady || (count > 1 && names_setting(words[1], &setting)))
         count--, words++;
     if (count < 2 || count > 3) {
-        fprintf(stderr, "usage: example [plain | strict] IMAGE [SHEET]\n");
+        fprintf(stderr, "usage: example [plain | strict] IMAGE [SHEET]\n       example steady IMAGE\n");
         return 2;
     }
     if (!read_file(words[1], image, sizeof image, &image_length))
         return 2;
+    if (steady) {
+        print_steadiness(image_length);
+        return 0;
+    }
     if (count == 3 && !read_file(words[2], approved, sizeof approved, &approved_length))
         return 2;
 

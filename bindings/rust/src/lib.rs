@@ -96,6 +96,22 @@ pub enum Loading<'a> {
     Refused(Refusal<'a>),
 }
 
+/// Whether a `def` stands anywhere inside an `if`.
+#[derive(Debug, Clone, Copy, PartialEq, Eq)]
+pub enum Steadiness {
+    /// None does.
+    Steady,
+    /// One does. This is the first in program order.
+    DefInIf {
+        /// Its node's number.
+        place: usize,
+        /// Start and end of its span, as the image has them.
+        span: (u32, u32),
+    },
+    /// The image is not well formed: code 1 to 8, as [`check`] refuses it under either setting.
+    Refused(Refusal<'static>),
+}
+
 /// Why a sheet was not written again, or not told in words.
 #[derive(Debug, Clone, Copy, PartialEq, Eq)]
 pub enum SheetError {
@@ -213,6 +229,24 @@ pub fn changes<'a>(old: &[u8], new: &[u8], out: &'a mut [u8]) -> Result<&'a str,
     told(raw, out)
 }
 
+/// Whether no `def` stands anywhere inside an `if`: at any depth, through loops and other defs, in any branch. A def that holds an `if` is no
+/// matter.
+///
+/// What it is for: slots may be laid out while a script is read. Once a name's type is known after a module statement that was accepted, it
+/// stays that type, with the place where it was first set, and it is the type in the sheet of the accepted script: in
+/// [`Setting::Strict`] always, in [`Setting::Plain`] if the image is [`Steadiness::Steady`]. (Plain passes over errors inside an `if`, and a
+/// def that fails there leaves its own variables behind.)
+pub fn steady(image: &[u8]) -> Steadiness {
+    // Safety: pointer and length are a slice's, and nothing is written.
+    let raw = unsafe { raw::cablebirch_steady(image.as_ptr(), image.len()) };
+    let (place, span) = (raw.place, (raw.span_start, raw.span_end));
+    match (raw.steady, raw.code) {
+        (1, _) => Steadiness::Steady,
+        (_, 0) => Steadiness::DefInIf { place, span },
+        (_, code) => Steadiness::Refused(Refusal { code, place, span, second: None, message: &[] }),
+    }
+}
+
 /// The text that was written to the front of `out`, or why none was.
 fn told(raw: raw::RawWords, out: &[u8]) -> Result<&str, SheetError> {
     match raw.code {
@@ -287,6 +321,15 @@ mod raw {
         pub length: usize,
     }
 
+    #[repr(C)]
+    pub struct RawSteadiness {
+        pub steady: u32,
+        pub code: u32,
+        pub span_start: u32,
+        pub span_end: u32,
+        pub place: usize,
+    }
+
     extern "C" {
         pub fn cablebirch_check(
             setting: u32,
@@ -319,5 +362,6 @@ mod raw {
             out: *mut u8,
             out_len: usize,
         ) -> RawWords;
+        pub fn cablebirch_steady(image: *const u8, image_len: usize) -> RawSteadiness;
     }
 }
