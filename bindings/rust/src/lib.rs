@@ -17,9 +17,9 @@
 //! ```
 //!
 //! The functions keep no state: any number of threads may call them at once. They work on the caller's stack: [`check`] was seen to
-//! need 218,600 bytes at most, [`load`] 218,792, [`read_sheet`] 89,704, [`write_sheet`] 89,768, [`show`] 123,944 and [`changes`] 252,472; with a
-//! message buffer of more than [`MESSAGE_ROOM`], [`check`] up to 292,520 and [`load`] up to 292,712, where a message names a type nested 1,891
-//! deep (measured, not proved: `bench/stack`).
+//! need 218,600 bytes at most, [`load`] 218,712, [`read_sheet`] 89,704, [`write_sheet`] 89,768, [`show`] 123,944, [`changes`] 252,472 and
+//! [`steady`] 4,252; with a message buffer of more than [`MESSAGE_ROOM`], [`check`] up to 292,520 and [`load`] up to 292,632, where a message
+//! names a type nested 1,891 deep (measured, not proved: `bench/stack`).
 
 #![warn(missing_docs)]
 
