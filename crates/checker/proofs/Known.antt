@@ -20,7 +20,7 @@ use Rattle.meaning.proofs.Listed.{listingOf, listing-once}
 use Rattle.meaning.proofs.KnownStays.{StillKnown, one-frame, known-stays, strict-known-stays, each-accepted, known-in-sheet}
 use Rattle.meaning.proofs.Keeping.{strict-not-plain}
 use Rattle.checker.specs.Answers.{Numbers, Replies}
-use Rattle.checker.specs.Module.{moduleFrame, sheetIn}
+use Rattle.checker.specs.Module.{sheetIn}
 use Rattle.checker.proofs.Demand.{sheet-tells-listed, ends-well}
 use Rattle.checker.proofs.Demand.{one-frame as only-frame}
 

@@ -8,6 +8,9 @@ use native.Mathlib.Omega.{arith}
 use Rattle.meaning.specs.Base.{ifSome}
 use Rattle.meaning.specs.Image.{Fault, nodesOf}
 use Rattle.meaning.specs.Decode.{treeOf}
+use Rattle.meaning.specs.Walk.{plain}
+use Rattle.meaning.specs.Read.{entriesIn}
+use Rattle.meaning.specs.Answer.{answer}
 use Rattle.meaning.specs.Known.{NoDefInIf, steady, defInIf, faulty, steadiness}
 use Rattle.meaning.specs.Known.{Steadiness as Meant}
 use Rattle.meaning.proofs.Faults.{Sound}
@@ -17,6 +20,9 @@ use Rattle.steady.specs.Told.{meant}
 use Rattle.steady.specs.declared.Steadiness.{Steadiness}
 use Rattle.steady.specs.declared.Steadiness.the-variants.{Faulty}
 use Rattle.steady.proofs.Whole.{steadiness-exactly}
+use Rattle.checker.specs.Answers.{Numbers, Replies}
+use Rattle.checker.specs.Module.{sheetIn}
+use Rattle.checker.proofs.Known.{Steadily, plain-steadily}
 use Rattle.load.specs.Steadiness.{SteadyNumbers, steadyNumbers, steadyMeans, blame}
 use Rattle.load.specs.declared.Steady.{Steady}
 
@@ -62,3 +68,10 @@ steady-exactly image r p =
       λ e. steadiness-exactly image .0 (is-steady (steadiness image) (sym told ∙ e)),
       λ h. told ∙ ap (λ (m : Meant). steadyNumbers m .steady) (steadiness-exactly image .1 h),
     )
+
+-- Which guarantee holds: where `steady` is 1, known stays known in what a plain check accepts, and is so in its sheet. (False of a program that
+-- answers 1 for run 11.)
+pub steady-steadily : (image : List ℕ) (r : Steady) → steadyMeans r ≡ steadyNumbers (steadiness image) → r .steady ≡ 1 → (room told : ℕ)
+    {n : Numbers} {old new oldMessage newMessage : List ℕ} → Replies (answer 0 image room told) n old new oldMessage newMessage → n .code ≡ 0
+    → Steadily image plain (entriesIn (sheetIn n new))
+steady-steadily image r p e room told x c = plain-steadily image room told x c (steady-exactly image r p .0 e .1)
