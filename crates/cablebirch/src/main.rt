@@ -22,6 +22,7 @@ use limits::SHEET_BUFFER;
 use verbs::Asked;
 use verbs::Command;
 use verbs::Files;
+use verbs::KNOWN;
 use verbs::LINE;
 use verbs::LOAD;
 use verbs::Status;
@@ -31,6 +32,7 @@ use verbs::digit_of;
 use verbs::kind_of;
 use verbs::say_changes;
 use verbs::say_check;
+use verbs::say_known;
 use verbs::say_load;
 use verbs::say_show;
 use verbs::verb_told;
@@ -159,6 +161,18 @@ fn run_check(setting: u32, a: usize) -> Status {
     };
     let mut out = [0u8; LINE];
     let done = say_check(setting, text(&image, 0, length_of(got)), &mut out);
+    let status = done.status;
+    print(text(&out, 0, done.length), status)
+}
+
+fn run_known(setting: u32, a: usize) -> Status {
+    let mut image = [0u8; READ_AT_MOST];
+    let got = read_file(a, &mut image, true);
+    let Got::Read(_) = got else {
+        return Status::Misused;
+    };
+    let mut out = [0u8; KNOWN];
+    let done = say_known(setting, text(&image, 0, length_of(got)), &mut out);
     let status = done.status;
     print(text(&out, 0, done.length), status)
 }
@@ -293,12 +307,13 @@ fn is_changed(status: Status) -> bool {
 fn run_help() -> Status {
     print(
         b"usage: cablebirch VERB ..   (a file `-` is standard input)\n  \
-          check [--strict] IMAGE          accepted, or why not, and where a type was first set\n  \
-          sheet [--strict] IMAGE          the type sheet of an accepted script\n  \
-          show SHEET                      a sheet's names and types\n  \
-          changes OLD NEW                 what changed between two sheets\n  \
-          load [--strict] APPROVED IMAGE  loads, or look and what changed, or why it is refused\n  \
-          help                            these lines\n\
+          check [--strict] [--known] IMAGE  accepted, or why not, and where a type was first set\n  \
+          sheet [--strict] IMAGE            the type sheet of an accepted script\n  \
+          show SHEET                        a sheet's names and types\n  \
+          changes OLD NEW                   what changed between two sheets\n  \
+          load [--strict] APPROVED IMAGE    loads, or look and what changed, or why it is refused\n  \
+          help                              these lines\n\
+          --known: whether a type, once known, stays: always with --strict, else if no def is inside an if\n\
           status: 0 accepted, equal or loads; 1 changed or look; 2 refused or no sheet; 3 nothing done\n",
         Status::Fine,
     )
@@ -320,6 +335,7 @@ fn asked_at(w: Asked, a: usize) -> Asked {
 fn words_asked() -> Asked {
     let none = Asked {
         strict: false,
+        known: false,
         input: false,
         files: Files::None,
     };
@@ -352,7 +368,9 @@ fn say_no_verb() {
 
 fn say_bad_words(verb: Verb) {
     match verb {
-        Verb::Check => say(b"cablebirch: it must be check [--strict] IMAGE; try cablebirch help\n"),
+        Verb::Check => say(
+            b"cablebirch: it must be check [--strict] [--known] IMAGE; try cablebirch help\n",
+        ),
         Verb::Sheet => say(b"cablebirch: it must be sheet [--strict] IMAGE; try cablebirch help\n"),
         Verb::Show => say(b"cablebirch: it must be show SHEET; try cablebirch help\n"),
         Verb::Changes => say(
@@ -368,6 +386,7 @@ fn say_bad_words(verb: Verb) {
 fn run(verb: Verb) -> Status {
     match command_of(verb, words_asked()) {
         Command::CheckImage(setting, a) => run_check(setting, a),
+        Command::CheckKnown(setting, a) => run_known(setting, a),
         Command::WriteSheet(setting, a) => run_sheet(setting, a),
         Command::ShowSheet(a) => run_show(a),
         Command::TellChanges(a, b) => run_changes(a, b),

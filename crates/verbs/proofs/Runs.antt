@@ -8,21 +8,26 @@ use Prim.Native.Nat.{ℕ, _≤_, _<_}
 use native.Mathlib.Decide.{decLt}
 use native.Mathlib.Omega.{arith}
 use lib.Dec.{eqb}
-use lib.ListN.{length, take}
+use lib.ListN.{length, getD, take}
 use lib.Seq.{length-take-le, take-all}
 use Rattle.meaning.specs.Limits.{largestSheet, sheetBuffer, messageBuffer, readAtMost}
-use Rattle.meaning.specs.Base.{if_then_else_, sameText}
+use Rattle.meaning.specs.Base.{if_then_else_, bytes, sameText}
+use Rattle.meaning.specs.Image.{nodesOf}
+use Rattle.meaning.specs.Decode.{treeOf}
 use Rattle.meaning.specs.Sheet.{Entry}
 use Rattle.meaning.specs.Read.{readSheet}
 use Rattle.meaning.specs.Answer.{Answer, answer, readAnswer, overlaid}
 use Rattle.meaning.specs.Show.{Change, changes, compared}
+use Rattle.meaning.specs.Known.{NoDefInIf, Steadiness, steady, defInIf, faulty, steadiness}
 use Rattle.meaning.specs.Load.{Loading, loads, look, refused, loading, loadingNumber}
 use Rattle.meaning.proofs.Choices.{not-so, same-text}
+use Rattle.meaning.proofs.Faults.{Sound}
 use Rattle.meaning.proofs.SheetForm.{read-some}
 use Rattle.meaning.proofs.Changed.{sheets-unchanged}
 use Rattle.meaning.proofs.Answers.{answered, overlaid-front}
-use Rattle.meaning.proofs.Cut.{answer-cut, read-sheet-cut}
-use Rattle.verbs.specs.Said.{statusNumber, Said, Says, toldText, checkSaid, refusalOf, Writes, showSaid, changedIf, changesSaid, namesIn, lookText, loadSaidBy, loadSaid}
+use Rattle.meaning.proofs.Cut.{answer-cut, steady-cut, read-sheet-cut}
+use Rattle.steady.proofs.Whole.{steadiness-exactly}
+use Rattle.verbs.specs.Said.{statusNumber, Said, Says, toldText, checkSaid, knownText, knownSaid, refusalOf, Writes, showSaid, changedIf, changesSaid, namesIn, lookText, loadSaidBy, loadSaid}
 use Rattle.verbs.specs.declared.Done.{Done}
 use Rattle.verbs.specs.declared.Written.{Written}
 use Rattle.verbs.specs.declared.Status.{Status}
@@ -97,10 +102,28 @@ changes-fine old new = by (readSheet old) refl (readSheet new) refl
           λ p. sym s ∙ n .1 (u .1 (p .1)),
         )
 
+-- ---- whether known stays known
+
+-- byte 6 of the line: s of `stays`, m of `may`
+stays-alone : (k : Steadiness) → knownText 0 k ≡ knownText 0 steady → k ≡ steady
+unfolding knownText bytes if_then_else_
+stays-alone steady e = refl
+stays-alone (defInIf n start end) e = absurd (let q = ap (λ (w : List ℕ). getD w 6 0) e in omega (arith, q))
+stays-alone (faulty f) e = absurd (let q = ap length e in omega (arith, q))
+
+-- In plain the line says that it does exactly for an image with no Def anywhere inside an If. (False of a program that says so of run 11, or of
+-- what is no image.)
+pub stays-told : (bs : List ℕ) → (knownText 0 (steadiness bs) ≡ knownText 0 steady) ↔ (Sound bs × NoDefInIf (treeOf (nodesOf bs)))
+stays-told bs = (λ e. steadiness-exactly bs .0 (stays-alone (steadiness bs) e), λ h. ap (knownText 0) (steadiness-exactly bs .1 h))
+
 -- ---- a long file: what is said of the first 59,937 bytes is said of the whole. (False of a program that reads one byte less.)
 
 pub check-cut : (setting : ℕ) (image : List ℕ) (x y : ℕ) → checkSaid (answer setting (take readAtMost image) x y) ≡ checkSaid (answer setting image x y)
 check-cut setting image x y = ap checkSaid (answer-cut image setting x y)
+
+pub known-cut : (setting : ℕ) (image : List ℕ) → knownSaid setting (take readAtMost image) ≡ knownSaid setting image
+unfolding knownSaid
+known-cut setting image = rw (answer-cut image setting sheetBuffer messageBuffer, steady-cut image) refl
 
 pub show-cut : (bs : List ℕ) → showSaid (take readAtMost bs) ≡ showSaid bs
 unfolding showSaid

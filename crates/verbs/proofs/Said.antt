@@ -3,7 +3,7 @@ use mathlib.Core.Path.{_≡_, refl, sym, ap, _∙_, subst}
 use mathlib.Core.Bool.{true}
 use mathlib.Core.Logic.{_⊎_, inl, inr}
 use mathlib.Core.List.{List, [], _∷_, _++_}
-use mathlib.Core.Option.{Option, none, some}
+use mathlib.Core.Option.{Option, none, some, Option·none-ne-some, Option·some-injective}
 use Prim.Native.Nat.{ℕ, _+_, _≤_}
 use native.Mathlib.Nat.{zero-add}
 use native.Mathlib.Omega.{arith}
@@ -11,13 +11,15 @@ use borrow.Author.Tests.{eq-eqb, ne-eqb}
 use denote.Enum.Declared.{tagOf}
 use lib.ListN.{length, take}
 use lib.Seq.{length-take-le}
-use Rattle.meaning.specs.Limits.{largestShow, largestChanges}
+use Rattle.meaning.specs.Limits.{sheetBuffer, messageBuffer, largestShow, largestChanges}
 use Rattle.meaning.specs.Base.{_or_, if_then_else_, ifSome, bytes}
 use Rattle.meaning.specs.Sheet.{Entry}
 use Rattle.meaning.specs.Read.{entriesIn, isSheet, readSheet}
-use Rattle.meaning.specs.Answer.{Answer, readAnswer, overlaid, meaning-open}
+use Rattle.meaning.specs.Answer.{Answer, answer, readAnswer, overlaid, meaning-open}
 use Rattle.meaning.specs.Line.{spaced, lineOf}
 use Rattle.meaning.specs.Show.{entriesText, Change, changesText, changes, InWords, showAnswer, changesAnswer}
+use Rattle.meaning.specs.Image.{Fault}
+use Rattle.meaning.specs.Known.{Steadiness, steady, defInIf, faulty, steadiness}
 use Rattle.meaning.specs.Load.{Loading, loads, look, loading, loadingNumber}
 use Rattle.meaning.proofs.SheetForm.{read-yes}
 use Rattle.meaning.proofs.Changed.{no-words}
@@ -30,6 +32,12 @@ use Rattle.checker.specs.Answers.{Numbers, sheetNumbers, numbersOf, numbersIn, 
 use Rattle.checker.specs.declared.Answer.{Answer as Reply}
 use Rattle.checker.specs.declared.Reading.{Reading}
 use Rattle.checker.specs.declared.Reading.the-variants.{Sheet, NoSheet}
+use Rattle.image.specs.Outcome.{faultOf}
+use Rattle.steady.specs.Told.{meant}
+use Rattle.steady.specs.declared.Def.{Def}
+use Rattle.steady.specs.declared.Steadiness.{Steadiness as Steady}
+use Rattle.steady.specs.declared.Steadiness.the-variants.{Steady as IsSteady, DefInIf, Faulty}
+use Rattle.steady.proofs.Steadiness.{the-type as steady-type}
 use Rattle.line.specs.Printing.{Fronted, Lined, SecondTold}
 use Rattle.line.proofs.Answered.{fronted}
 use Rattle.show.specs.Words.{Tells}
@@ -38,7 +46,7 @@ use Rattle.load.specs.declared.Loading.{Loading as Decision}
 use Rattle.load.specs.declared.Loading.the-variants.{Loads, Look, Refused as Refuses}
 use Rattle.load.proofs.Loading.{the-type}
 use Rattle.load.proofs.Cases.{sheet-there, decides-as}
-use Rattle.verbs.specs.Said.{statusOf, statusNumber, Said, Says, firstText, toldText, checkSaid, refusalOf, Writes, noSheetSaid, showSaid, changedIf, changesSaid, comparedAs, namesIn, lookText, loadSaidBy, loadSaid}
+use Rattle.verbs.specs.Said.{statusOf, statusNumber, Said, Says, spanText, firstText, toldText, checkSaid, knownText, Knows, knownSaid, refusalOf, Writes, noSheetSaid, showSaid, changedIf, changesSaid, comparedAs, namesIn, lookText, loadSaidBy, loadSaid}
 use Rattle.verbs.specs.declared.Status.{Status}
 use Rattle.verbs.specs.declared.Status.the-variants.{Fine, Changed, Refused}
 
@@ -59,13 +67,18 @@ digit-is e p = rw e p
 front-of : {d e : List ℕ} {r : ℕ} (s : List ℕ) → Wrote d 0 s e r → Fronted s d e r
 front-of {d} s a = record { line = a .same ∙ put-overlaid d s; ends = a .ends ∙ zero-add _; long = a .long; inside = a .inside }
 
--- ---- the line of the first place
+-- ---- a span, and the line of the first place
 
-pub first-wrote : (code start end : ℕ) {d e f g h : List ℕ} {at i j k l : ℕ} → (code ≡ 23) ⊎ (code ≡ 25) → Wrote d at (bytes "first set here") e i
-    → Wrote e i (spaced (start ∷ [])) f j → Wrote f j (spaced (end ∷ [])) g k → Wrote g k (bytes "\n") h l → Wrote d at (firstText code start end) h l
+pub span-wrote : (start end : ℕ) {d e f g : List ℕ} {at i j k : ℕ} → Wrote d at (spaced (start ∷ [])) e i → Wrote e i (spaced (end ∷ [])) f j
+    → Wrote f j (bytes "\n") g k → Wrote d at (spanText start end) g k
+unfolding spanText
+span-wrote start end a b n = and-then (and-then a b) n
+
+pub first-wrote : (code start end : ℕ) {d e f : List ℕ} {at i j : ℕ} → (code ≡ 23) ⊎ (code ≡ 25) → Wrote d at (bytes "first set here") e i
+    → Wrote e i (spanText start end) f j → Wrote d at (firstText code start end) f j
 unfolding firstText _or_ if_then_else_
-first-wrote code start end (inl z) a b c n = rw z (and-then (and-then (and-then a b) c) n)
-first-wrote code start end (inr z) a b c n = rw z (and-then (and-then (and-then a b) c) n)
+first-wrote code start end (inl z) a b = rw z (and-then a b)
+first-wrote code start end (inr z) a b = rw z (and-then a b)
 
 pub first-none : (code start end : ℕ) {d : List ℕ} {at : ℕ} → ((code ≡ 23) ⊎ (code ≡ 25) → ⊥) → at ≤ length d → Wrote d at (firstText code start end) d at
 unfolding firstText _or_ if_then_else_
@@ -82,14 +95,62 @@ told-front a {old} {mid} {new} {size = size} {r} l c t w =
     front-of (lineOf a ++ firstText (a .code) (a .secondStart) (a .secondEnd))
     (and-then (front-wrote (lineOf a) old l) (rw (← c, ← (t .from), ← (t .to)) w))
 
--- ---- `check` and `sheet`
+-- ---- `check`
 
 pub says-check : {a : Answer} {old mid new s s₁ m m₁ : List ℕ} {size code count start end r : ℕ} {t : Status} → Lined a old mid s s₁ m m₁ size code count
     → SecondTold a start end → Wrote mid size (firstText code start end) new r → t ≡ statusOf code
-    → Says (checkSaid a) old new (record { length = r; status = t }) × (r ≤ length new)
+    → Says (checkSaid a) old new (record { length = r; status = t })
 unfolding checkSaid
-says-check {a} l q w e =
-    let f = told-front a (l .front) (l .told) q w in (record { front = f; status = e ∙ ap statusOf (l .told) }, f .inside)
+says-check {a} l q w e = record { front = told-front a (l .front) (l .told) q w; status = e ∙ ap statusOf (l .told) }
+
+-- ---- `check --known`
+
+pub known-strict : (setting n start end : ℕ) {d e : List ℕ} {at r : ℕ} → setting ≡ 1 → Wrote d at (bytes "known stays known: strict\n") e r
+    → Wrote d at (knownText setting (defInIf n start end)) e r
+unfolding knownText if_then_else_
+known-strict setting n start end s w = rw (eq-eqb setting 1 s) w
+
+pub known-changes : (setting n start end : ℕ) {d e f : List ℕ} {at i r : ℕ} → (setting ≡ 1 → ⊥) → Wrote d at (bytes "known may change: def inside an if") e i
+    → Wrote e i (spanText start end) f r → Wrote d at (knownText setting (defInIf n start end)) f r
+unfolding knownText if_then_else_
+known-changes setting n start end s w v = rw (ne-eqb setting 1 s) (and-then w v)
+
+-- what an answer means, it means alone
+module _ (setting : ℕ) {s : Steady} {d e : List ℕ} {at r : ℕ} where
+  knows-so : (k : Steadiness) → meant s ≡ some k → Wrote d at (knownText setting k) e r → Knows setting s d at e r
+  knows-so k p w =
+      record { tells = λ j q. subst (λ (i : Steadiness). Wrote d at (knownText setting i) e r) (Option·some-injective k j (sym p ∙ q)) w }
+
+  pub knows-steady : s ≡ IsSteady → Wrote d at (bytes "known stays known: no def inside an if\n") e r → Knows setting s d at e r
+  unfolding knownText
+  knows-steady p w = knows-so steady (ap meant p) w
+
+  pub knows-def : {def : Def} → s ≡ DefInIf def → Wrote d at (knownText setting (defInIf (def .node) (def .begins) (def .ends))) e r → Knows setting s d at e r
+  knows-def {def} p w = knows-so (defInIf (def .node) (def .begins) (def .ends)) (ap meant p) w
+
+-- nothing is told of what is no image
+no-line : (setting : ℕ) (o : Option Fault) (k : Steadiness) → ifSome o (λ f. some (faulty f)) none ≡ some k → [] ≡ knownText setting k
+unfolding ifSome knownText
+no-line setting none k q = absurd (Option·none-ne-some k q)
+no-line setting (some f) k q = rw (sym (Option·some-injective (faulty f) k q))
+
+pub knows-faulty : (setting : ℕ) (s : Steady) {d : List ℕ} {at : ℕ} → tagOf steady-type s ≡ 2 → at ≤ length d → Knows setting s d at d at
+knows-faulty setting IsSteady e h = absurd (omega (arith, e))
+knows-faulty setting (DefInIf def) e h = absurd (omega (arith, e))
+knows-faulty setting (Faulty j) {d} {at} e h =
+    record {
+      tells = λ k q. subst (λ (w : List ℕ). Wrote d at w d at) (no-line setting (faultOf j) k q) (wrote [] (omega (arith, h)) (sym (put-nil d at)) (omega arith));
+    }
+
+pub says-known : (setting : ℕ) (bs : List ℕ) {old mid new : List ℕ} {at r : ℕ} {t : Status} {s : Steady}
+    → Says (checkSaid (answer setting bs sheetBuffer messageBuffer)) old mid (record { length = at; status = t }) → meant s ≡ some (steadiness bs)
+    → Knows setting s mid at new r → Says (knownSaid setting bs) old new (record { length = r; status = t }) × (r ≤ length new)
+unfolding knownSaid checkSaid
+says-known setting bs {old} x e k =
+    let f = front-of _ (and-then (front-wrote _ old (x .front)) (k .tells (steadiness bs) e)) in
+    (record { front = f; status = x .status }, f .inside)
+
+-- ---- `sheet`
 
 no-refusal : (a : Answer) → a .code ≡ 0 → [] ≡ refusalOf a
 unfolding refusalOf if_then_else_

@@ -1,17 +1,22 @@
 -- What the program says, verb by verb: the bytes for standard output, and its status.
 use mathlib.Core.Path.{_≡_}
 use mathlib.Core.List.{List, [], _∷_, _++_}
+use mathlib.Core.Option.{some}
 use Prim.Native.Nat.{ℕ, _+_}
 use lib.Dec.{eqb}
 use lib.ListN.{length}
-use Rattle.meaning.specs.Limits.{messageBuffer, largestChanges}
+use Rattle.meaning.specs.Limits.{sheetBuffer, messageBuffer, largestChanges}
 use Rattle.meaning.specs.Base.{_or_, if_then_else_, ifSome, bytes}
 use Rattle.meaning.specs.Sheet.{Entry}
 use Rattle.meaning.specs.Read.{readSheet}
-use Rattle.meaning.specs.Answer.{Answer, overlaid}
+use Rattle.meaning.specs.Answer.{Answer, answer, overlaid}
 use Rattle.meaning.specs.Line.{spaced, lineOf}
 use Rattle.meaning.specs.Show.{entriesText, Change, changesText, changes, compared}
+use Rattle.meaning.specs.Known.{Steadiness, steady, defInIf, faulty, steadiness}
 use Rattle.meaning.specs.Load.{Loading, loads, look, refused, loading}
+use Rattle.words.specs.Words.{Wrote}
+use Rattle.steady.specs.Told.{meant}
+use Rattle.steady.specs.declared.Steadiness.{Steadiness as Steady}
 use Rattle.line.specs.Printing.{Fronted}
 use Rattle.verbs.specs.declared.Status.{Status}
 use Rattle.verbs.specs.declared.Status.the-variants.{Fine, Changed, Refused, Misused}
@@ -42,10 +47,13 @@ pub record Says (s : Said) (old new : List ℕ) (d : Done) : Type 0 where
   pub front : Fronted (s .text) old new (d .length)
   pub status : d .status ≡ s .status
 
+-- a span, and the end of the line
+unfoldable pub spanText : ℕ → ℕ → List ℕ
+spanText start end = spaced (start ∷ []) ++ spaced (end ∷ []) ++ bytes "\n"
+
 -- 25 and 23 "point at the first place too": a line more, with the second span
 unfoldable pub firstText : ℕ → ℕ → ℕ → List ℕ
-firstText code start end =
-    if eqb code 23 or eqb code 25 then bytes "first set here" ++ spaced (start ∷ []) ++ spaced (end ∷ []) ++ bytes "\n" else []
+firstText code start end = if eqb code 23 or eqb code 25 then bytes "first set here" ++ spanText start end else []
 
 -- an answer: the line of `typecheck`, and that line
 unfoldable pub toldText : Answer → List ℕ
@@ -58,6 +66,27 @@ lineRoom = 64 + 40 + messageBuffer
 -- `check`
 unfoldable pub checkSaid : Answer → Said
 checkSaid a = record { text = toldText a; status = statusOf (a .code) }
+
+-- `check --known`: a line more, whether "known stays known", and why; of what is no image, none. 1 is strict, under which it does whatever
+-- the program is.
+unfoldable pub knownText : ℕ → Steadiness → List ℕ
+knownText setting steady = bytes "known stays known: no def inside an if\n"
+knownText setting (defInIf n start end) =
+    if eqb setting 1 then bytes "known stays known: strict\n" else bytes "known may change: def inside an if" ++ spanText start end
+knownText setting (faulty f) = []
+
+-- what was written at a place tells what the answer s of `steady` means
+pub record Knows (setting : ℕ) (s : Steady) (old : List ℕ) (at : ℕ) (new : List ℕ) (r : ℕ) : Type 0 where
+  pub tells : (k : Steadiness) → meant s ≡ some k → Wrote old at (knownText setting k) new r
+
+-- that line has fewer than 60 bytes
+abbrev pub knownRoom : ℕ
+knownRoom = lineRoom + 60
+
+unfoldable pub knownSaid : ℕ → List ℕ → Said
+knownSaid setting bs =
+    let a : Answer = answer setting bs sheetBuffer messageBuffer in
+    record { text = toldText a ++ knownText setting (steadiness bs); status = statusOf (a .code) }
 
 -- `sheet`: the sheet for standard output, and what tells of a refusal for standard error
 unfoldable pub refusalOf : Answer → List ℕ
@@ -110,5 +139,5 @@ abbrev pub loadRoom : ℕ
 loadRoom = 5 + largestChanges
 
 unfoldable pub said-open : Unit {0}
-unfolding statusOf firstText toldText checkSaid refusalOf showSaid changedIf changesSaid comparedAs namesIn lookText loadSaidBy loadSaid
+unfolding statusOf spanText firstText toldText checkSaid knownText knownSaid refusalOf showSaid changedIf changesSaid comparedAs namesIn lookText loadSaidBy loadSaid
 said-open = tt

@@ -10,10 +10,12 @@ ghost use Rattle.meaning.specs.Answer.{answer};
 ghost use Rattle.meaning.specs.Show.{changesText, changes as changesOf};
 ghost use Rattle.line.specs.Printing.{Fronted};
 ghost use Rattle.words.specs.Words.{Wrote};
+ghost use Rattle.meaning.specs.Known.{defInIf};
 ghost use Rattle.show.specs.Words.{tellingLength};
-ghost use Rattle.verbs.specs.Words.{verbOf, withFile, withWord, settingIf};
+ghost use Rattle.verbs.specs.Words.{verbOf, withFile, withWord, settingIf, knownAsked};
 ghost use Rattle.verbs.specs.Words.{kindOf as kindTold, commandOf as commandAsked};
-ghost use Rattle.verbs.specs.Said.{statusNumber, statusOf, Says, firstText, checkSaid, lineRoom, Writes};
+ghost use Rattle.verbs.specs.Said.{statusNumber, statusOf, Says, spanText, firstText, checkSaid, lineRoom, Writes};
+ghost use Rattle.verbs.specs.Said.{Knows, knownText, knownRoom, knownSaid};
 ghost use Rattle.verbs.specs.Said.{showSaid, comparedAs, changesSaid, namesIn, lookText};
 ghost use Rattle.verbs.specs.Said.{loadSaid, loadRoom};
 use checker::PLAIN;
@@ -28,6 +30,9 @@ use line::put_spaced;
 use load::Loading;
 use rules::codes;
 use show::Telling;
+use steady::Def;
+use steady::Steadiness;
+use steady::steady;
 use words::put;
 use words::same;
 use words::text;
@@ -71,6 +76,7 @@ pub fn verb_told(word: &[u8]) -> Verb
 // What a word behind the verb is.
 pub enum Kind {
     Strict,
+    Known,
     Input,
     Name,
     Unknown,
@@ -82,6 +88,9 @@ pub fn kind_of(word: &[u8]) -> Kind
 {
     if same(word, b"--strict") {
         return Kind::Strict;
+    }
+    if same(word, b"--known") {
+        return Kind::Known;
     }
     if same(word, b"-") {
         return Kind::Input;
@@ -114,14 +123,16 @@ fn with_file(files: Files, a: usize) -> Files
     }
 }
 
-// What the words behind the verb say so far: strict, a file that is standard input, and the files.
+// What the words behind the verb say so far: strict, whether known stays known, a file that is standard input, and the
+// files.
 pub struct Asked {
     pub strict: bool,
+    pub known: bool,
     pub input: bool,
     pub files: Files,
 }
 
-// `--strict` may stand once, and so may `-`.
+// `--strict` may stand once, and so may `--known` and `-`.
 pub fn with_word(w: Asked, a: usize, kind: Kind) -> Asked
     ensures { λ r. ⌜ r ≡ withWord w a kind ⌝ }
 {
@@ -129,11 +140,19 @@ pub fn with_word(w: Asked, a: usize, kind: Kind) -> Asked
     match kind {
         Kind::Strict => Asked {
             strict: true,
+            known: w.known,
             input: w.input,
             files: if w.strict { Files::Wrong } else { files },
         },
+        Kind::Known => Asked {
+            strict: w.strict,
+            known: true,
+            input: w.input,
+            files: if w.known { Files::Wrong } else { files },
+        },
         Kind::Input => Asked {
             strict: w.strict,
+            known: w.known,
             input: true,
             files: if w.input {
                 Files::Wrong
@@ -143,11 +162,13 @@ pub fn with_word(w: Asked, a: usize, kind: Kind) -> Asked
         },
         Kind::Name => Asked {
             strict: w.strict,
+            known: w.known,
             input: w.input,
             files: with_file(files, a),
         },
         Kind::Unknown => Asked {
             strict: w.strict,
+            known: w.known,
             input: w.input,
             files: Files::Wrong,
         },
@@ -157,6 +178,7 @@ pub fn with_word(w: Asked, a: usize, kind: Kind) -> Asked
 // What is to be done: settings, and the numbers of the arguments that name the files.
 pub enum Command {
     CheckImage(u32, usize),
+    CheckKnown(u32, usize),
     WriteSheet(u32, usize),
     ShowSheet(usize),
     TellChanges(usize, usize),
@@ -172,10 +194,30 @@ fn setting_of(strict: bool) -> u32
     if strict { STRICT } else { PLAIN }
 }
 
+// `--known` stands there, and `check` alone tells that.
+fn known_asked(verb: Verb, w: Asked) -> Command
+    ensures { λ r. ⌜ r ≡ knownAsked verb w ⌝ }
+{
+    let files = w.files;
+    match verb {
+        Verb::Check => {
+            let Files::One(i) = files else {
+                return Command::BadWords;
+            };
+            Command::CheckKnown(setting_of(w.strict), i)
+        }
+        Verb::Nothing => Command::NoVerb,
+        _ => Command::BadWords,
+    }
+}
+
 // A verb and the number of its files must fit, and only what reads an image may be strict.
 pub fn command_of(verb: Verb, w: Asked) -> Command
     ensures { λ r. ⌜ r ≡ commandAsked verb w ⌝ }
 {
+    if w.known {
+        return known_asked(verb, w);
+    }
     let files = w.files;
     let setting = setting_of(w.strict);
     match verb {
@@ -270,17 +312,30 @@ pub const LINE: usize = 64 + 40 + MESSAGE_BUFFER;
 // Room for `look` and what changed.
 pub const LOAD: usize = 5 + LARGEST_CHANGES;
 
+// Room for these, and for the line that tells whether known stays known.
+pub const KNOWN: usize = LINE + 60;
+
+// A span, at the end of a line.
+fn put_span(out: &mut [u8], at: usize, start: u32, end: u32) -> usize
+    requires { ⌜ at + 23 ≤ length (now out) ⌝ }
+    ensures { λ r. ⌜ Wrote (now (out .entry)) at (spanText start end) (now (out .exit)) r ⌝ }
+    ensures { λ r. ⌜ r ≤ at + 23 ⌝ }
+{
+    let first = put_spaced(out, at, start);
+    let second = put_spaced(out, first, end);
+    put(out, second, b"\n")
+}
+
 // 25 and 23 "point at the first place too": a line more, with the second span.
 fn put_first(out: &mut [u8], at: usize, code: u32, start: u32, end: u32) -> usize
     requires { ⌜ at + 40 ≤ length (now out) ⌝ }
     ensures { λ r. ⌜ Wrote (now (out .entry)) at (firstText code start end) (now (out .exit)) r ⌝ }
+    ensures { λ r. ⌜ r ≤ at + 40 ⌝ }
 {
     match code {
         codes::CANNOT_ASSIGN | codes::INCOMPATIBLE_BRANCHES => {
-            let first = put(out, at, b"first set here");
-            let second = put_spaced(out, first, start);
-            let last = put_spaced(out, second, end);
-            put(out, last, b"\n")
+            let words = put(out, at, b"first set here");
+            put_span(out, words, start, end)
         }
         _ => at,
     }
@@ -291,12 +346,51 @@ pub fn say_check(setting: u32, image: &[u8], out: &mut [u8]) -> Done
     ensures { λ r. ⌜ Says (checkSaid (answer setting (now (image .entry)) sheetBuffer messageBuffer))
         (now (out .entry)) (now (out .exit)) r ⌝ }
     ensures { λ r. ⌜ r .length ≤ length (now (out .exit)) ⌝ }
+    ensures { λ r. ⌜ r .length ≤ lineRoom ⌝ }
 {
     let mut sheet = [0u8; SHEET_BUFFER];
     let mut message = [0u8; MESSAGE_BUFFER];
     let p = line::of_image(setting, image, &mut sheet, &mut message, out);
     let status = status_of(p.code);
     let length = put_first(out, p.length, p.code, p.second_start, p.second_end);
+    Done { length, status }
+}
+
+// A Def inside an If: in plain its errors are passed over and its variables left behind, so that what is known may
+// change; strict returns them.
+fn put_def(out: &mut [u8], at: usize, setting: u32, def: Def) -> usize
+    requires { ⌜ at + 60 ≤ length (now out) ⌝ }
+    ensures { λ r. ⌜ Wrote (now (out .entry)) at
+        (knownText setting (defInIf (def .node) (def .begins) (def .ends))) (now (out .exit)) r ⌝ }
+{
+    if setting == STRICT {
+        return put(out, at, b"known stays known: strict\n");
+    }
+    let words = put(out, at, b"known may change: def inside an if");
+    put_span(out, words, def.begins, def.ends)
+}
+
+// Whether "known stays known", and why.
+fn put_known(out: &mut [u8], at: usize, setting: u32, s: Steadiness) -> usize
+    requires { ⌜ at + 60 ≤ length (now out) ⌝ }
+    ensures { λ r. ⌜ Knows setting s (now (out .entry)) at (now (out .exit)) r ⌝ }
+{
+    match s {
+        Steadiness::Steady => put(out, at, b"known stays known: no def inside an if\n"),
+        Steadiness::DefInIf(def) => put_def(out, at, setting, def),
+        Steadiness::Faulty(_) => at,
+    }
+}
+
+// What `check` says, and that.
+pub fn say_known(setting: u32, image: &[u8], out: &mut [u8]) -> Done
+    requires { ⌜ knownRoom ≤ length (now out) ⌝ }
+    ensures { λ r. ⌜ Says (knownSaid setting (now (image .entry))) (now (out .entry)) (now (out .exit)) r ⌝ }
+    ensures { λ r. ⌜ r .length ≤ length (now (out .exit)) ⌝ }
+{
+    let done = say_check(setting, image, out);
+    let status = done.status;
+    let length = put_known(out, done.length, setting, steady(image));
     Done { length, status }
 }
 

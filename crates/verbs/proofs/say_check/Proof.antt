@@ -13,36 +13,37 @@ use Rattle.line.proofs.of_image.Reads as of-image-reads
 use Rattle.verbs.proofs.put_first.Reads as put-first-reads
 use Rattle.verbs.proofs.status_of.Reads as status-of-reads
 
--- src/lib.rt:297:44
+-- src/lib.rt:352:44
 slice-aggregate-of-image : tie.Need-slice-aggregate-of-image
 slice-aggregate-of-image c = search needs
 
--- src/lib.rt:297:56
+-- src/lib.rt:352:56
 slice-aggregate-of-image-2 : tie.Need-slice-aggregate-of-image-2
 slice-aggregate-of-image-2 c = search needs
 
--- src/lib.rt:297:9
+-- src/lib.rt:352:9
 of-image-requires : tie.Need-of-image-requires
 of-image-requires c κs = search needs
 
--- src/lib.rt:298:9
+-- src/lib.rt:353:9
 status-of-requires : tie.Need-status-of-requires
 status-of-requires c κs = search needs
 
--- src/lib.rt:299:9
+-- src/lib.rt:354:9
 put-first-requires : tie.Need-put-first-requires
 put-first-requires c κs =
     let m = length-replicate {A = ℕ} messageBuffer 0 in omega (arith, c .before .before .before .before .before .before .before .before .before .before .before .before .pre, c .before .before .before .before .before .before .of-image .ensures .1 .1, c .before .before .before .before .before .before .of-image .ensures .0 .front .long, m)
 
--- src/lib.rt:289:1
+-- src/lib.rt:344:1
 same-length : tie.Need-same-length
 same-length c = search needs
 
--- src/lib.rt:289:1
+-- src/lib.rt:344:1
 returns : tie.Need-returns
 returns c =
     let n = length-replicate {A = ℕ} sheetBuffer 0 in let m = length-replicate {A = ℕ} messageBuffer 0 in
-    says-check (rw (n, m) at (c .before .before .before .before .before .before .before .before .before .of-image .ensures .0)) (rw (n, m) at (c .before .before .before .before .before .before .before .before .before .of-image .ensures .1 .0)) (c .before .before .put-first .ensures) (c .before .before .before .before .status-of .ensures)
+    let s = says-check (rw (n, m) at (c .before .before .before .before .before .before .before .before .before .of-image .ensures .0)) (rw (n, m) at (c .before .before .before .before .before .before .before .before .before .of-image .ensures .1 .0)) (c .before .before .put-first .ensures .0) (c .before .before .before .before .status-of .ensures) in
+    (s, (s .front .inside, omega (arith, m, c .before .before .before .before .before .before .before .before .before .of-image .ensures .1 .1, c .before .before .put-first .ensures .1)))
 
 pub say-check-spec : {M : Type 1} → statement M
 say-check-spec =

@@ -136,7 +136,7 @@ returns-3 c =
     let w = rw (c .before .before .before .before .before .before .before .before .before .before .text2 .ensures, c .before .before .before .before .before .before .before .before .text3 .ensures) at (c .before .before .before .before .before .before .write .ensures) in
     says-refused _ (rw ((length-replicate {A = ℕ} sheetBuffer 0), (length-replicate {A = ℕ} messageBuffer 0)) at (decided-refused (c .before .before .before .before .before .before .before .before .before .before .before .before .before .before .before .before .before .before .before .load .ensures) (c .before .before .before .before .before .before .before .before .before .before .before .before .before .before .before .loading2 .given .1) (c .before .before .before .before .before .before .before .before .before .before .before .before .before .replied .ensures))) (λ e. omega (arith, e)) (λ e. omega (arith, e))
     (rw ((length-replicate {A = ℕ} sheetBuffer 0), (length-replicate {A = ℕ} messageBuffer 0)) at (lined _ _ _ _ _ _ ((decided-refused (c .before .before .before .before .before .before .before .before .before .before .before .before .before .before .before .before .before .before .before .load .ensures) (c .before .before .before .before .before .before .before .before .before .before .before .before .before .before .before .loading2 .given .1) (c .before .before .before .before .before .before .before .before .before .before .before .before .before .replied .ensures)) .replies) (c .before .before .before .before .before .before .before .before .before .before .before .before .word .ensures) (w .0, w .1 .0) (search needs)))
-    (rw ((length-replicate {A = ℕ} sheetBuffer 0), (length-replicate {A = ℕ} messageBuffer 0)) at (seconds _ _ _ _ _ _ ((decided-refused (c .before .before .before .before .before .before .before .before .before .before .before .before .before .before .before .before .before .before .before .load .ensures) (c .before .before .before .before .before .before .before .before .before .before .before .before .before .before .before .loading2 .given .1) (c .before .before .before .before .before .before .before .before .before .before .before .before .before .replied .ensures)) .replies))) (c .before .before .put-first .ensures)
+    (rw ((length-replicate {A = ℕ} sheetBuffer 0), (length-replicate {A = ℕ} messageBuffer 0)) at (seconds _ _ _ _ _ _ ((decided-refused (c .before .before .before .before .before .before .before .before .before .before .before .before .before .before .before .before .before .before .before .load .ensures) (c .before .before .before .before .before .before .before .before .before .before .before .before .before .before .before .loading2 .given .1) (c .before .before .before .before .before .before .before .before .before .before .before .before .before .replied .ensures)) .replies))) (c .before .before .put-first .ensures .0)
 
 pub say-load-spec : {M : Type 1} → statement M
 say-load-spec =

@@ -36,7 +36,7 @@ same-length-2 c = search needs
 -- src/lib.rt:320:9
 returns : tie.Need-returns
 returns c =
-    writes-fine (rw (length-replicate {A = ℕ} messageBuffer 0) at (c .before .before .before .before .before .before .before .before .before .before .before .of-image .ensures .0)) (rw (length-replicate {A = ℕ} messageBuffer 0) at (c .before .before .before .before .before .before .before .before .before .before .before .of-image .ensures .1 .0)) (c .before .before .before .before .put-first .ensures) (search needs) (c .if1 .taken)
+    writes-fine (rw (length-replicate {A = ℕ} messageBuffer 0) at (c .before .before .before .before .before .before .before .before .before .before .before .of-image .ensures .0)) (rw (length-replicate {A = ℕ} messageBuffer 0) at (c .before .before .before .before .before .before .before .before .before .before .before .of-image .ensures .1 .0)) (c .before .before .before .before .put-first .ensures .0) (search needs) (c .if1 .taken)
 
 -- src/lib.rt:310:1
 same-length-3 : tie.Need-same-length-3
@@ -49,7 +49,7 @@ same-length-4 c = search needs
 -- src/lib.rt:310:1
 returns-2 : tie.Need-returns-2
 returns-2 c =
-    writes-refused (rw (length-replicate {A = ℕ} messageBuffer 0) at (c .before .before .before .before .before .before .before .before .before .before .before .of-image .ensures .0)) (rw (length-replicate {A = ℕ} messageBuffer 0) at (c .before .before .before .before .before .before .before .before .before .before .before .of-image .ensures .1 .0)) (c .before .before .before .before .put-first .ensures) (search needs) (c .if1 .left)
+    writes-refused (rw (length-replicate {A = ℕ} messageBuffer 0) at (c .before .before .before .before .before .before .before .before .before .before .before .of-image .ensures .0)) (rw (length-replicate {A = ℕ} messageBuffer 0) at (c .before .before .before .before .before .before .before .before .before .before .before .of-image .ensures .1 .0)) (c .before .before .before .before .put-first .ensures .0) (search needs) (c .if1 .left)
 
 pub write-sheet-spec : {M : Type 1} → statement M
 write-sheet-spec =
