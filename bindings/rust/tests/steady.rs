@@ -299,12 +299,16 @@ fn no_image() {
 }
 
 #[test]
-fn each_example_is_steady() {
+fn each_example_but_soft_is_steady() {
     let folder = PathBuf::from(env!("CARGO_MANIFEST_DIR")).join("../../examples");
+    let file = |name: String| fs::read(folder.join(name)).expect("the example's file can be read");
     for name in ["bias", "bias-float", "corners", "dial", "limit", "race", "stint", "table", "wet"] {
-        let image = fs::read(folder.join(name.to_string() + ".image")).expect("the example's image can be read");
-        holds(&image, Steadiness::Steady);
+        holds(&file(name.to_string() + ".image"), Steadiness::Steady);
     }
+    // The span is the def, to the script's end but for the newline.
+    let script = String::from_utf8(file("soft.py".to_string())).expect("a script is ASCII");
+    let span = (script.find("def").expect("a def") as u32, script.trim_end().len() as u32);
+    holds(&file("soft.image".to_string()), Steadiness::DefInIf { place: 13, span });
 }
 
 /// The names of an accepted program's sheet, in words.
