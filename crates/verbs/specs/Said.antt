@@ -79,9 +79,12 @@ knownText setting (faulty f) = []
 pub record Knows (setting : ℕ) (s : Steady) (old : List ℕ) (at : ℕ) (new : List ℕ) (r : ℕ) : Type 0 where
   pub tells : (k : Steadiness) → meant s ≡ some k → Wrote old at (knownText setting k) new r
 
--- that line has fewer than 60 bytes
+-- that line has fewer bytes than this
+abbrev pub knownLine : ℕ
+knownLine = 60
+
 abbrev pub knownRoom : ℕ
-knownRoom = lineRoom + 60
+knownRoom = lineRoom + knownLine
 
 unfoldable pub knownSaid : ℕ → List ℕ → Said
 knownSaid setting bs =

@@ -14,8 +14,8 @@ ghost use Rattle.meaning.specs.Known.{defInIf};
 ghost use Rattle.show.specs.Words.{tellingLength};
 ghost use Rattle.verbs.specs.Words.{verbOf, withFile, withWord, settingIf, knownAsked};
 ghost use Rattle.verbs.specs.Words.{kindOf as kindTold, commandOf as commandAsked};
-ghost use Rattle.verbs.specs.Said.{statusNumber, statusOf, Says, spanText, firstText, checkSaid, lineRoom, Writes};
-ghost use Rattle.verbs.specs.Said.{Knows, knownText, knownRoom, knownSaid};
+ghost use Rattle.verbs.specs.Said.{statusNumber, statusOf, Says, spanText, firstText, checkSaid, lineRoom};
+ghost use Rattle.verbs.specs.Said.{Knows, knownText, knownLine, knownRoom, knownSaid, Writes};
 ghost use Rattle.verbs.specs.Said.{showSaid, comparedAs, changesSaid, namesIn, lookText};
 ghost use Rattle.verbs.specs.Said.{loadSaid, loadRoom};
 use checker::PLAIN;
@@ -309,11 +309,13 @@ pub struct Done {
 // Room for the line of an image, around whose message stand fewer than 64 bytes, and for that of its first place.
 pub const LINE: usize = 64 + 40 + MESSAGE_BUFFER;
 
+// Room for the line that tells whether known stays known, and for that behind the others.
+const KNOWN_LINE: usize = 60;
+
+pub const KNOWN: usize = LINE + KNOWN_LINE;
+
 // Room for `look` and what changed.
 pub const LOAD: usize = 5 + LARGEST_CHANGES;
-
-// Room for these, and for the line that tells whether known stays known.
-pub const KNOWN: usize = LINE + 60;
 
 // A span, at the end of a line.
 fn put_span(out: &mut [u8], at: usize, start: u32, end: u32) -> usize
@@ -359,7 +361,7 @@ pub fn say_check(setting: u32, image: &[u8], out: &mut [u8]) -> Done
 // A Def inside an If: in plain its errors are passed over and its variables left behind, so that what is known may
 // change; strict returns them.
 fn put_def(out: &mut [u8], at: usize, setting: u32, def: Def) -> usize
-    requires { ⌜ at + 60 ≤ length (now out) ⌝ }
+    requires { ⌜ at + knownLine ≤ length (now out) ⌝ }
     ensures { λ r. ⌜ Wrote (now (out .entry)) at
         (knownText setting (defInIf (def .node) (def .begins) (def .ends))) (now (out .exit)) r ⌝ }
 {
@@ -372,7 +374,7 @@ fn put_def(out: &mut [u8], at: usize, setting: u32, def: Def) -> usize
 
 // Whether "known stays known", and why.
 fn put_known(out: &mut [u8], at: usize, setting: u32, s: Steadiness) -> usize
-    requires { ⌜ at + 60 ≤ length (now out) ⌝ }
+    requires { ⌜ at + knownLine ≤ length (now out) ⌝ }
     ensures { λ r. ⌜ Knows setting s (now (out .entry)) at (now (out .exit)) r ⌝ }
 {
     match s {
