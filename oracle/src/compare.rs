@@ -2,6 +2,7 @@
 
 use crate::answer::{has_second, Rooms, Setting};
 use crate::batch;
+use crate::convert;
 use crate::judge::{self, Engine};
 use crate::reader;
 use crate::sheets;
@@ -20,6 +21,9 @@ pub struct Other {
     pub no_checksum: bool,
     /// The setting in which it answers.
     pub setting: Setting,
+    /// It is given each image converted, and must answer as T did to the image with its TreeSets. One that is refused with 1
+    /// to 8 has no converted image and is given as it is.
+    pub converted: bool,
 }
 
 /// What stands for the line of an image on which the program ended without one.
@@ -57,11 +61,13 @@ impl Other {
 
     fn run(&self, images: &[Vec<u8>]) -> Result<Vec<Vec<u8>>, String> {
         let mut input: Vec<u8> = Vec::new();
-        if self.single {
-            input.extend_from_slice(&images[0]);
-        } else {
-            for image in images {
-                batch::write(&mut input, image).map_err(|e| e.to_string())?;
+        for image in images {
+            let converted = if self.converted { convert::converted(image) } else { None };
+            let given = converted.as_ref().unwrap_or(image);
+            if self.single {
+                input.extend_from_slice(given);
+            } else {
+                batch::write(&mut input, given).map_err(|e| e.to_string())?;
             }
         }
         let mut child = Command::new(&self.program)
@@ -89,7 +95,8 @@ impl Other {
 
     /// T's line for an image, in the form in which this program gives its own.
     fn wanted(&self, image: &[u8], rooms: Rooms) -> (Vec<u8>, Engine) {
-        let judged = judge::judge(image, self.setting, rooms);
+        let asked = if self.converted { judge::former } else { judge::judge };
+        let judged = asked(image, self.setting, rooms);
         let bare = self.single || self.no_checksum;
         let line = if bare { judged.answer.bare_line() } else { judged.answer.line() };
         (line, judged.engine)

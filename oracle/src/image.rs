@@ -73,6 +73,13 @@ pub struct Image {
     pub nodes: Vec<Node>,
 }
 
+impl Image {
+    /// Code 14: the lowest TreeSet, wherever it stands.
+    pub fn retired(&self) -> Option<u32> {
+        self.nodes.iter().position(|node| node.kind == TREE_SET).map(|node| node as u32)
+    }
+}
+
 /// A refusal of the image itself: code 1 to 8 and its place.
 #[derive(Debug, Clone, Copy, PartialEq, Eq)]
 pub struct Fault {

@@ -4,7 +4,6 @@ use crate::answer::{self, Answer, Rooms, Setting};
 use crate::bound;
 use crate::builtins;
 use crate::image::{self, Image, Role};
-use crate::mistakes::Mind;
 use crate::parser::ast::StmtS;
 use crate::reference;
 use crate::semantic::{self, Frames, NinthFrame, ProgramContext, SemanticError, SemanticResult};
@@ -16,7 +15,7 @@ use std::panic::{catch_unwind, AssertUnwindSafe};
 /// Who gave an answer.
 #[derive(Debug, Clone, Copy, PartialEq, Eq)]
 pub enum Engine {
-    /// Codes 1 to 8: the oracle's own reader of images. T has no say in these.
+    /// Codes 1 to 8 and 14: the oracle's own reader of images. T has no say in these.
     Image,
     /// T byte for byte (in strict but for the results that it drops); the sheet comes from T with its frames handed out, which gave the same result.
     AsIs,
@@ -57,14 +56,22 @@ pub enum Outcome<T> {
     NinthFrame(usize),
 }
 
-/// T's answer; in strict, that of T with its dropped results handed on. T knows no second span: where it answers 25 or
-/// 23, this is the reference walk's, and 0,0 for every other code.
+/// T's answer; or 14 where an image that is well formed has a TreeSet, of which T has no say since these are retired.
 pub fn judge(bytes: &[u8], setting: Setting, rooms: Rooms) -> Judged {
+    match image::read(bytes).ok().and_then(|image| image.retired()) {
+        Some(node) => Judged { answer: Answer::bare(14, node), engine: Engine::Image },
+        None => former(bytes, setting, rooms),
+    }
+}
+
+/// T's answer as it was before TreeSets were retired; in strict, that of T with its dropped results handed on. T knows no
+/// second span: where it answers 25 or 23, this is the reference walk's, and 0,0 for every other code.
+pub fn former(bytes: &[u8], setting: Setting, rooms: Rooms) -> Judged {
     let image = match image::read(bytes) {
         Ok(image) => image,
         Err(fault) => return Judged { answer: Answer::bare(fault.code, fault.place), engine: Engine::Image },
     };
-    let expected = reference::judge(bytes, setting, rooms, Mind::SOUND);
+    let expected = reference::former(bytes, setting, rooms);
     if expected.weight > HEAVIEST {
         return Judged { answer: expected.answer, engine: Engine::TooLarge };
     }
@@ -125,7 +132,7 @@ fn run(image: &Image, program: &[StmtS], setting: Setting) -> (Outcome<Frames>, 
 pub fn as_is_again(bytes: &[u8], runs: u64) -> BTreeMap<String, u64> {
     let mut said = BTreeMap::new();
     let image = match image::read(bytes) {
-        Ok(image) if reference::judge(bytes, Setting::Plain, Rooms::default(), Mind::SOUND).weight <= HEAVIEST => image,
+        Ok(image) if reference::former(bytes, Setting::Plain, Rooms::default()).weight <= HEAVIEST => image,
         _ => return said,
     };
     let program = tree::program(&image);

@@ -6,6 +6,7 @@ mod bound;
 mod builtins;
 mod check;
 mod compare;
+mod convert;
 mod exhaust;
 mod generate;
 mod image;
@@ -43,7 +44,8 @@ usage:
   oracle show [--source] < batch                           images as text (--source: as encode reads it)
   oracle check-reference --seed S --count N [--family F]   T against the reference, N images of each family
   oracle exhaust --nodes K                                 T against the reference, all programs of up to K nodes
-  oracle compare [ROOMS] [--show K] [--save FILE] [--single] [--no-checksum] PROGRAM [ARGS..] < batch
+  oracle convert < batch > batch                           each image with Sets for its TreeSets
+  oracle compare [ROOMS] [--show K] [--save FILE] [--single] [--no-checksum] [--converted] PROGRAM [ARGS..] < batch
   oracle store --seed S --out FOLDER                       write the stored list
   oracle mistakes [--tight FILE] < batch                   which images tell each mistake from the truth
   oracle hash-order [--runs N] < batch                     the different answers of T as is, run again and again
@@ -58,6 +60,8 @@ usage:
 ROOMS: --sheet-room N --message-room N
 FORM: --full for the machine form, or --no-checksum for document 01's line alone
 With --strict, judge, reference, mistaken, check-reference, exhaust and compare go by document 02's strict setting.
+With --former, judge and reference answer as before TreeSets were retired. With --converted, PROGRAM gets each image
+converted, and is held to T's former answer to the image as it was.
 ";
 
 /// Types may be some 2,000 levels deep, and T goes through them by recursion.
@@ -88,7 +92,11 @@ fn command() -> Result<i32, String> {
         "mistaken" => {
             let (name, rest) = rest.split_first().ok_or("mistaken wants the name of a mistake")?;
             let mistake = mistakes::find(name).ok_or_else(|| format!("no mistake {}", name))?;
-            reference_batch(Options::new(rest)?, Mind(Some(mistake)))
+            let options = Options::new(rest)?;
+            if options.flag("--former") {
+                return Err("a mistake has no former answer".to_string());
+            }
+            reference_batch(options, Mind(Some(mistake)))
         }
         "generate" => generate_batch(Options::new(rest)?),
         "encode" => encode(),
@@ -113,6 +121,7 @@ fn command() -> Result<i32, String> {
             let nodes = options.wanted("--nodes")? as usize;
             Ok(i32::from(!check::exhaust(nodes, options.setting())))
         }
+        "convert" => convert_batch(),
         "compare" => compare_batch(rest),
         "store" => {
             let options = Options::new(rest)?;
@@ -194,7 +203,17 @@ const VALUES: [&str; 12] = [
     "--runs",
     "--without",
 ];
-const FLAGS: [&str; 7] = ["--strict", "--full", "--rules", "--single", "--no-checksum", "--source", "--sheets"];
+const FLAGS: [&str; 9] = [
+    "--strict",
+    "--full",
+    "--rules",
+    "--single",
+    "--no-checksum",
+    "--source",
+    "--sheets",
+    "--former",
+    "--converted",
+];
 
 impl Options {
     fn new(args: &[String]) -> Result<Options, String> {
@@ -283,8 +302,9 @@ fn each_line(mut line: impl FnMut(&[u8]) -> Vec<u8>) -> Result<i32, String> {
 
 fn judge_batch(options: Options) -> Result<i32, String> {
     let rooms = options.rooms()?;
+    let asked = if options.flag("--former") { judge::former } else { judge::judge };
     each_line(|image| {
-        let judged = judge::judge(image, options.setting(), rooms);
+        let judged = asked(image, options.setting(), rooms);
         if options.flag("--full") {
             judged.answer.full_line(judged.engine.name())
         } else if judged.engine == Engine::TooLarge && !options.flag("--rules") {
@@ -307,7 +327,12 @@ fn line(answer: &answer::Answer, options: &Options) -> Vec<u8> {
 fn reference_batch(options: Options, mind: Mind) -> Result<i32, String> {
     let rooms = options.rooms()?;
     each_line(|image| {
-        let answer = reference::judge(image, options.setting(), rooms, mind).answer;
+        let judged = if options.flag("--former") {
+            reference::former(image, options.setting(), rooms)
+        } else {
+            reference::judge(image, options.setting(), rooms, mind)
+        };
+        let answer = judged.answer;
         if options.flag("--full") {
             answer.full_line("reference")
         } else {
@@ -330,14 +355,16 @@ fn compare_batch(args: &[String]) -> Result<i32, String> {
         single: options.flag("--single"),
         no_checksum: options.flag("--no-checksum"),
         setting: options.setting(),
+        converted: options.flag("--converted"),
     };
     let show = options.number("--show")?.unwrap_or(3) as usize;
     if options.flag("--sheets") {
         if options.text("--sheet-room").is_some()
             || options.text("--message-room").is_some()
             || options.flag("--strict")
+            || options.flag("--converted")
         {
-            return Err("a reader has no rooms and no setting".to_string());
+            return Err("a reader has no rooms, no setting and nothing to convert".to_string());
         }
         let differing = compare::compare_sheets(&other, &images()?, show)?;
         if let Some(file) = options.text("--save") {
@@ -361,6 +388,16 @@ fn compare_batch(args: &[String]) -> Result<i32, String> {
         result.images, result.differences, result.too_large
     );
     Ok(i32::from(result.differences > 0))
+}
+
+/// The images with Sets for their TreeSets. One that is refused with 1 to 8 has no such image: it is copied as it is, so that
+/// the images of both batches have the same numbers.
+fn convert_batch() -> Result<i32, String> {
+    let images = images()?;
+    let converted: Vec<Option<Vec<u8>>> = images.iter().map(|image| convert::converted(image)).collect();
+    let refused = converted.iter().filter(|image| image.is_none()).count();
+    eprintln!("{} images, {} of them refused with 1 to 8 and copied as they are", images.len(), refused);
+    write_batch(converted.into_iter().zip(images).map(|(converted, image)| converted.unwrap_or(image)))
 }
 
 /// The images given, in the usual rooms, plain and strict; and a small second list in tight rooms, without which no

@@ -113,6 +113,25 @@ mistakes! {
     LastNodeFirst "last-node-first" "of several nodes with code 6 the last is told";
     IfWithoutBlock "if-without-block" "an If's last child may be an expression";
 
+    // ---- TreeSets, which are retired
+    RetiredPasses "retired-passes" "a TreeSet is not refused";
+    RetiredInPlain "retired-in-plain" "strict does not refuse a TreeSet";
+    RetiredInStrict "retired-in-strict" "plain does not refuse a TreeSet";
+    SetsRetired "sets-retired" "14 goes to a Set, and not to a TreeSet";
+    SetsRetiredToo "sets-retired-too" "14 goes to a Set as well";
+    RetiredAtLast "retired-at-last" "14 is told at the last TreeSet";
+    RetiredAtStatement "retired-at-statement" "14 is told at the statement that holds the TreeSet";
+    RetiredSpan "retired-span" "14 gives the TreeSet's span";
+    RetiredBeforeFour "retired-before-four" "14 is looked for before 4 and all that follows it";
+    RetiredBeforeSix "retired-before-six" "14 is looked for before 6, 7 and 8";
+    RetiredBeforeSeven "retired-before-seven" "14 is looked for before 7 and 8";
+    RetiredBeforeEight "retired-before-eight" "14 is looked for before 8";
+    RetiredAsWalked "retired-as-walked" "14 comes where the walk meets a TreeSet, as 9 does at a Def";
+    RetiredDropped "retired-dropped" "14 comes where the walk meets a TreeSet, and is dropped as a typing error is";
+    RetiredAfterNine "retired-after-nine" "9 comes before 14";
+    RetiredAfterWalk "retired-after-walk" "9 and the typing codes come before 14";
+    RetiredAfterTen "retired-after-ten" "10 comes before 14";
+
     // ---- stray frames, and the ninth
     PopFailedDef "pop-failed-def" "a Def that fails pops its frame";
     DefErrorDropped "def-error-dropped" "a Def body's errors are dropped";

@@ -7,6 +7,7 @@
 pub mod bound;
 pub mod first;
 pub mod read;
+pub mod retired;
 pub mod rules;
 pub mod types;
 pub mod walk;
@@ -14,7 +15,8 @@ pub mod write;
 
 use crate::answer::{Answer, Rooms, Setting};
 use crate::mistakes::Mind;
-use walk::End;
+use read::Image;
+use walk::{End, Refusal};
 
 /// An answer, and what it would have cost T to find it.
 pub struct Judged {
@@ -23,18 +25,50 @@ pub struct Judged {
     pub weight: u64,
 }
 
-/// Document 01's answer, in strict with the dropping removed, as far as `mind` gets it right.
+impl Judged {
+    /// A refusal before the walk.
+    fn unwalked(answer: Answer) -> Judged {
+        Judged { answer, weight: 0 }
+    }
+}
+
+/// Document 01's answer, in strict with the dropping removed, or document 02's 14, as far as `mind` gets it right.
 pub fn judge(bytes: &[u8], setting: Setting, rooms: Rooms, mind: Mind) -> Judged {
     let image = match read::read(bytes, mind) {
         Ok(image) => image,
-        Err((code, place)) => return Judged { answer: Answer::bare(code, place as u32), weight: 0 },
+        Err((code, place)) => return Judged::unwalked(Answer::bare(code, place as u32)),
     };
-    let mut walk = walk::Walk::new(&image, setting, mind);
+    match retired::told(&image, setting, mind) {
+        Some(told) if !retired::comes_late(mind) => Judged::unwalked(told),
+        // What comes before 14 is a mistake's to say.
+        Some(told) => {
+            let walked = walked(&image, setting, rooms, mind);
+            if retired::yields_to(&walked.answer, mind) {
+                walked
+            } else {
+                Judged::unwalked(told)
+            }
+        }
+        None => walked(&image, setting, rooms, mind),
+    }
+}
+
+/// Document 01's answer, as it was before TreeSets were retired.
+pub fn former(bytes: &[u8], setting: Setting, rooms: Rooms) -> Judged {
+    match read::read(bytes, Mind::SOUND) {
+        Ok(image) => walked(&image, setting, rooms, Mind::SOUND),
+        Err((code, place)) => Judged::unwalked(Answer::bare(code, place as u32)),
+    }
+}
+
+fn walked(image: &Image, setting: Setting, rooms: Rooms, mind: Mind) -> Judged {
+    let mut walk = walk::Walk::new(image, setting, mind);
     let end = walk.program();
     let answer = match end {
         End::Done => write::accepted(&walk, rooms, mind),
+        End::Refused(Refusal { code: 14, node, .. }) => Answer::bare(14, node as u32),
         End::Refused(refusal) => write::refused(&walk, &refusal, rooms, mind),
-        End::NinthFrame(node) => write::ninth_frame(&image, node, mind),
+        End::NinthFrame(node) => write::ninth_frame(image, node, mind),
     };
     Judged { answer, weight: walk.weight }
 }

@@ -72,16 +72,21 @@ pub fn read(bytes: &[u8], mind: Mind) -> Result<Image, Fault> {
         .chunks_exact(5)
         .map(|w| NameRecord { start: w[0], length: w[1], role: w[2], p: w[3], q: w[4] })
         .collect();
-    let texts = name_texts(&names, &bytes[texts_at..total], texts_at, mind)?;
-    if let Some(i) = names.iter().zip(&texts).position(|(name, text)| t_would_panic(name, text, mind)) {
-        return Err((5, i));
-    }
-
     let node_words = words(&bytes[nodes_at..texts_at]);
     let nodes: Vec<NodeRecord> = node_words
         .chunks_exact(6)
         .map(|w| NodeRecord { kind: w[0], arg: w[1], children: w[2], end: w[3], span: (w[4], w[5]) })
         .collect();
+    let mut all = 0..nodes.len();
+    // 14 is no fault of the image: only mistakes look for it here.
+    let fourteen = |i: usize| if nodes[i].kind == 30 { Some((14, i)) } else { None };
+    if let (Some(fault), true) = (all.clone().find_map(fourteen), mind.slips(RetiredBeforeFour)) {
+        return Err(fault);
+    }
+    let texts = name_texts(&names, &bytes[texts_at..total], texts_at, mind)?;
+    if let Some(i) = names.iter().zip(&texts).position(|(name, text)| t_would_panic(name, text, mind)) {
+        return Err((5, i));
+    }
     if nodes.is_empty() {
         return Err((7, 0));
     }
@@ -93,7 +98,6 @@ pub fn read(bytes: &[u8], mind: Mind) -> Result<Image, Fault> {
         _ => 64,
     };
     let eight = |i: usize| if depth(&nodes, i) > deepest { Some((8, i)) } else { None };
-    let mut all = 0..nodes.len();
     let fault = if mind.slips(SixAndSevenTogether) {
         all.clone().find_map(|i| six(i).or_else(|| seven(i))).or_else(|| all.find_map(eight))
     } else if mind.slips(SevenAndEightTogether) {
@@ -104,7 +108,14 @@ pub fn read(bytes: &[u8], mind: Mind) -> Result<Image, Fault> {
         let last = all.clone().rev().find_map(six);
         last.or_else(|| all.clone().find_map(seven)).or_else(|| all.find_map(eight))
     } else {
-        all.clone().find_map(six).or_else(|| all.clone().find_map(seven)).or_else(|| all.find_map(eight))
+        let mut searches: Vec<&dyn Fn(usize) -> Option<Fault>> = vec![&six, &seven, &eight];
+        match mind {
+            Mind(Some(RetiredBeforeSix)) => searches.insert(0, &fourteen),
+            Mind(Some(RetiredBeforeSeven)) => searches.insert(1, &fourteen),
+            Mind(Some(RetiredBeforeEight)) => searches.insert(2, &fourteen),
+            _ => {}
+        }
+        searches.iter().find_map(|search| all.clone().find_map(search))
     };
     match fault {
         Some(fault) => Err(fault),

@@ -28,6 +28,7 @@ impl Walk<'_> {
                 let types = parts.iter().map(|part| self.expression(*part)).collect::<Result<Vec<Ty>, Refusal>>()?;
                 Ok(self.types.form(TUPLE, types))
             }
+            30 if self.mind.slips(RetiredAsWalked) || self.mind.slips(RetiredDropped) => refuse(14, node, vec![]),
             29 | 30 if self.mind.slips(SetsUnread) => Ok(UNKNOWN),
             29 | 30 => self.each(&parts, UNKNOWN),
             31 => {

@@ -310,6 +310,7 @@ impl<'a> Walk<'a> {
                 End::Done => {}
                 End::NinthFrame(_) if self.mind.slips(NinthDropped) => {}
                 end @ End::NinthFrame(_) => return end,
+                end @ End::Refused(Refusal { code: 14, .. }) if self.mind.slips(RetiredAsWalked) => return end,
                 end if strict && self.mind.slips(LastErrorTold) => held = end,
                 end if strict && self.mind.slips(BodyWalkedOn) => {
                     if matches!(held, End::Done) {
