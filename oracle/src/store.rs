@@ -2,6 +2,7 @@
 
 use crate::answer::{has_second, Rooms, Setting};
 use crate::batch;
+use crate::convert;
 use crate::generate::{self, calls, damage, limits};
 use crate::image::kind::*;
 use crate::judge::{self, Engine};
@@ -43,6 +44,7 @@ const DRAWN: [Draw; 16] = [
 /// Drawn behind all that stood before there were these families, so that each image keeps its number.
 const DRAWN_LAST: Draw = ("bound", 60, 700);
 const DRAWN_FIRST: Draw = ("first", 200, 620);
+const DRAWN_RETIRED: Draw = ("treesets", 60, 900);
 
 /// The list that a seed makes, without duplicates.
 pub fn stored_list(seed: u64) -> List {
@@ -76,13 +78,20 @@ pub fn stored_list(seed: u64) -> List {
     }
     first_spans(&mut list);
     drawn_first(&mut list, seed, DRAWN_FIRST);
+    for (title, text) in generate::retired() {
+        list.push((format!("retired: {}", title), generate::quirk(text).image()));
+    }
+    retired_faults(&mut list);
+    drawn(&mut list, seed, DRAWN_RETIRED);
+    add_converted(&mut list);
     let mut seen: HashSet<Vec<u8>> = HashSet::new();
     list.retain(|(_, image)| seen.insert(image.clone()));
     list
 }
 
+/// With the TreeSets of before: what was stored stays as it is.
 fn drawn(list: &mut List, seed: u64, (family, wanted, largest): Draw) {
-    let images = (0..).map(|number| (number, generate::image(seed, family, number)));
+    let images = (0..).map(|number| (number, generate::former(seed, family, number)));
     let small = images.filter(|(_, image)| image.len() <= largest).take(wanted);
     list.extend(small.map(|(number, image)| (format!("{} {}", family, number), image)));
 }
@@ -94,6 +103,53 @@ fn drawn_first(list: &mut List, seed: u64, (family, wanted, largest): Draw) {
     let small = images
         .filter(|(_, image)| image.len() <= largest && (told(image, Setting::Plain) || told(image, Setting::Strict)));
     list.extend(small.take(wanted).map(|(number, image)| (format!("{} {}", family, number), image)));
+}
+
+/// Behind all images the converted ones of those with TreeSets, whose answers are T's to these from before the retirement.
+fn add_converted(list: &mut List) {
+    let retired = |image: &[u8]| judge::judge(image, Setting::Plain, Rooms::default()).answer.code == 14;
+    let with_tree_sets = list.iter().filter(|(_, image)| retired(image));
+    let converted = with_tree_sets.map(|(what, image)| {
+        let converted = convert::converted(image).expect("it is well formed");
+        (format!("converted: {}", what), converted)
+    });
+    let converted: List = converted.collect();
+    list.extend(converted);
+}
+
+/// TreeSets beside each fault of an image, which comes before 14.
+fn retired_faults(list: &mut List) {
+    let base = source::parse("@len exactly 1\nx = t{len}\ny = [x]").expect("it is a program").image();
+    let (names_at, nodes_at) = (word(&base, 8) as usize, word(&base, 16) as usize);
+    let second = names_at + 20;
+    let (root, tree, last) = (nodes_at, nodes_at + 24 * 3, nodes_at + 24 * 8);
+    for (what, at, value) in [
+        ("a 1", 0, 2),
+        ("a 2", 4, 129),
+        ("a 3", 28, 1),
+        ("a 4 of the last name", second + 20 + 8, 5),
+        ("a 5", names_at + 12, 0),
+        ("a 6 of the node itself", tree + 4, 1),
+        ("a 6 of a later node", last + 4, 3),
+        ("a 7 of the node itself", tree + 8, 2),
+        ("a 7 of an earlier node", root + 8, 1),
+    ]
+    .iter()
+    {
+        let mut changed = base.clone();
+        changed[*at..*at + 4].copy_from_slice(&u32::to_le_bytes(*value));
+        list.push((format!("retired: {} before 14", what), changed));
+    }
+    let nested = |kind: u32, depth: usize| (1..depth).fold(simple(kind), |inner, _| Item::new(kind, 0, vec![inner]));
+    let mut add = |what: String, body: Vec<Item>| {
+        let program = Program { body, ..Program::new() };
+        list.push((format!("retired: {}", what), program.image()));
+    };
+    for depth in [64, 65].iter() {
+        add(format!("TreeSets down to depth {}", depth), vec![expr(nested(TREE_SET, depth - 2))]);
+        add(format!("a TreeSet behind depth {}", depth), vec![expr(nested(LIST, depth - 2)), expr(simple(TREE_SET))]);
+    }
+    add("a TreeSet as a statement".to_string(), vec![simple(PASS), simple(TREE_SET)]);
 }
 
 /// Spans are carried unread, so the second one may be any two words.
@@ -421,7 +477,20 @@ pub fn tight_list() -> List {
     ] {
         texts.push(text.to_string());
     }
-    texts.into_iter().map(|text| (text.clone(), source::parse(&text).expect("it is a program").image())).collect()
+    let image = |text: &str| source::parse(text).expect("it is a program").image();
+    let mut list: List = texts.into_iter().map(|text| (text.clone(), image(&text))).collect();
+    // Neither sheet nor message is asked about: 14 comes before 10.
+    for text in [
+        "p = (1, [2.0])\nq = [2.0]\nr = t{1}",
+        "p = (1, [2.0])\nq = t{2.0}",
+        "x = [t{1}]\nx = (t{2}, 1.0)",
+        "x = 1\nx = {2: t{3}}",
+        "if True: nnnnnnnn = 1\nelse: nnnnnnnn = [t{}]",
+    ] {
+        list.push((text.to_string(), image(text)));
+    }
+    add_converted(&mut list);
+    list
 }
 
 /// Writes the two lists, T's answers to them, plain and for the first strict too, and notes of what each image is about and who

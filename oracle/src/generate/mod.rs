@@ -8,7 +8,9 @@ pub mod first;
 pub mod grow;
 pub mod limits;
 pub mod soup;
+pub mod treesets;
 
+use crate::convert;
 use crate::image::kind::*;
 use crate::program::*;
 use crate::random::Random;
@@ -16,7 +18,7 @@ use crate::source;
 use grow::{Grower, Habits};
 
 /// The families, with what they are for.
-pub const FAMILIES: [(&str, &str); 20] = [
+pub const FAMILIES: [(&str, &str); 21] = [
     ("well", "mostly accepted, of all sizes up to 2,048 nodes and 128 names"),
     ("errors", "aimed at each code 20 to 50 in turn"),
     ("small", "a few nodes over a few names, anything in them"),
@@ -37,7 +39,11 @@ pub const FAMILIES: [(&str, &str); 20] = [
     ("damaged", "copies of good images with one thing wrong: codes 1 to 8"),
     ("bound", "names that bodies alone bind, and targets of every form: what the sheet lists"),
     ("first", "few names assigned again and again: 25 and 23, and which node first made a type known"),
+    (TREESETS, "TreeSets wherever an expression may stand, beside words of 30 that are no kind: 14"),
 ];
+
+/// The only family of which well-formed images have TreeSets.
+const TREESETS: &str = "treesets";
 
 /// The written quirks: a title, and the program's text.
 pub fn quirks() -> Vec<(&'static str, &'static str)> {
@@ -60,6 +66,11 @@ pub fn first_known() -> Vec<(&'static str, &'static str)> {
     written(include_str!("first.txt"))
 }
 
+/// Where TreeSets stand, which are retired.
+pub fn retired() -> Vec<(&'static str, &'static str)> {
+    written(include_str!("treesets.txt"))
+}
+
 fn written(texts: &'static str) -> Vec<(&'static str, &'static str)> {
     texts
         .split("---\n")
@@ -80,8 +91,18 @@ thread_local! {
     static LIMITS: Vec<(String, Vec<u8>)> = limits::images();
 }
 
-/// Image number `number` of a family.
+/// Image number `number` of a family: as it was made before TreeSets were retired, but for these, which are Sets now. What is
+/// not well formed stays, and so do the TreeSets of the family that is made for them.
 pub fn image(seed: u64, family: &str, number: u64) -> Vec<u8> {
+    let made = former(seed, family, number);
+    match convert::converted(&made) {
+        Some(converted) if family != TREESETS => converted,
+        _ => made,
+    }
+}
+
+/// The same with TreeSets, as the stored list has them from before.
+pub fn former(seed: u64, family: &str, number: u64) -> Vec<u8> {
     let mut random = Random::of(seed, family, number);
     match family {
         "well" => well(random).image(),
@@ -112,6 +133,7 @@ pub fn image(seed: u64, family: &str, number: u64) -> Vec<u8> {
         }
         "bound" => bound::program(random).image(),
         "first" => first::program(random).image(),
+        TREESETS => treesets::image(number, random),
         other => panic!("no family {}", other),
     }
 }
