@@ -10,15 +10,16 @@ use native.Mathlib.Decide.{ℕ-discrete}
 use lib.ListN.{length, drop}
 use lib.Seq.{take-append-seam}
 use Rattle.meaning.specs.Limits.{largestSheet}
-use Rattle.meaning.specs.Image.{Fault, imageFault, namesOf, nodesOf}
+use Rattle.meaning.specs.Image.{Fault, checkFault, firstTreeSet, namesOf, nodesOf}
+use Rattle.meaning.specs.Base.{ifSome}
 use Rattle.meaning.specs.Decode.{treeOf}
 use Rattle.meaning.specs.Frames.{Frame, Frames, newest}
 use Rattle.meaning.specs.Walk.{Setting, plain, State, End, done, wrong, tooDeep}
 use Rattle.meaning.specs.Sheet.{Entry, sheetOf}
 use Rattle.meaning.specs.Read.{entriesIn}
-use Rattle.meaning.specs.Answer.{Answer as Meant, written, ended, walked, answerUnder, answer, overlaid}
-use Rattle.meaning.proofs.Faults.{Sound, sound, fault-told}
-use Rattle.meaning.proofs.Answers.{answered, plain-is, no-setting}
+use Rattle.meaning.specs.Answer.{Answer as Meant, written, ended, walked, walkAnswer, unlessFault, answerUnder, answer, overlaid}
+use Rattle.meaning.proofs.Faults.{Sound, walks, check-told}
+use Rattle.meaning.proofs.Answers.{answered, plain-is, no-setting, walk-last}
 use Rattle.meaning.proofs.Strict.{plain-accepts}
 use Rattle.meaning.proofs.Kept.{accepted-one-frame, refused-typing}
 use Rattle.meaning.proofs.SheetForm.{sheet-is, sheet-length, short-trip, short-injective}
@@ -26,7 +27,6 @@ use Rattle.meaning.proofs.Listed.{listingOf, same-list, list-same}
 use Rattle.checker.specs.Answers.{Numbers, Replies}
 use Rattle.checker.specs.Module.{framesAt, lowest, moduleFrame, SameNames, sheetIn}
 use Rattle.checker.proofs.Written.{written-sheet}
-use Rattle.checker.proofs.Ends.{answer-fault, answer-sound}
 
 -- ---- an accepted program: its image is sound, and its sheet is that of what it lists
 
@@ -36,6 +36,7 @@ listedBy image = listingOf image (moduleFrame image)
 
 pub record Concluded (image : List ℕ) (a : Meant) : Type 0 where
   pub sound : Sound image
+  pub unretired : firstTreeSet image ≡ none
   pub ends : State
   pub well : walked plain image ≡ done ends
   pub sheet : a .sheet ≡ sheetOf (listedBy image)
@@ -60,25 +61,26 @@ module _ (image : List ℕ) (room told : ℕ) where
   by-end setting (wrong r s) e c = absurd (omega (arith, refused-typing (namesOf image) setting (treeOf (nodesOf image)) r s e .above))
   by-end setting (tooDeep n) e c = absurd (omega arith)
 
-  by-fault : (setting : Setting) (o : Option Fault) → imageFault image ≡ o → answerUnder setting image room told .code ≡ 0
-      → Sound image × ((s : State) × (walked setting image ≡ done s))
-  by-fault setting (some f) e c = absurd (omega (arith, fault-told image f e .above, ap (λ (a : Meant). a .code) (answer-fault setting image f room told e)))
-  by-fault setting none e c =
-      let s = sound image .0 e in
-      (s, by-end setting (walked setting image) refl (ap (λ (x : Meant). x .code) (sym (answer-sound setting image room told s)) ∙ c))
+  by-fault : (setting : Setting) (o : Option Fault) → checkFault image ≡ o → unlessFault o setting image room told .code ≡ 0
+      → Sound image × (firstTreeSet image ≡ none) × ((s : State) × (walked setting image ≡ done s))
+  unfolding unlessFault walkAnswer ifSome
+  by-fault setting (some f) e c = absurd (omega (arith, check-told image f e .above))
+  by-fault setting none e c = let w = walks image .0 e in (w .0, w .1, by-end setting (walked setting image) refl c)
 
-  -- what is accepted has a sound image, and its walk ends well
-  pub ends-well : (setting : Setting) → answerUnder setting image room told .code ≡ 0 → Sound image × ((s : State) × (walked setting image ≡ done s))
-  ends-well setting c = by-fault setting (imageFault image) refl c
+  -- what is accepted has a sound image with no TreeSet, and its walk ends well
+  pub ends-well : (setting : Setting) → answerUnder setting image room told .code ≡ 0
+      → Sound image × (firstTreeSet image ≡ none) × ((s : State) × (walked setting image ≡ done s))
+  unfolding answerUnder
+  ends-well setting c = by-fault setting (checkFault image) refl c
 
   plain-concluded : answerUnder plain image room told .code ≡ 0 → Concluded image (answerUnder plain image room told)
-  unfolding ended
+  unfolding walkAnswer ended
   plain-concluded c =
       let h = ends-well plain c in
-      let s = h .1 .0 in
+      let s = h .2 .0 in
       let is : answerUnder plain image room told ≡ written room (sheetOf (listedBy image)) =
-      answer-sound plain image room told (h .0) ∙ ap (λ (e : End). ended (namesOf image) (nodesOf image) room told e) (h .1 .1) ∙ ap (λ (f : Frame). written room (sheetOf (listingOf image f))) (one-frame s (h .1 .1)) in
-      record { sound = h .0; ends = s; well = h .1 .1; sheet = ap (λ (x : Meant). x .sheet) is ∙ written-sheet room _ (ap (λ (x : Meant). x .code) (sym is) ∙ c) }
+      walk-last plain image room told (h .0) (h .1) ∙ ap (λ (e : End). ended (namesOf image) (nodesOf image) room told e) (h .2 .1) ∙ ap (λ (f : Frame). written room (sheetOf (listingOf image f))) (one-frame s (h .2 .1)) in
+      record { sound = h .0; unretired = h .1; ends = s; well = h .2 .1; sheet = ap (λ (x : Meant). x .sheet) is ∙ written-sheet room _ (ap (λ (x : Meant). x .code) (sym is) ∙ c) }
 
   -- what is accepted under any setting, plain accepts alike
   as-plain : (n : ℕ) → answer n image room told .code ≡ 0 → answerUnder plain image room told ≡ answer n image room told

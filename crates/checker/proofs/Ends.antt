@@ -10,16 +10,16 @@ use native.Mathlib.Decide.{ℕ-discrete}
 use borrow.Author.Tests.{eq-eqb, ne-eqb}
 use lib.ListN.{length, getD}
 use Rattle.meaning.specs.Base.{if_then_else_, ifSome}
-use Rattle.meaning.specs.Image.{Fault, imageFault, nodeCount, nodesOf, nodeOf, namesOf}
+use Rattle.meaning.specs.Image.{nodeCount, nodesOf, nodeOf, namesOf}
 use Rattle.meaning.specs.Image.{Node as ImageNode}
 use Rattle.meaning.specs.Message.{message, conflict}
 use Rattle.meaning.specs.Frames.{newest}
 use Rattle.meaning.specs.Sheet.{sheetOf}
 use Rattle.meaning.specs.Decode.{treeOf}
 use Rattle.meaning.specs.Walk.{Setting, state, wrong}
-use Rattle.meaning.specs.Answer.{Answer, bare, written, walked, answerUnder, overlaid}
+use Rattle.meaning.specs.Answer.{Answer, bare, written, walked, walkAnswer, overlaid}
 use Rattle.meaning.specs.Answer.{ended as concluded}
-use Rattle.meaning.proofs.Faults.{Sound, sound}
+use Rattle.meaning.proofs.Faults.{Sound}
 use Rattle.meaning.proofs.Nesting.{nodes-many, sound-nested}
 use Rattle.meaning.proofs.Kept.{refused-typing}
 use Rattle.meaning.proofs.SecondSpan.{refused-pointed, makes-inside}
@@ -41,16 +41,6 @@ use Rattle.checker.specs.Answers.{Wrote, Told}
 use Rattle.checker.specs.Steps.{Accepting, Refusing, firstStart, firstEnd, refusedAs}
 use Rattle.checker.specs.declared.Refusal.{Refusal}
 use Rattle.checker.specs.declared.Answer.the-variants.{Accepted, ShortBuffer, Typing}
-
--- ---- the answer, by what the image is
-
-pub answer-fault : (setting : Setting) (bs : List ℕ) (f : Fault) (s m : ℕ) → imageFault bs ≡ some f → answerUnder setting bs s m ≡ bare (f .code) (f .place)
-unfolding answerUnder ifSome
-answer-fault setting bs f s m e = rw e
-
-pub answer-sound : (setting : Setting) (bs : List ℕ) (s m : ℕ) → Sound bs → answerUnder setting bs s m ≡ concluded (namesOf bs) (nodesOf bs) s m (walked setting bs)
-unfolding answerUnder ifSome
-answer-sound setting bs s m h = rw (sound bs .1 h)
 
 -- ---- an accepted program
 
@@ -134,13 +124,13 @@ points-code code n m e = elim (ℕ-discrete code 23) [
 
 module _ {bs : List ℕ} {setting : Setting} {t u : Tab} {gs : Rows} {top : ℕ} {su : List ℕ} {code place a b : ℕ} (first : First) (s : Sound bs)
     (r : Ran bs setting t u gs top su code (places place (firstNumber first)) a b) where
-  pub ran-well : code ≡ 0 → (x y : ℕ) → answerUnder setting bs x y ≡ written x (sheetOf (listingOf bs (newest (framesOf u gs top))))
-  unfolding concluded ended if_then_else_
-  ran-well z x y = answer-sound setting bs x y s ∙ rw (r .says, eq-eqb code 0 z)
+  pub ran-well : code ≡ 0 → (x y : ℕ) → walkAnswer setting bs x y ≡ written x (sheetOf (listingOf bs (newest (framesOf u gs top))))
+  unfolding walkAnswer concluded ended if_then_else_
+  ran-well z x y = rw (r .says, eq-eqb code 0 z)
 
-  pub ran-deep : (code ≡ 0 → ⊥) → code ≡ 9 → (x y : ℕ) → answerUnder setting bs x y ≡ bare 9 place
-  unfolding concluded ended if_then_else_
-  ran-deep z n x y = answer-sound setting bs x y s ∙ rw (r .says, ne-eqb code 0 z, eq-eqb code 9 n)
+  pub ran-deep : (code ≡ 0 → ⊥) → code ≡ 9 → (x y : ℕ) → walkAnswer setting bs x y ≡ bare 9 place
+  unfolding walkAnswer concluded ended if_then_else_
+  ran-deep z n x y = rw (r .says, ne-eqb code 0 z, eq-eqb code 9 n)
 
   module _ (z : code ≡ 0 → ⊥) (n : code ≡ 9 → ⊥) where
     wrong-is : walked setting bs
@@ -155,9 +145,9 @@ module _ {bs : List ℕ} {setting : Setting} {t u : Tab} {gs : Rows} {top : ℕ}
 
     -- the first node is the one that the code points at
     module _ (p : firstNode first ≡ firstAt code (firstNumber first)) where
-      pub ran-ill : (x y : ℕ) → answerUnder setting bs x y ≡ refusedAs bs u code place (firstNode first) a b y
-      unfolding concluded refusedAs
-      ran-ill x y = answer-sound setting bs x y s ∙ rw (wrong-is, ← p)
+      pub ran-ill : (x y : ℕ) → walkAnswer setting bs x y ≡ refusedAs bs u code place (firstNode first) a b y
+      unfolding walkAnswer concluded refusedAs
+      ran-ill x y = rw (wrong-is, ← p)
 
       -- and is one of the image's: "a known type always has a node"
       pub ran-near : FirstBelow (nodeCount bs) first

@@ -47,7 +47,7 @@ module _ (number : ℕ) (image : List ℕ) (room told : ℕ) {n : Numbers} {old 
     (setting : Setting) (is : answer number image room told ≡ answerUnder setting image room told) where
   -- what is accepted ends well
   ended-well : Sound image × ((s : State) × (walked setting image ≡ done s))
-  ended-well = ends-well image room told setting (ap (λ (a : Meant). a .code) (sym is) ∙ sym (ap (λ (k : Numbers). k .code) (x .numbers)) ∙ c)
+  ended-well = let w = ends-well image room told setting (ap (λ (a : Meant). a .code) (sym is) ∙ sym (ap (λ (k : Numbers). k .code) (x .numbers)) ∙ c) in (w .0, w .2)
 
   -- the sheet is that of the frame with which the walk ended
   known-has : (setting ≡ plain → NoDefInIf (treeOf (nodesOf image))) → (e : State) → walked setting image ≡ done e → walked plain image ≡ done e

@@ -1,4 +1,4 @@
-mod Places
+pub mod Places
 mod Limited
 mod Written
 mod Lending

@@ -70,7 +70,7 @@ module _ (image : List ℕ) (room told : ℕ) {n : Numbers} {old new oldMessage 
   unfolding walked
   strict-by-form name t m =
       let zero-code = ap (λ (a : Meant). a .code) (sym (strict-is image room told)) ∙ sym (ap (λ (k : Numbers). k .code) (x .numbers)) ∙ c in
-      let w = ends-well image room told strict zero-code .1 in
+      let w = ends-well image room told strict zero-code .2 in
       let f = one-frame image room told (w .0) (accepts-program (namesOf image) (treeOf (nodesOf image)) start (w .0) (w .1)) in
       let l : ProgramLists image (moduleFrame image) name t = sheet-lists 1 image room told x c name t .0 m in
       (l .slot, (strict-lists image (w .0) (w .1) (moduleFrame image) f l, l .spelled))

@@ -2,21 +2,21 @@
 use mathlib.Core.Path.{_≡_, refl, sym, ap, _∙_}
 use mathlib.Core.Bool.{true, false}
 use mathlib.Core.List.{List, [], _∷_}
-use mathlib.Core.Option.{some}
+use mathlib.Core.Option.{none, some}
 use Prim.Native.Nat.{ℕ, _≤_, _<_}
 use native.Mathlib.Omega.{arith}
 use borrow.Author.Tests.{ne-eqb}
 use lib.Dec.{eqb}
 use lib.ListN.{length}
 use Rattle.meaning.specs.Base.{choose, if_then_else_, all}
-use Rattle.meaning.specs.Image.{Fault, imageFault, nodesFrom}
+use Rattle.meaning.specs.Image.{Fault, imageFault, firstTreeSet, nodesFrom}
 use Rattle.meaning.specs.Frames.{newest}
 use Rattle.meaning.specs.Sheet.{sheetOf, withinLimits}
 use Rattle.meaning.specs.Walk.{Setting}
-use Rattle.meaning.specs.Answer.{Answer as Meant, bare, written, answerUnder, answer, overlaid}
+use Rattle.meaning.specs.Answer.{Answer as Meant, bare, written, walkAnswer, answerUnder, answer, overlaid}
 use Rattle.meaning.proofs.Faults.{Sound, sizes, fault-told}
 use Rattle.meaning.proofs.Listed.{listingOf}
-use Rattle.meaning.proofs.Answers.{overlaid-none, plain-is, strict-is, no-setting}
+use Rattle.meaning.proofs.Answers.{overlaid-none, plain-is, strict-is, no-setting, fault-first, tree-set-next, walk-last}
 use Rattle.types.specs.Table.{Tab}
 use Rattle.frames.specs.Env.{Rows, framesOf, firstNode, firstNumber}
 use Rattle.frames.specs.declared.First.{First}
@@ -27,12 +27,12 @@ use Rattle.checker.specs.Answers.{Answers, Wrote, Told, Numbers, bareNum
 use Rattle.checker.specs.Steps.{Accepting, Refusing, refusedAs}
 use Rattle.checker.specs.declared.Reply.{Reply}
 use Rattle.checker.specs.declared.Answer.{Answer}
-use Rattle.checker.specs.declared.Answer.the-variants.{Accepted, BadHead, BadCount, BadOffset, BadName, UnsafeName, BadNode, BadNesting, TooDeep, NinthFrame, ShortBuffer, NoSetting, Typing}
-use Rattle.checker.proofs.Places.{fault-near}
+use Rattle.checker.specs.declared.Answer.the-variants.{Accepted, BadHead, BadCount, BadOffset, BadName, UnsafeName, BadNode, BadNesting, TooDeep, NinthFrame, ShortBuffer, NoSetting, Retired, Typing}
+use Rattle.checker.proofs.Places.{fault-near, tree-set-near}
 use Rattle.checker.proofs.Limited.{sheet-within}
 use Rattle.checker.proofs.Readable.{message-legible}
 use Rattle.checker.proofs.Written.{no-message, no-place, written-roomy, written-form}
-use Rattle.checker.proofs.Ends.{newest-row, answer-fault, ran-well, ran-deep, ran-ill, ran-typing, ran-near}
+use Rattle.checker.proofs.Ends.{newest-row, ran-well, ran-deep, ran-ill, ran-typing, ran-near}
 
 -- a buffer that nothing was written to
 kept : (m : List ℕ) → m ≡ overlaid [] m
@@ -55,10 +55,21 @@ pub answers-fault : (setting : Setting) (bs : List ℕ) (x y : ℕ) {f : Fault} 
     → Stands q → Answers (answerUnder setting bs x y) q s s m m
 answers-fault setting bs x y {f} {q} {s} {m} e n t =
     let k = fault-told bs f e in
-    rw (answer-fault setting bs f x y e) record {
+    rw (fault-first setting bs x y f e) record {
       replies = bare-replies (f .code) (f .place) s m n (fault-near bs f e) (k .above) (λ t. omega (arith, t, k .below));
       stands = t;
     }
+
+pub answers-retired : (setting : Setting) (bs : List ℕ) (x y i : ℕ) {s m : List ℕ} → Sound bs → firstTreeSet bs ≡ some i
+    → Answers (answerUnder setting bs x y) (Retired i) s s m m
+answers-retired setting bs x y i {s} {m} h e =
+    rw (tree-set-next setting bs x y i h e)
+    record { replies = bare-replies 14 i s m refl (tree-set-near bs (h .headed) i e) (omega arith) (λ t. omega (arith, t)); stands = tt }
+
+-- an image with no fault and no TreeSet has the walk's answer
+pub answers-walked : (setting : Setting) (bs : List ℕ) (x y : ℕ) {q : Answer} {s s₁ m m₁ : List ℕ} → Sound bs → firstTreeSet bs ≡ none
+    → Answers (walkAnswer setting bs x y) q s s₁ m m₁ → Answers (answerUnder setting bs x y) q s s₁ m m₁
+answers-walked setting bs x y h e a = rw (walk-last setting bs x y h e) a
 
 module _ {bs : List ℕ} {setting : Setting} {t u : Tab} {gs : Rows} {top : ℕ} {su : List ℕ} {code place a b : ℕ} (first : First) (h : Sound bs)
     (r : Ran bs setting t u gs top su code (places place (firstNumber first)) a b) where
@@ -73,7 +84,7 @@ module _ {bs : List ℕ} {setting : Setting} {t u : Tab} {gs : Rows} {top : ℕ}
       }
 
   pub answers-accepted : {q : Answer} {old new m : List ℕ} → t .m ≡ 0 → code ≡ 0
-      → Wrote (written (length old) (sheetOf (listingOf bs (newest (framesOf u gs top))))) q old new → Answers (answerUnder setting bs (length old) (length m)) q old new m m
+      → Wrote (written (length old) (sheetOf (listingOf bs (newest (framesOf u gs top))))) q old new → Answers (walkAnswer setting bs (length old) (length m)) q old new m m
   unfolding all
   answers-accepted {q} {old} {new} {m} k z w =
       let es = listingOf bs (newest (framesOf u gs top)) in
@@ -92,7 +103,7 @@ module _ {bs : List ℕ} {setting : Setting} {t u : Tab} {gs : Rows} {top : ℕ}
         stands = w .stands;
       }
 
-  pub answers-deep : (x y : ℕ) {s m : List ℕ} → (code ≡ 0 → ⊥) → code ≡ 9 → Answers (answerUnder setting bs x y) (NinthFrame place) s s m m
+  pub answers-deep : (x y : ℕ) {s m : List ℕ} → (code ≡ 0 → ⊥) → code ≡ 9 → Answers (walkAnswer setting bs x y) (NinthFrame place) s s m m
   answers-deep x y {s} {m} z n =
       rw (ran-deep first h r z n x y) record {
         replies = bare-replies 9 place s m refl (omega (arith, r .deep n .placed, sizes (h .headed) .nodes)) (omega arith) (λ t. omega (arith, t));
@@ -112,7 +123,7 @@ module _ {bs : List ℕ} {setting : Setting} {t u : Tab} {gs : Rows} {top : ℕ}
 
   pub answers-refused : (x : ℕ) {q : Answer} {s old new : List ℕ} → (code ≡ 0 → ⊥) → (code ≡ 9 → ⊥) → firstNode first ≡ firstAt code (firstNumber first)
       → Told (refusedAs bs u code place (firstNode first) a b (length old)) q old new
-      → Answers (answerUnder setting bs x (length old)) q s s old new
+      → Answers (walkAnswer setting bs x (length old)) q s s old new
   unfolding refusedAs
   answers-refused x {q} {s} {old} {new} z n p w =
       let k = ran-typing first h r z n in
@@ -154,9 +165,9 @@ answerFrom n =
     choose (n .code)
     (Typing (record { code = n .code; place = n .place; begins = n .spanStart; ends = n .spanEnd; «second_begins» = n .secondStart; «second_ends» = n .secondEnd; message = n .message }))
     ((0, Accepted (n .sheet)) ∷ (1, BadHead) ∷ (2, BadCount) ∷ (3, BadOffset) ∷ (4, BadName (n .place)) ∷ (5, UnsafeName (n .place)) ∷ (6, BadNode (n .place))
-    ∷ (7, BadNesting (n .place)) ∷ (8, TooDeep (n .place)) ∷ (9, NinthFrame (n .place)) ∷ (10, ShortBuffer) ∷ (13, NoSetting) ∷ [])
+    ∷ (7, BadNesting (n .place)) ∷ (8, TooDeep (n .place)) ∷ (9, NinthFrame (n .place)) ∷ (10, ShortBuffer) ∷ (13, NoSetting) ∷ (14, Retired (n .place)) ∷ [])
 
-not-below : (c k : ℕ) → 20 ≤ c → k ≤ 13 → eqb c k ≡ false
+not-below : (c k : ℕ) → 20 ≤ c → k ≤ 14 → eqb c k ≡ false
 not-below c k h l = ne-eqb c k (λ e. absurd (omega arith))
 
 answer-back : (r : Answer) → Stands r → answerFrom (numbersOf r) ≡ r
@@ -173,8 +184,9 @@ answer-back (TooDeep i) s = refl
 answer-back (NinthFrame i) s = refl
 answer-back ShortBuffer s = refl
 answer-back NoSetting s = refl
+answer-back (Retired i) s = refl
 answer-back (Typing q) s =
-    let n : (k : ℕ) → k ≤ 13 → eqb (q .code) k ≡ false = λ k l. not-below (q .code) k s l in
+    let n : (k : ℕ) → k ≤ 14 → eqb (q .code) k ≡ false = λ k l. not-below (q .code) k s l in
     rw (
       n 0 (omega arith),
       n 1 (omega arith),
@@ -188,6 +200,7 @@ answer-back (Typing q) s =
       n 9 (omega arith),
       n 10 (omega arith),
       n 13 (omega arith),
+      n 14 (omega arith),
     )
 
 -- answers with the same numbers are equal

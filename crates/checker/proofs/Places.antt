@@ -7,7 +7,7 @@ use Prim.Native.Nat.{ℕ, suc, _+_, _≤_, _<_}
 use native.Mathlib.Omega.{arith}
 use lib.ListN.{length}
 use Rattle.meaning.specs.Base.{if_then_else_, ifSome}
-use Rattle.meaning.specs.Image.{Fault, NameRecord, nameRecords, namesOf, nodesOf, nameCount, nodeCount, textsOf, wrongName, firstNot, firstFound, unless, headStands, countsStand, offsetsStand, imageFault, headFault, bodyFault, brokenName, unsafeName, brokenNode, badlyNested, tooDeepNode}
+use Rattle.meaning.specs.Image.{Fault, NameRecord, nameRecords, namesOf, nodesOf, nameCount, nodeCount, textsOf, wrongName, firstNot, firstFound, unless, headStands, countsStand, offsetsStand, imageFault, headFault, bodyFault, brokenName, unsafeName, brokenNode, badlyNested, tooDeepNode, firstTreeSet}
 use Rattle.meaning.proofs.Faults.{Headed, sizes, fault-1, fault-2, fault-3}
 use Rattle.meaning.proofs.Nesting.{nodes-many}
 use Rattle.meaning.proofs.Nesting.{records-count, names-many}
@@ -94,3 +94,7 @@ module _ (bs : List ℕ) where
 
   pub fault-near : (f : Fault) → imageFault bs ≡ some f → f .place < 4294967296
   fault-near f e = by-head (headStands bs) refl f e
+
+  pub tree-set-near : Headed bs → (i : ℕ) → firstTreeSet bs ≡ some i → i < 4294967296
+  unfolding firstTreeSet
+  tree-set-near h i e = omega (arith, first-near _ 0 (nodesOf bs) i e, sizes h .nodes, nodes-many bs)

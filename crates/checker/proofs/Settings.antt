@@ -8,14 +8,13 @@ use Rattle.meaning.specs.Image.{namesOf, nodesOf}
 use Rattle.meaning.specs.Frames.{Frame}
 use Rattle.meaning.specs.Walk.{plain, End}
 use Rattle.meaning.specs.Sheet.{sheetOf}
-use Rattle.meaning.specs.Answer.{Answer as Meant, written, ended, answer}
+use Rattle.meaning.specs.Answer.{Answer as Meant, written, ended, walkAnswer, answer}
 use Rattle.meaning.proofs.Listed.{listingOf}
-use Rattle.meaning.proofs.Answers.{plain-is}
+use Rattle.meaning.proofs.Answers.{plain-is, walk-last}
 use Rattle.meaning.proofs.Strict.{plain-answers}
 use Rattle.checker.specs.Answers.{Numbers, Replies}
 use Rattle.checker.specs.Module.{sheetIn}
 use Rattle.checker.proofs.Written.{written-well}
-use Rattle.checker.proofs.Ends.{answer-sound}
 use Rattle.checker.proofs.Outcomes.{one-told}
 use Rattle.checker.proofs.Demand.{listedBy, Concluded, one-frame, own, sheet-of-listed}
 
@@ -35,11 +34,11 @@ module _ (image : List ℕ) (room told : ℕ) {n k : Numbers} {s s₁ s₂ m m�
 -- plain's answer for an image whose program ends well, in so much room
 room-enough : {image : List ℕ} {a : Meant} (c : Concluded image a) (room told : ℕ) → length (sheetOf (listedBy image)) ≤ room
     → answer 0 image room told .code ≡ 0
-unfolding ended
+unfolding walkAnswer ended
 room-enough {image} c room told h =
     let f = one-frame image room told (c .ends) (c .well) in
     ap (λ (a : Meant). a .code)
-    (plain-is image room told ∙ answer-sound plain image room told (c .sound)
+    (plain-is image room told ∙ walk-last plain image room told (c .sound) (c .unretired)
     ∙ ap (λ (e : End). ended (namesOf image) (nodesOf image) room told e) (c .well))
     ∙ ap (λ (g : Frame). written room (sheetOf (listingOf image g)) .code) f
     ∙ written-well room (sheetOf (listedBy image)) h

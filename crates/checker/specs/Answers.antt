@@ -8,7 +8,7 @@ use lib.ListN.{length}
 use Rattle.meaning.specs.Limits.{largestSheet}
 use Rattle.meaning.specs.Base.{_and_, all, ifSome}
 use Rattle.meaning.specs.Read.{isSheet, readSheet}
-use Rattle.meaning.specs.Answer.{overlaid, bare, writeAnswer, answerUnder}
+use Rattle.meaning.specs.Answer.{overlaid, bare, writeAnswer, walkAnswer, answerUnder}
 use Rattle.meaning.specs.Answer.{Answer as Meant}
 use Rattle.stmt.specs.Contract.{settingIf}
 use Rattle.checker.specs.declared.Refusal.{Refusal}
@@ -18,7 +18,7 @@ use Rattle.checker.specs.declared.Reading.the-variants.{Sheet, NoSheet}
 use Rattle.checker.specs.declared.Rewriting.{Rewriting}
 use Rattle.checker.specs.declared.Rewriting.the-variants.{Written, NoRoom, NotRead}
 use Rattle.checker.specs.declared.Answer.{Answer}
-use Rattle.checker.specs.declared.Answer.the-variants.{Accepted, BadHead, BadCount, BadOffset, BadName, UnsafeName, BadNode, BadNesting, TooDeep, NinthFrame, ShortBuffer, NoSetting, Typing}
+use Rattle.checker.specs.declared.Answer.the-variants.{Accepted, BadHead, BadCount, BadOffset, BadName, UnsafeName, BadNode, BadNesting, TooDeep, NinthFrame, ShortBuffer, NoSetting, Retired, Typing}
 
 -- "Code, place, span, sheet length, message length", and the second span of document 02
 pub record Numbers : Type 0 where
@@ -52,6 +52,7 @@ numbersOf (TooDeep i) = bareNumbers 8 i
 numbersOf (NinthFrame i) = bareNumbers 9 i
 numbersOf ShortBuffer = bareNumbers 10 0
 numbersOf NoSetting = bareNumbers 13 0
+numbersOf (Retired i) = bareNumbers 14 i
 numbersOf (Typing r) =
     record {
       code = r .code;
@@ -78,6 +79,7 @@ Stands (TooDeep i) = Unit {0}
 Stands (NinthFrame i) = Unit {0}
 Stands ShortBuffer = Unit {0}
 Stands NoSetting = Unit {0}
+Stands (Retired i) = Unit {0}
 Stands (Typing r) = 20 ≤ r .code
 
 -- the numbers of an answer of `meaning`
@@ -120,6 +122,11 @@ pub record Answers (a : Meant) (r : Answer) (oldSheet newSheet oldMessage newMes
 abbrev pub AnswersUnder : Bool → List ℕ → Answer → List ℕ → List ℕ → List ℕ → List ℕ → Type 0
 AnswersUnder plain bs r oldSheet newSheet oldMessage newMessage =
     Answers (answerUnder (settingIf plain) bs (length oldSheet) (length oldMessage)) r oldSheet newSheet oldMessage newMessage
+
+-- what the walk says of a well-formed image
+abbrev pub AnswersByWalk : Bool → List ℕ → Answer → List ℕ → List ℕ → List ℕ → List ℕ → Type 0
+AnswersByWalk plain bs r oldSheet newSheet oldMessage newMessage =
+    Answers (walkAnswer (settingIf plain) bs (length oldSheet) (length oldMessage)) r oldSheet newSheet oldMessage newMessage
 
 -- the same where only the sheet's buffer is lent, or only the message's
 pub record Wrote (a : Meant) (r : Answer) (old new : List ℕ) : Type 0 where

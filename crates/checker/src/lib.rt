@@ -11,7 +11,8 @@ ghost use Rattle.meaning.proofs.Faults.{Headed, Sound};
 ghost use Rattle.meaning.proofs.Listed.{listingOf};
 ghost use Rattle.types.specs.Table.{tab};
 ghost use Rattle.frames.specs.Env.{framesOf, firstNode, FirstBelow};
-ghost use Rattle.checker.specs.Answers.{Answers, AnswersUnder, Wrote, Told, numbersOf, numbersIn, bareNumbers};
+ghost use Rattle.checker.specs.Answers.{Answers, AnswersUnder, AnswersByWalk, Wrote, Told};
+ghost use Rattle.checker.specs.Answers.{numbersOf, numbersIn, bareNumbers};
 ghost use Rattle.checker.specs.Answers.{readingNumbers, rewritingNumbers, rewritten, replyMeans};
 ghost use Rattle.checker.specs.Answers.{Replies, Relaid, sheetNumbers};
 ghost use Rattle.checker.specs.Steps.{Sized, Lent, Accepting, Refusing, refusedAs};
@@ -19,8 +20,10 @@ ghost use Rattle.checker.specs.Steps.{firstStart, firstEnd};
 use frames::EMPTY;
 use frames::First;
 use frames::Frames;
+use image::Found;
 use image::Judged;
 use image::areas;
+use image::first_tree_set;
 use image::judge;
 use image::node_at;
 use limits::MOST_NODES;
@@ -55,8 +58,8 @@ pub struct Refusal {
     pub message: usize,
 }
 
-// Code 0 with the sheet's length; 1 to 8, those of a name or a node with its number; 9 with the Def; 10; 13; or a
-// typing refusal.
+// Code 0 with the sheet's length; 1 to 8, those of a name or a node with its number; 9 with the Def; 10; 13; 14 with the
+// first TreeSet; or a typing refusal.
 pub enum Answer {
     Accepted(usize),
     BadHead,
@@ -70,6 +73,7 @@ pub enum Answer {
     NinthFrame(usize),
     ShortBuffer,
     NoSetting,
+    Retired(usize),
     Typing(Refusal),
 }
 
@@ -159,7 +163,7 @@ fn refuse(
 
 // ---- the whole
 
-// The answer for a well-formed image, by a fresh table that has room for its nodes.
+// The walk's answer for a well-formed image, by a fresh table that has room for its nodes.
 fn walk_in(
     image: &[u8],
     nodes: usize,
@@ -169,7 +173,7 @@ fn walk_in(
     plain: bool,
 ) -> Answer
     requires { ⌜ Lent (now image) nodes (now table) ⌝ }
-    ensures { λ r. ⌜ AnswersUnder plain (now (image .entry)) r
+    ensures { λ r. ⌜ AnswersByWalk plain (now (image .entry)) r
         (now (sheet .entry)) (now (sheet .exit)) (now (message .entry)) (now (message .exit)) ⌝ }
 {
     start(table);
@@ -211,7 +215,7 @@ const MANY_CELLS: usize = CELLS * (STRUCTURED + MOST_NODES);
 // Each size has its own function, and so its own frame.
 fn walk_few(image: &[u8], nodes: usize, sheet: &mut [u8], message: &mut [u8], plain: bool) -> Answer
     requires { ⌜ Sized (now image) nodes 64 ⌝ }
-    ensures { λ r. ⌜ AnswersUnder plain (now (image .entry)) r
+    ensures { λ r. ⌜ AnswersByWalk plain (now (image .entry)) r
         (now (sheet .entry)) (now (sheet .exit)) (now (message .entry)) (now (message .exit)) ⌝ }
 {
     let mut table = [FRESH; FEW_CELLS];
@@ -226,7 +230,7 @@ fn walk_some(
     plain: bool,
 ) -> Answer
     requires { ⌜ Sized (now image) nodes 512 ⌝ }
-    ensures { λ r. ⌜ AnswersUnder plain (now (image .entry)) r
+    ensures { λ r. ⌜ AnswersByWalk plain (now (image .entry)) r
         (now (sheet .entry)) (now (sheet .exit)) (now (message .entry)) (now (message .exit)) ⌝ }
 {
     let mut table = [FRESH; SOME_CELLS];
@@ -241,17 +245,17 @@ fn walk_many(
     plain: bool,
 ) -> Answer
     requires { ⌜ Sized (now image) nodes mostNodes ⌝ }
-    ensures { λ r. ⌜ AnswersUnder plain (now (image .entry)) r
+    ensures { λ r. ⌜ AnswersByWalk plain (now (image .entry)) r
         (now (sheet .entry)) (now (sheet .exit)) (now (message .entry)) (now (message .exit)) ⌝ }
 {
     let mut table = [FRESH; MANY_CELLS];
     walk_in(image, nodes, &mut table, sheet, message, plain)
 }
 
-// The answer for a well-formed image.
+// The walk's answer for a well-formed image.
 fn walk_image(image: &[u8], sheet: &mut [u8], message: &mut [u8], plain: bool) -> Answer
     requires { ⌜ Sound (now image) ⌝ }
-    ensures { λ r. ⌜ AnswersUnder plain (now (image .entry)) r
+    ensures { λ r. ⌜ AnswersByWalk plain (now (image .entry)) r
         (now (sheet .entry)) (now (sheet .exit)) (now (message .entry)) (now (message .exit)) ⌝ }
 {
     let l = areas(image);
@@ -264,13 +268,25 @@ fn walk_image(image: &[u8], sheet: &mut [u8], message: &mut [u8], plain: bool) -
     walk_many(image, l.nodes, sheet, message, plain)
 }
 
+// The answer for a well-formed image: "14 at the first TreeSet node .. before 9 and all typing codes", or the walk's.
+fn answer_well_formed(image: &[u8], sheet: &mut [u8], message: &mut [u8], plain: bool) -> Answer
+    requires { ⌜ Sound (now image) ⌝ }
+    ensures { λ r. ⌜ AnswersUnder plain (now (image .entry)) r
+        (now (sheet .entry)) (now (sheet .exit)) (now (message .entry)) (now (message .exit)) ⌝ }
+{
+    match first_tree_set(image) {
+        Found::At(i) => Answer::Retired(i),
+        Found::Nowhere => walk_image(image, sheet, message, plain),
+    }
+}
+
 // The answer for any bytes, under a setting that is one of the two.
 fn answer_under(image: &[u8], sheet: &mut [u8], message: &mut [u8], plain: bool) -> Answer
     ensures { λ r. ⌜ AnswersUnder plain (now (image .entry)) r
         (now (sheet .entry)) (now (sheet .exit)) (now (message .entry)) (now (message .exit)) ⌝ }
 {
     match judge(image) {
-        Judged::WellFormed => walk_image(image, sheet, message, plain),
+        Judged::WellFormed => answer_well_formed(image, sheet, message, plain),
         Judged::BadHead => Answer::BadHead,
         Judged::BadCount => Answer::BadCount,
         Judged::BadOffset => Answer::BadOffset,
@@ -365,6 +381,8 @@ pub const NO_SHEET: u32 = 12;
 
 const NO_SETTING: u32 = 13;
 
+const RETIRED: u32 = 14;
+
 // Code 0, with the length of the sheet.
 fn with_sheet(length: usize) -> Reply
     ensures { λ r. ⌜ replyMeans r ≡ sheetNumbers length ⌝ }
@@ -397,7 +415,7 @@ fn bare(code: u32, place: usize) -> Reply
     }
 }
 
-// By the codes of document 01, and of document 02 the last.
+// By the codes of document 01, and of document 02 the two before the last.
 pub fn replied(a: Answer) -> Reply
     ensures { λ r. ⌜ replyMeans r ≡ numbersOf a ⌝ }
 {
@@ -414,6 +432,7 @@ pub fn replied(a: Answer) -> Reply
         Answer::NinthFrame(i) => bare(codes::NINTH_FRAME, i),
         Answer::ShortBuffer => bare(SHORT_BUFFER, 0),
         Answer::NoSetting => bare(NO_SETTING, 0),
+        Answer::Retired(i) => bare(RETIRED, i),
         Answer::Typing(r) => Reply {
             code: r.code,
             span_start: r.begins,

@@ -14,41 +14,12 @@ use Rattle.meaning.specs.Image.{Name}
 use Rattle.meaning.proofs.Choices.{and-left}
 use Rattle.meaning.proofs.Faults.{Headed, sizes}
 use Rattle.meaning.proofs.Nesting.{records-count}
-use Rattle.words.proofs.Laws.{word-drop, first-word, record-at}
+use Rattle.meaning.proofs.Records.{record-at}
 use Rattle.image.specs.declared.NameAt.{NameAt}
 use Rattle.image.specs.Parts.{recordOf, nameMeans}
 use Rattle.image.proofs.Searches.{names-fit}
 
--- ---- nodes
-
-pub node-words : (bs : List ℕ) (at : ℕ) → node (drop at bs) ≡ record {
-  kind = word bs at;
-  arg = word bs (at + 4);
-  children = word bs (at + 8);
-  stop = word bs (at + 12);
-  spanStart = word bs (at + 16);
-  spanEnd = word bs (at + 20);
-}
-unfolding node
-node-words bs at =
-    rw (first-word bs at, word-drop bs at 4, word-drop bs at 8, word-drop bs at 12, word-drop bs at 16, word-drop bs at 20)
-
-pub node-at : (bs : List ℕ) (i : ℕ) → i < nodeCount bs → nodeOf (nodesOf bs) i ≡ node (drop (nodesFrom bs + 24 * i) bs)
-unfolding nodeOf nodesOf
-node-at bs i h = record-at node 24 (nodeCount bs) (nodesFrom bs) bs i _ h
-
 -- ---- names
-
-pub name-words : (bs : List ℕ) (at : ℕ) → nameRecord (drop at bs) ≡ record {
-  start = word bs at;
-  size = word bs (at + 4);
-  role = word bs (at + 8);
-  p = word bs (at + 12);
-  q = word bs (at + 16);
-}
-unfolding nameRecord
-name-words bs at =
-    rw (first-word bs at, word-drop bs at 4, word-drop bs at 8, word-drop bs at 12, word-drop bs at 16)
 
 pub record-of : (bs : List ℕ) (k : ℕ) → k < nameCount bs → recordOf (nameRecords bs) k ≡ nameRecord (drop (32 + 20 * k) bs)
 unfolding recordOf nameRecords

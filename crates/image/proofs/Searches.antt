@@ -1,6 +1,6 @@
 -- A turn of each search: what is left answers what all answer. Assumes nothing.
-use mathlib.Core.Path.{_≡_}
-use mathlib.Core.Bool.{Bool, true, false}
+use mathlib.Core.Path.{_≡_, sym, ap, _∙_}
+use mathlib.Core.Bool.{Bool, true, false, not}
 use mathlib.Core.Option.{none, some}
 use mathlib.Core.List.{List, [], _∷_}
 use Prim.Native.Nat.{ℕ, zero, suc, _+_, _-_, _<_, _≤_}
@@ -10,10 +10,13 @@ use native.Mathlib.Omega.{arith}
 use lib.ListN.{length, getD, take, drop, length-take, length-drop, drop-of-length-le}
 use lib.Seq.{drop-cons}
 use borrow.Author.Tests.{eq-eqb, ne-eqb, eqb-true, leb-true}
+use lib.Dec.{eqb}
 use Rattle.meaning.specs.Base.{if_then_else_}
-use Rattle.meaning.specs.Image.{NameRecord, firstNot, wrongName, textStands}
+use Rattle.meaning.specs.Image.{NameRecord, firstNot, wrongName, textStands, isTreeSet}
+use Rattle.meaning.specs.Image.{Node as ImageNode}
 use Rattle.meaning.proofs.Choices.{and-left, and-right, if-none}
-use Rattle.image.specs.Parts.{noRecord, recordOf, nameStands}
+use Rattle.image.specs.declared.Node.{Node}
+use Rattle.image.specs.Parts.{noRecord, recordOf, nameStands, nodeMeans}
 
 -- ---- the first that fails a test
 
@@ -29,6 +32,19 @@ module _ {A : Type 0} (f : ℕ → A → Bool) (xs : List A) (i : ℕ) where
   pub first-next : (d : A) → i < length xs → f i (getD xs i d) ≡ true → firstNot f i (drop i xs) ≡ firstNot f (i + 1) (drop (i + 1) xs)
   unfolding firstNot if_then_else_
   first-next d h e = rw (drop-cons xs i d h, e, add-one)
+
+-- ---- whether a node that was read is a TreeSet
+
+module _ (x : ImageNode) (d : Node) (e : nodeMeans d ≡ x) where
+  tree-set-is : isTreeSet x ≡ eqb (d .kind) 30
+  unfolding isTreeSet
+  tree-set-is = ap (λ (y : ImageNode). eqb (y .kind) 30) (sym e)
+
+  pub is-tree-set : d .kind ≡ 30 → isTreeSet x ≡ true
+  is-tree-set k = tree-set-is ∙ eq-eqb (d .kind) 30 k
+
+  pub no-tree-set : (d .kind ≡ 30 → ⊥) → isTreeSet x ≡ false
+  no-tree-set k = tree-set-is ∙ ne-eqb (d .kind) 30 k
 
 -- ---- the first name record that breaks its rules
 

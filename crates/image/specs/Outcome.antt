@@ -23,3 +23,12 @@ faultOf (UnsafeName i) = some (record { code = 5; place = i })
 faultOf (BadNode i) = some (record { code = 6; place = i })
 faultOf (BadNesting i) = some (record { code = 7; place = i })
 faultOf (TooDeep i) = some (record { code = 8; place = i })
+
+-- the same for who is told of none as 0 and 0
+abbrev pub codeTold : Option Fault → ℕ
+codeTold none = 0
+codeTold (some f) = f .code
+
+abbrev pub placeTold : Option Fault → ℕ
+placeTold none = 0
+placeTold (some f) = f .place

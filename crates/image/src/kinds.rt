@@ -48,7 +48,7 @@ pub const DICT: u32 = 27;
 
 pub const TUPLE: u32 = 28;
 
-const SET: u32 = 29;
+pub const SET: u32 = 29;
 
 pub const TREE_SET: u32 = 30;
 

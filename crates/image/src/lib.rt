@@ -1,6 +1,7 @@
 // The program image: whether a slice of bytes is one, and its parts.
 ghost use mathlib.Core.Path.{_≡_};
 ghost use mathlib.Core.Option.{none};
+ghost use mathlib.Core.List.{[], _∷_};
 ghost use Prim.Native.Nat.{suc, _+_, _-_, _*_, _%_, _<_, _≤_};
 ghost use lib.Dec.{eqb, leb, ltb};
 ghost use lib.ListN.{length, take, drop};
@@ -9,11 +10,12 @@ ghost use Rattle.meaning.specs.Image.{nameRecords, textsOf, namesOf, nameOf, ro
 ghost use Rattle.meaning.specs.Image.{roleOf, allows, safe, brokenName, unsafeName, isStatement};
 ghost use Rattle.meaning.specs.Image.{isExpression, nodeStands, brokenNode, belongs, lands};
 ghost use Rattle.meaning.specs.Image.{nests, badlyNested, tooDeepNode, headStands, countsStand, offsetsStand};
-ghost use Rattle.meaning.specs.Image.{imageFault};
-ghost use Rattle.meaning.specs.Base.{_and_, _or_, if_then_else_, isOneOf};
+ghost use Rattle.meaning.specs.Image.{imageFault, firstTreeSet};
+ghost use Rattle.meaning.specs.Base.{_and_, _or_, if_then_else_, isOneOf, words};
 ghost use Rattle.meaning.proofs.Faults.{Headed};
 ghost use Rattle.image.specs.Kinds.{recordStands, rootStands};
-ghost use Rattle.image.specs.Outcome.{faultOf, placeOf};
+ghost use Rattle.words.specs.Words.{putAt};
+ghost use Rattle.image.specs.Outcome.{faultOf, placeOf, codeTold, placeTold};
 ghost use Rattle.image.specs.Parts.{Laid, nodeMeans, nameMeans, recordOf, nameStands};
 ghost use Rattle.image.specs.Parts.{oneArgument, twoArguments, On, Moved};
 
@@ -27,6 +29,7 @@ use limits::MOST_NAMES;
 use limits::MOST_NODES;
 use limits::MOST_TEXT;
 use words::get_word;
+use words::put_word;
 use words::same;
 use words::text;
 use words::text_stands;
@@ -67,7 +70,7 @@ const UNARY_OPERATORS: usize = 3;
 const BINARY_OPERATORS: usize = 14;
 
 // What a search over names or nodes found: the first that fails, or none.
-enum Found {
+pub enum Found {
     At(usize),
     Nowhere,
 }
@@ -83,6 +86,12 @@ pub enum Judged {
     BadNode(usize),
     BadNesting(usize),
     TooDeep(usize),
+}
+
+// A refusal in document 01's numbers. A well-formed image has none: 0 and 0.
+pub struct Fault {
+    pub code: u32,
+    pub place: usize,
 }
 
 // The header's counts, and where the areas start.
@@ -241,6 +250,15 @@ pub fn node_at(image: &[u8], nodes: usize, i: usize) -> Node
     ensures { λ r. ⌜ nodeMeans r ≡ nodeOf (nodesOf (now (image .entry))) i ⌝ }
 {
     node_words(image, nodes + NODE_RECORD * i)
+}
+
+// Gives node i another kind, in the image that stands at the front of a buffer: no other byte changes.
+pub fn put_kind(buf: &mut [u8], nodes: usize, i: usize, kind: u32)
+    requires { ⌜ nodes + 24 * i + 24 ≤ length (now buf) ⌝ }
+    ensures { λ _. ⌜ now (buf .exit) ≡ putAt (now (buf .entry)) (nodes + 24 * i) (words (kind ∷ [])) ⌝ }
+    ensures { λ _. ⌜ length (now (buf .exit)) ≡ length (now (buf .entry)) ⌝ }
+{
+    put_word(buf, nodes + NODE_RECORD * i, kind);
 }
 
 pub fn name_at(image: &[u8], k: usize) -> NameAt
@@ -766,6 +784,42 @@ pub fn judge(image: &[u8]) -> Judged
         return Judged::BadOffset;
     }
     judge_body(image, l)
+}
+
+// By the codes of document 01.
+pub fn fault_of(j: Judged) -> Fault
+    ensures { λ r. ⌜ (r .code ≡ codeTold (faultOf j)) × (r .place ≡ placeTold (faultOf j)) ⌝ }
+{
+    match j {
+        Judged::WellFormed => Fault { code: 0, place: 0 },
+        Judged::BadHead => Fault { code: 1, place: 0 },
+        Judged::BadCount => Fault { code: 2, place: 0 },
+        Judged::BadOffset => Fault { code: 3, place: 0 },
+        Judged::BadName(i) => Fault { code: 4, place: i },
+        Judged::UnsafeName(i) => Fault { code: 5, place: i },
+        Judged::BadNode(i) => Fault { code: 6, place: i },
+        Judged::BadNesting(i) => Fault { code: 7, place: i },
+        Judged::TooDeep(i) => Fault { code: 8, place: i },
+    }
+}
+
+// ---- 14: "New images may not hold kind 30"
+
+// A TreeSet is refused wherever it stands, also where the walk would not look at it.
+pub fn first_tree_set(image: &[u8]) -> Found
+    requires { ⌜ Headed (now image) ⌝ }
+    ensures { λ r. ⌜ placeOf r ≡ firstTreeSet (now (image .entry)) ⌝ }
+{
+    let l = areas(image);
+    let mut i = 0;
+    while i < l.count {
+        let node = node_at(image, l.nodes, i);
+        if node.kind == kinds::TREE_SET {
+            return Found::At(i);
+        }
+        i += 1;
+    }
+    Found::Nowhere
 }
 
 // ---- the walk over the nodes of an image that stands

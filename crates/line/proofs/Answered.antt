@@ -9,15 +9,15 @@ use lib.Dec.{leb}
 use lib.ListN.{length, take, drop, length-append}
 use lib.Seq.{length-take-le}
 use Rattle.meaning.specs.Base.{if_then_else_, ifSome}
-use Rattle.meaning.specs.Image.{Fault, Name, Node, imageFault, namesOf, nodesOf}
+use Rattle.meaning.specs.Image.{Fault, Name, Node, checkFault, namesOf, nodesOf}
 use Rattle.meaning.specs.Decode.{treeOf}
 use Rattle.meaning.specs.Sheet.{listing, sheetOf}
 use Rattle.meaning.specs.Frames.{newest}
 use Rattle.meaning.specs.Message.{Refusal}
 use Rattle.meaning.specs.Walk.{Setting, State, End, done, wrong, tooDeep}
-use Rattle.meaning.specs.Answer.{Answer, bare, written, ended, walked, answerUnder, settingOf, answer, overlaid}
+use Rattle.meaning.specs.Answer.{Answer, bare, written, ended, walked, walkAnswer, unlessFault, answerUnder, settingOf, answer, overlaid}
 use Rattle.meaning.specs.Line.{refusedLine, lineOf}
-use Rattle.meaning.proofs.Faults.{fault-told}
+use Rattle.meaning.proofs.Faults.{check-told}
 use Rattle.meaning.proofs.Kept.{refused-typing}
 use Rattle.meaning.proofs.Answers.{overlaid-length, overlaid-front}
 use Rattle.meaning.proofs.Answers.{answered as bounds}
@@ -54,10 +54,10 @@ fault-header none a h g = g
 fault-header (some f) a h g = bare-header (f .code) (f .place) (h f refl)
 
 chosen-header : (o : Option Setting) (bs : List ℕ) (x y : ℕ) → Header (ifSome o (λ setting. answerUnder setting bs x y) (bare 13 0))
-unfolding ifSome answerUnder walked
+unfolding ifSome answerUnder unlessFault walkAnswer walked
 chosen-header none bs x y = bare-header 13 0 (omega arith)
 chosen-header (some setting) bs x y =
-    fault-header (imageFault bs) _ (λ f e. fault-told bs f e .above)
+    fault-header (checkFault bs) _ (λ f e. check-told bs f e .above)
     (ended-header (namesOf bs) (nodesOf bs) x y _ (λ r s e. refused-typing (namesOf bs) setting _ r s e .above))
 
 answer-header : (setting : ℕ) (bs : List ℕ) (x y : ℕ) → Header (answer setting bs x y)

@@ -16,16 +16,16 @@ use Rattle.meaning.proofs.Answers.{overlaid-length, overlaid-front}
 use Rattle.meaning.proofs.Answers.{answered as bounds}
 use Rattle.checker.specs.Answers.{Numbers, sheetNumbers, numbersOf, Stands, Replies, Answers}
 use Rattle.checker.specs.declared.Answer.{Answer}
-use Rattle.checker.specs.declared.Answer.the-variants.{Accepted, BadHead, BadCount, BadOffset, BadName, UnsafeName, BadNode, BadNesting, TooDeep, NinthFrame, ShortBuffer, NoSetting, Typing}
+use Rattle.checker.specs.declared.Answer.the-variants.{Accepted, BadHead, BadCount, BadOffset, BadName, UnsafeName, BadNode, BadNesting, TooDeep, NinthFrame, ShortBuffer, NoSetting, Retired, Typing}
 use Rattle.checker.proofs.Answer.{the-type}
-use Rattle.steady.proofs.Whole.{not-zero}
+use Rattle.image.proofs.Answers.{not-zero}
 use Rattle.load.specs.Rule.{kindOf, numbersTold, Decides, Decided}
 use Rattle.load.specs.declared.Loading.{Loading}
 use Rattle.load.specs.declared.Loading.the-variants.{Loads, Look, Refused}
 
 -- the cases of an answer but the first, by their places in the enum
 abbrev behind : List ℕ
-behind = 2 ∷ 3 ∷ 4 ∷ 5 ∷ 6 ∷ 7 ∷ 8 ∷ 9 ∷ 10 ∷ 11 ∷ 12 ∷ []
+behind = 2 ∷ 3 ∷ 4 ∷ 5 ∷ 6 ∷ 7 ∷ 8 ∷ 9 ∷ 10 ∷ 11 ∷ 12 ∷ 13 ∷ []
 
 abbrev others : List ℕ
 others = 1 ∷ behind
@@ -45,6 +45,7 @@ refuses (TooDeep i) h s e = omega (arith, e)
 refuses (NinthFrame i) h s e = omega (arith, e)
 refuses ShortBuffer h s e = omega (arith, e)
 refuses NoSetting h s e = omega (arith, e)
+refuses (Retired i) h s e = omega (arith, e)
 refuses (Typing r) h s e = omega (arith, e, s)
 
 -- ---- the three cases

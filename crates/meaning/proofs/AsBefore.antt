@@ -1,5 +1,6 @@
 -- "Demands 2 and 3 read as before, the second span being ours": forget the nodes, and every image has the answer that it had before request
--- One, in every setting; and `typecheck` prints the line that it printed. BeforeRules and BeforeWalk keep the definitions of then.
+-- One, in every setting, by the check that does not refuse TreeSets; and `typecheck` prints the line that it printed, of an image without
+-- them. BeforeRules and BeforeWalk keep the definitions of then.
 -- (False of a walk that goes by node where it asks whether a branch assigned a name: after `x = 1`, `if True:` `def f(x): x = 2; break`,
 -- `else:` `def g(x): x = "s"; break`, plain takes String from the second branch, since the first has x with the base's type; that walk
 -- would refuse it with 23.)
@@ -15,7 +16,7 @@ use Rattle.meaning.specs.Base.{if_then_else_, ifSome, orElse, isIn, all,
 use Rattle.meaning.specs.Types.{Ty, unknown, bool, same}
 use Rattle.meaning.specs.Tree.{Expr, at, Form, literal, variable, unary, binary, call, attribute, listOf, dictOf, tupleOf, setOf, index, lambda, Exprs, no-exprs, _also_, place, size, Stmt, line, Act, break, continue, pass, class, assign, expr, return, ifThen, while, for, def, Stmts, no-stmts, _next_, Arms, no-arms, _or-else_, Arm, on, otherwise, firstCondition}
 use Rattle.meaning.specs.Bound.{mayBind}
-use Rattle.meaning.specs.Image.{Fault, Name, Node, imageFault, namesOf, nodesOf}
+use Rattle.meaning.specs.Image.{Fault, Name, Node, imageFault, firstTreeSet, namesOf, nodesOf}
 use Rattle.meaning.specs.Decode.{treeOf}
 use Rattle.meaning.specs.Message.{Refusal, refusal, message}
 use Rattle.meaning.specs.Frames.{Binding, blank, since, Frame, Frames, empty, newest, slotIn, find, lookup, write}
@@ -23,10 +24,11 @@ use Rattle.meaning.specs.Operators.{Checked, ok, refused}
 use Rattle.meaning.specs.Rules.{elementOf, check, checkForm, checkAll}
 use Rattle.meaning.specs.Walk.{Setting, dropping, State, End, done, wrong, tooDeep, _>>=_, onward, after, onCopy, typed, withReturns, bind, agreed, assignName, unpacked, unpackInto, returnRule, sameType, sameSlot, tells, assigned, mergeName, mergeNames, merge, withParams, enter, popped, ifRoom, onlyIn, overElements, checked, condition, assignTo, assignForm, assignEach, walk, act, body, arm, branches, program, start}
 use Rattle.meaning.specs.Sheet.{entries, listedSlot, listedFrame, listing}
-use Rattle.meaning.specs.Answer.{Answer, bare, written, ended, walked, answerUnder, settingOf, answer}
+use Rattle.meaning.specs.Answer.{Answer, bare, written, ended, walked, walkAnswer, unlessFault, settingOf, answer, formerUnder, formerAnswer}
 use Rattle.meaning.specs.Line.{refusedLine, lineOf, settingTold, printed}
 use Rattle.meaning.proofs.Codes.{Judged, Fair, fair-judged, check-fair}
 use Rattle.meaning.proofs.Rows.{asBefore}
+use Rattle.meaning.proofs.Answers.{as-former}
 use Rattle.meaning.proofs.BeforeRules as R
 use Rattle.meaning.proofs.BeforeWalk as B
 
@@ -453,8 +455,8 @@ walked-only setting bs =
     program-only (namesOf bs) setting (treeOf (nodesOf bs)) start ∙ ap (B.program (namesOf bs) setting (treeOf (nodesOf bs))) start-only
 
 under-only : (setting : Setting) (bs : List ℕ) (sheetRoom messageRoom : ℕ)
-    → asBefore (answerUnder setting bs sheetRoom messageRoom) ≡ B.answerUnder setting bs sheetRoom messageRoom
-unfolding answerUnder B.answerUnder ifSome
+    → asBefore (formerUnder setting bs sheetRoom messageRoom) ≡ B.answerUnder setting bs sheetRoom messageRoom
+unfolding formerUnder unlessFault walkAnswer B.answerUnder ifSome
 under-only setting bs sheetRoom messageRoom = by (imageFault bs)
   where
     today : Answer
@@ -471,18 +473,20 @@ under-only setting bs sheetRoom messageRoom = by (imageFault bs)
     by (some f) = refl
 
 -- code, place, span, sheet and message of every image, for any setting's number and any buffers, are those from before
-pub as-before : (n : ℕ) (bs : List ℕ) (sheetRoom messageRoom : ℕ) → asBefore (answer n bs sheetRoom messageRoom) ≡ B.answer n bs sheetRoom messageRoom
-unfolding answer B.answer ifSome
+pub as-before : (n : ℕ) (bs : List ℕ) (sheetRoom messageRoom : ℕ) → asBefore (formerAnswer n bs sheetRoom messageRoom) ≡ B.answer n bs sheetRoom messageRoom
+unfolding formerAnswer B.answer ifSome
 as-before n bs sheetRoom messageRoom = by (settingOf n)
   where
     by : (o : Option Setting)
-        → asBefore (ifSome o (λ setting. answerUnder setting bs sheetRoom messageRoom) (bare 13 0))
+        → asBefore (ifSome o (λ setting. formerUnder setting bs sheetRoom messageRoom) (bare 13 0))
         ≡ ifSome o (λ setting. B.answerUnder setting bs sheetRoom messageRoom) (bare 13 0)
     by none = refl
     by (some setting) = under-only setting bs sheetRoom messageRoom
 
--- and so is the line that `typecheck` prints, whatever words it is given
-pub line-as-before : (ws : List (List ℕ)) (input : List ℕ)
+-- and so is the line that `typecheck` prints, whatever words it is given, of an image without TreeSets
+pub line-as-before : (ws : List (List ℕ)) (input : List ℕ) → firstTreeSet (take readAtMost input) ≡ none
     → printed ws input ≡ lineOf (B.answer (settingTold ws) (take readAtMost input) sheetBuffer messageBuffer)
 unfolding printed lineOf refusedLine
-line-as-before ws input = ap lineOf (as-before (settingTold ws) (take readAtMost input) sheetBuffer messageBuffer)
+line-as-before ws input t =
+    ap lineOf (as-former (settingTold ws) (take readAtMost input) sheetBuffer messageBuffer t)
+    ∙ ap lineOf (as-before (settingTold ws) (take readAtMost input) sheetBuffer messageBuffer)

@@ -192,6 +192,6 @@ pub plain-unchanged : (bs : List ℕ) (sheetRoom messageRoom : ℕ) → answer 0
 unfolding answer settingOf choose ifSome if_then_else_ answerUnder walked answerBefore
 plain-unchanged bs sheetRoom messageRoom = rw (program-same (namesOf bs) (treeOf (nodesOf bs)) start)
 
--- and today's, which has a second span beside it
-pub plain-as-before : (bs : List ℕ) (sheetRoom messageRoom : ℕ) → asBefore (Today.answer 0 bs sheetRoom messageRoom) ≡ answerBefore bs sheetRoom messageRoom
+-- and today's, which has a second span beside it, and refuses TreeSets
+pub plain-as-before : (bs : List ℕ) (sheetRoom messageRoom : ℕ) → asBefore (Today.formerAnswer 0 bs sheetRoom messageRoom) ≡ answerBefore bs sheetRoom messageRoom
 plain-as-before bs sheetRoom messageRoom = as-before 0 bs sheetRoom messageRoom ∙ plain-unchanged bs sheetRoom messageRoom

@@ -16,10 +16,12 @@ use Rattle.meaning.specs.Image.{Fault, version, nameCount, nodeCount, te
 use Rattle.meaning.specs.Read.{isSheet, readSheet}
 use Rattle.meaning.specs.Walk.{Setting}
 use Rattle.meaning.specs.Answer.{bare, answerUnder, settingOf, answer, readAnswer}
+use Rattle.meaning.specs.Convert.{convertAnswer}
 use Rattle.meaning.specs.Known.{steadiness}
 use Rattle.meaning.specs.Line.{lineOf, settingTold, printed}
 use Rattle.meaning.proofs.Choices.{not-so}
 use Rattle.meaning.proofs.Faults.{fault, fault-1, fault-2, fault-3, image-length}
+use Rattle.meaning.proofs.Answers.{fault-first}
 use Rattle.meaning.proofs.SheetForm.{sheet-is, sheet-length}
 
 -- ---- what is longer than every image, and than every sheet
@@ -64,8 +66,7 @@ module _ (n : ℕ) (bs : List ℕ) (least : largestImage < n) (more : n < length
       )
 
   under-cut : (setting : Setting) (x y : ℕ) → answerUnder setting (take n bs) x y ≡ answerUnder setting bs x y
-  unfolding answerUnder ifSome
-  under-cut setting x y = rw (fault-cut .1, fault-cut .2) refl
+  under-cut setting x y = fault-first setting (take n bs) x y _ (fault-cut .1) ∙ sym (fault-first setting bs x y _ (fault-cut .2))
 
   chosen-cut : (o : Option Setting) (x y : ℕ)
       → ifSome o (λ setting. answerUnder setting (take n bs) x y) (bare 13 0) ≡ ifSome o (λ setting. answerUnder setting bs x y) (bare 13 0)
@@ -76,6 +77,10 @@ module _ (n : ℕ) (bs : List ℕ) (least : largestImage < n) (more : n < length
   steady-long-cut : steadiness (take n bs) ≡ steadiness bs
   unfolding steadiness ifSome
   steady-long-cut = rw (fault-cut .1, fault-cut .2) refl
+
+  convert-long-cut : (room : ℕ) → convertAnswer (take n bs) room ≡ convertAnswer bs room
+  unfolding convertAnswer ifSome
+  convert-long-cut room = rw (fault-cut .1, fault-cut .2) refl
 
   sheet-cut : isSheet (take n bs) ≡ isSheet bs
   sheet-cut = no-sheet (take n bs) (omega (arith, cut-long)) ∙ sym (no-sheet bs (omega arith))
@@ -102,6 +107,9 @@ module _ (n : ℕ) (bs : List ℕ) (least : largestImage < n) where
   pub steady-any-cut : steadiness (take n bs) ≡ steadiness bs
   steady-any-cut = whole steadiness (λ m. steady-long-cut n bs least m)
 
+  pub convert-any-cut : (room : ℕ) → convertAnswer (take n bs) room ≡ convertAnswer bs room
+  convert-any-cut room = whole (λ s. convertAnswer s room) (λ m. convert-long-cut n bs least m room)
+
   pub is-sheet-any-cut : isSheet (take n bs) ≡ isSheet bs
   is-sheet-any-cut = whole isSheet (λ m. sheet-cut n bs least m)
 
@@ -117,6 +125,10 @@ module _ (bs : List ℕ) where
 
   pub steady-cut : steadiness (take readAtMost bs) ≡ steadiness bs
   steady-cut = steady-any-cut readAtMost bs (omega arith)
+
+  -- ruled out: a converter that copies what it was given without judging it, and so hands out the front of a longer file
+  pub convert-cut : (room : ℕ) → convertAnswer (take readAtMost bs) room ≡ convertAnswer bs room
+  convert-cut room = convert-any-cut readAtMost bs (omega arith) room
 
   -- ruled out: a reader without a limit of names, which takes a sheet of 59,938 bytes and refuses it when it is cut
   pub is-sheet-cut : isSheet (take readAtMost bs) ≡ isSheet bs

@@ -1,7 +1,7 @@
--- The refusals 1 to 8 in their order: each law says which searches came first and found nothing.
+-- The refusals 1 to 8 and 14 in their order: each law says which searches came first and found nothing.
 use mathlib.Core.Path.{_≡_, refl, _∙_, ap, sym}
 use mathlib.Core.Bool.{Bool, true, false}
-use mathlib.Core.Logic.{_↔_}
+use mathlib.Core.Logic.{_↔_, _⊎_, inl, inr, ⊎-elim}
 use mathlib.Core.Option.{Option, none, some, Option·none-ne-some, Option·some-injective}
 use mathlib.Core.List.{List, [], _∷_}
 use Prim.Native.Nat.{ℕ, _+_, _*_, _≤_, _<_}
@@ -10,7 +10,7 @@ use borrow.Author.Tests.{leb-true, eqb-true}
 use lib.ListN.{length}
 use Rattle.meaning.specs.Limits.{mostNames, mostNodes, mostText, largestImage}
 use Rattle.meaning.specs.Base.{if_then_else_, ifSome, word}
-use Rattle.meaning.specs.Image.{Fault, unless, firstFound, version, nameCount, nodeCount, textCount, namesFrom, nodesFrom, textsFrom, total, headStands, countsStand, offsetsStand, brokenName, unsafeName, brokenNode, badlyNested, tooDeepNode, headFault, bodyFault, imageFault}
+use Rattle.meaning.specs.Image.{Fault, unless, firstFound, version, nameCount, nodeCount, textCount, namesFrom, nodesFrom, textsFrom, total, headStands, countsStand, offsetsStand, brokenName, unsafeName, brokenNode, badlyNested, tooDeepNode, headFault, bodyFault, imageFault, firstTreeSet, checkFault}
 use Rattle.meaning.proofs.Choices.{and-left, and-right, if-none}
 
 abbrev pub fault : ℕ → ℕ → Fault
@@ -196,3 +196,53 @@ tells-some (some g) f t e = rw (← Option·some-injective g f e) t
 pub fault-told : (bs : List ℕ) (f : Fault) → imageFault bs ≡ some f → Told f
 unfolding imageFault
 fault-told bs f e = tells-some _ f (either-tells _ _ (head-tells bs) (body-tells bs)) e
+
+-- ---- 14, after all of them
+
+pub fault-early : (bs : List ℕ) (f : Fault) → imageFault bs ≡ some f → checkFault bs ≡ some f
+unfolding checkFault ifSome
+fault-early bs f e = rw e
+
+pub fault-14 : {bs : List ℕ} {i : ℕ} → Sound bs → firstTreeSet bs ≡ some i → checkFault bs ≡ some (fault 14 i)
+unfolding checkFault firstFound ifSome
+fault-14 s e = rw (no-fault s, e)
+
+pub no-check-fault : {bs : List ℕ} → Sound bs → firstTreeSet bs ≡ none → checkFault bs ≡ none
+unfolding checkFault firstFound ifSome
+no-check-fault s e = rw (no-fault s, e)
+
+-- an image that is walked
+pub walks : (bs : List ℕ) → (checkFault bs ≡ none) ↔ (Sound bs × (firstTreeSet bs ≡ none))
+unfolding checkFault
+walks bs = (
+  λ e. let p = none-both _ _ e in (sound bs .0 (p .0), none-first _ _ _ (p .1) .0),
+  λ s. no-check-fault (s .0) (s .1),
+)
+
+-- what is found is one of 1 to 8, or 14 in an image that has none of these
+pub check-found : (bs : List ℕ) (f : Fault) → checkFault bs ≡ some f
+    → (imageFault bs ≡ some f) ⊎ ((f .code ≡ 14) × Sound bs × (firstTreeSet bs ≡ some (f .place)))
+check-found bs f e = by (imageFault bs) (firstTreeSet bs) refl refl
+  where
+    by : (o : Option Fault) (p : Option ℕ) → imageFault bs ≡ o → firstTreeSet bs ≡ p
+        → (imageFault bs ≡ some f) ⊎ ((f .code ≡ 14) × Sound bs × (firstTreeSet bs ≡ some (f .place)))
+    by (some g) p i t = inl (i ∙ sym (fault-early bs g i) ∙ e)
+    by none none i t = absurd (Option·none-ne-some f (sym (no-check-fault (sound bs .0 i) t) ∙ e))
+    by none (some m) i t =
+        let g = Option·some-injective _ _ (sym (fault-14 (sound bs .0 i) t) ∙ e) in
+        inr (ap (λ (h : Fault). h .code) (sym g), sound bs .0 i, t ∙ ap (λ (h : Fault). some (h .place)) g)
+
+pub record Early (f : Fault) : Type 0 where
+  pub above : 1 ≤ f .code
+  pub below : (f .code ≤ 8) ⊎ (f .code ≡ 14)
+  pub nowhere : f .code < 4 → f .place ≡ 0
+
+pub check-told : (bs : List ℕ) (f : Fault) → checkFault bs ≡ some f → Early f
+check-told bs f e =
+    ⊎-elim (λ i. let t = fault-told bs f i in record { above = t .above; below = inl (t .below); nowhere = t .nowhere })
+    (λ r. record { above = omega (arith, r .0); below = inr (r .0); nowhere = λ l. absurd (omega (arith, l, r .0)) })
+    (check-found bs f e)
+
+-- no typing code
+pub early-below : {f : Fault} → Early f → f .code < 20
+early-below t = ⊎-elim (λ l. omega arith) (λ l. omega arith) (t .below)

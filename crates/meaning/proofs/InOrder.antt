@@ -14,17 +14,17 @@ use Rattle.meaning.specs.Limits.{mostNames}
 use Rattle.meaning.specs.Base.{if_then_else_, ifSome, count}
 use Rattle.meaning.specs.Types.{Ty}
 use Rattle.meaning.specs.Tree.{Expr, at, Form, literal, variable, unary, binary, call, attribute, listOf, dictOf, tupleOf, setOf, index, lambda, Exprs, no-exprs, _also_, place, Stmt, line, Act, break, continue, pass, class, assign, expr, return, ifThen, while, for, def, Stmts, no-stmts, _next_, Arms, no-arms, _or-else_, Arm, on, otherwise, firstCondition}
-use Rattle.meaning.specs.Image.{Fault, Name, Node, imageFault, nodeOf, namesOf, nodesOf}
+use Rattle.meaning.specs.Image.{Fault, Name, Node, checkFault, nodeOf, namesOf, nodesOf}
 use Rattle.meaning.specs.Decode.{stopOf, treeOf}
 use Rattle.meaning.specs.Message.{Piece, Refusal}
 use Rattle.meaning.specs.Frames.{Binding, Frame, Frames, lookup, since}
 use Rattle.meaning.specs.Operators.{Checked, ok, refused}
 use Rattle.meaning.specs.Rules.{elementOf}
 use Rattle.meaning.specs.Walk.{Setting, plain, strict, dropping, State, End, done, wrong, tooDeep, refuse, _>>=_, onward, after, onCopy, typed, bind, agreed, assignName, unpacked, unpackInto, returnRule, assigned, mergeName, mergeNames, merge, enter, popped, ifRoom, onlyIn, overElements, checked, condition, assignTo, assignForm, assignEach, walk, act, body, arm, branches, program, start}
-use Rattle.meaning.specs.Answer.{Answer, bare, ended, walked, answerUnder, settingOf, answer, meaning-open}
+use Rattle.meaning.specs.Answer.{Answer, bare, ended, walked, walkAnswer, unlessFault, answerUnder, settingOf, answer, meaning-open}
 use Rattle.meaning.proofs.Codes.{Fair, fair-judged, check-fair}
 use Rattle.meaning.proofs.Rows.{image}
-use Rattle.meaning.proofs.Faults.{Sound, sound, sizes, fault-told}
+use Rattle.meaning.proofs.Faults.{Sound, walks, sizes, check-told, early-below}
 use Rattle.meaning.proofs.Nesting.{nodes-many, sound-nested}
 use Rattle.meaning.proofs.FirstPlace.{There, Placed, SlotPlaced, FramePlaced, FramesPlaced, BranchesPlaced, Sures, agreed-differ, lookup-placed, write-placed, tail-placed, new-placed, kept-placed, assigned-sure, none-placed, one-more, enter-placed, start-placed}
 use Rattle.meaning.proofs.SecondSpan.{Second, makes-inside, written-neither, refused-pointed}
@@ -380,16 +380,16 @@ module _ (bs : List ℕ) (sheetRoom messageRoom : ℕ) where
 
   under-in-order : (setting : Setting)
       → let a : Answer = answerUnder setting bs sheetRoom messageRoom in (a .code ≡ 23) ⊎ (a .code ≡ 25) → SecondInOrder (nodesOf bs) a
-  unfolding answerUnder ifSome
-  under-in-order setting = by (imageFault bs) refl
+  unfolding answerUnder unlessFault walkAnswer ifSome
+  under-in-order setting = by (checkFault bs) refl
     where
       whole : Answer
       whole = ended (namesOf bs) (nodesOf bs) sheetRoom messageRoom (walked setting bs)
 
-      by : (o : Option Fault) → imageFault bs ≡ o → let a : Answer = ifSome o (λ f. bare (f .code) (f .place)) whole in
+      by : (o : Option Fault) → checkFault bs ≡ o → let a : Answer = ifSome o (λ f. bare (f .code) (f .place)) whole in
           (a .code ≡ 23) ⊎ (a .code ≡ 25) → SecondInOrder (nodesOf bs) a
-      by none e c = ended-in-order setting (sound bs .0 e) (walked setting bs) refl c
-      by (some f) e c = absurd (⊎-elim (λ z. omega (arith, fault-told bs f e .below)) (λ z. omega (arith, fault-told bs f e .below)) c)
+      by none e c = ended-in-order setting (walks bs .0 e .0) (walked setting bs) refl c
+      by (some f) e c = absurd (⊎-elim (λ z. omega (arith, early-below (check-told bs f e))) (λ z. omega (arith, early-below (check-told bs f e))) c)
 
   -- for every image, in every setting, for any buffers
   pub second-in-order : (n : ℕ) → let a : Answer = answer n bs sheetRoom messageRoom in (a .code ≡ 23) ⊎ (a .code ≡ 25) → SecondInOrder (nodesOf bs) a

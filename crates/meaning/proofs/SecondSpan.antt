@@ -14,14 +14,14 @@ use lib.ListN.{length, List·getD-eq-default}
 use Rattle.meaning.specs.Limits.{deepest}
 use Rattle.meaning.specs.Base.{if_then_else_, choose, ifSome}
 use Rattle.meaning.specs.Tree.{Expr, Stmt, Stmts, place}
-use Rattle.meaning.specs.Image.{Fault, Node, nodeOf, countStands, imageFault, namesOf, nodesOf}
+use Rattle.meaning.specs.Image.{Fault, Node, nodeOf, countStands, checkFault, namesOf, nodesOf}
 use Rattle.meaning.specs.Decode.{stopOf, exprsFrom, stmtsFrom, armsFrom, formAt, exprAt, actAt, stmtAt, blockAt, treeOf}
 use Rattle.meaning.specs.Message.{Refusal}
 use Rattle.meaning.specs.Frames.{slotIn}
 use Rattle.meaning.specs.Walk.{Setting, State, End, done, wrong, tooDeep}
-use Rattle.meaning.specs.Answer.{Answer, bare, written, ended, walked, answerUnder, settingOf, answer}
+use Rattle.meaning.specs.Answer.{Answer, bare, written, ended, walked, walkAnswer, unlessFault, answerUnder, settingOf, answer}
 use Rattle.meaning.proofs.Choices.{RowsHave, choose-has}
-use Rattle.meaning.proofs.Faults.{Sound, sound, fault-told}
+use Rattle.meaning.proofs.Faults.{Sound, walks, check-told, early-below}
 use Rattle.meaning.proofs.Nesting.{Nested, sound-nested, Children, child, node-stands, children}
 use Rattle.meaning.proofs.FirstPlace.{SlotPlaced, Pointed, Pointing, Targets, FormTargets, AllTargets, Binders, LineBinders, ActBinders, ArmsBinders, slot-in-placed, walked-pointing, pointing-done, pointing-wrong}
 
@@ -165,16 +165,16 @@ module _ (bs : List ℕ) (sheetRoom messageRoom : ℕ) where
   ended-second (tooDeep n) h p c = absurd (⊎-elim (λ z. omega arith) (λ z. omega arith) c)
 
   under-second : (setting : Setting) → let a : Answer = answerUnder setting bs sheetRoom messageRoom in (a .code ≡ 23) ⊎ (a .code ≡ 25) → Second (nodesOf bs) a
-  unfolding answerUnder ifSome
-  under-second setting = by (imageFault bs) refl
+  unfolding answerUnder unlessFault walkAnswer ifSome
+  under-second setting = by (checkFault bs) refl
     where
       whole : Answer
       whole = ended (namesOf bs) (nodesOf bs) sheetRoom messageRoom (walked setting bs)
 
-      by : (o : Option Fault) → imageFault bs ≡ o → let a : Answer = ifSome o (λ f. bare (f .code) (f .place)) whole in
+      by : (o : Option Fault) → checkFault bs ≡ o → let a : Answer = ifSome o (λ f. bare (f .code) (f .place)) whole in
           (a .code ≡ 23) ⊎ (a .code ≡ 25) → Second (nodesOf bs) a
-      by none e c = ended-second (walked setting bs) (sound bs .0 e) (image-pointing setting bs) c
-      by (some f) e c = absurd (⊎-elim (λ z. omega (arith, fault-told bs f e .below)) (λ z. omega (arith, fault-told bs f e .below)) c)
+      by none e c = ended-second (walked setting bs) (walks bs .0 e .0) (image-pointing setting bs) c
+      by (some f) e c = absurd (⊎-elim (λ z. omega (arith, early-below (check-told bs f e))) (λ z. omega (arith, early-below (check-told bs f e))) c)
 
   -- for every image, in every setting, for any buffers
   pub second-span : (n : ℕ) → let a : Answer = answer n bs sheetRoom messageRoom in (a .code ≡ 23) ⊎ (a .code ≡ 25) → Second (nodesOf bs) a

@@ -9,14 +9,14 @@ use Prim.Native.Nat.{ℕ}
 use Rattle.meaning.specs.Base.{choose, if_then_else_, ifSome}
 use Rattle.meaning.specs.Types.{Ty}
 use Rattle.meaning.specs.Tree.{Stmt, line, Act, break, continue, pass, class, assign, expr, return, ifThen, while, for, def, Stmts, no-stmts, _next_, Arms, no-arms, _or-else_, Arm, on, otherwise}
-use Rattle.meaning.specs.Image.{Name, Node, imageFault, namesOf, nodesOf}
+use Rattle.meaning.specs.Image.{Name, Node, checkFault, namesOf, nodesOf}
 use Rattle.meaning.specs.Decode.{treeOf}
 use Rattle.meaning.specs.Message.{Refusal}
 use Rattle.meaning.specs.Frames.{Frames}
 use Rattle.meaning.specs.Operators.{Checked, ok, refused}
 use Rattle.meaning.specs.Rules.{elementOf}
 use Rattle.meaning.specs.Walk.{plain, strict, dropping, State, End, done, wrong, tooDeep, _>>=_, onward, after, onCopy, typed, popped, ifRoom, overElements, checked, condition, walk, act, body, arm, branches, program, start}
-use Rattle.meaning.specs.Answer.{settingOf, bare, ended, walked, answerUnder, answer}
+use Rattle.meaning.specs.Answer.{settingOf, bare, ended, walked, walkAnswer, unlessFault, answerUnder, answer}
 use Rattle.meaning.proofs.Strict.{agrees-done, agrees-deep, body-agrees}
 
 -- the bodies of Ifs and Whiles, those that stand in no other such body
@@ -219,9 +219,9 @@ ended-like ws ds sheetRoom messageRoom bs (tooDeep n) e h = inl (rw h)
 
 module _ (bs : List ℕ) (sheetRoom messageRoom : ℕ) where
   pub answers-alike : (answer 0 bs sheetRoom messageRoom ≡ answer 1 bs sheetRoom messageRoom) ⊎ RefusesInside bs
-  unfolding answer settingOf choose ifSome if_then_else_ answerUnder walked
+  unfolding answer settingOf choose ifSome if_then_else_ answerUnder unlessFault walkAnswer walked
   answers-alike =
-      ⊎-elim (λ e. inl (ap (λ a. ifSome (imageFault bs) (λ f. bare (f .code) (f .place)) a) e)) (λ x. inr x)
+      ⊎-elim (λ e. inl (ap (λ a. ifSome (checkFault bs) (λ f. bare (f .code) (f .place)) a) e)) (λ x. inr x)
       (ended-like (namesOf bs) (nodesOf bs) sheetRoom messageRoom (bodiesInAll (treeOf (nodesOf bs))) _ _ (program-like (namesOf bs) (treeOf (nodesOf bs)) start))
 
   -- a program with no If and no While gets one answer in both

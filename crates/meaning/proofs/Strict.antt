@@ -10,14 +10,14 @@ use lib.ListN.{length}
 use Rattle.meaning.specs.Base.{choose, if_then_else_, ifSome}
 use Rattle.meaning.specs.Types.{Ty, unknown, bool}
 use Rattle.meaning.specs.Tree.{at, literal, Stmt, line, Act, break, continue, pass, class, assign, expr, return, ifThen, while, for, def, Stmts, no-stmts, _next_, Arms, no-arms, _or-else_, Arm, on, otherwise, firstCondition}
-use Rattle.meaning.specs.Image.{Name, Node, Fault, imageFault, namesOf, nodesOf}
+use Rattle.meaning.specs.Image.{Name, Node, Fault, checkFault, namesOf, nodesOf}
 use Rattle.meaning.specs.Decode.{treeOf}
 use Rattle.meaning.specs.Message.{Refusal, refusal}
 use Rattle.meaning.specs.Frames.{Frames, empty}
 use Rattle.meaning.specs.Operators.{Checked, ok, refused}
 use Rattle.meaning.specs.Rules.{elementOf}
 use Rattle.meaning.specs.Walk.{plain, strict, dropping, State, state, End, done, wrong, tooDeep, _>>=_, onward, after, onCopy, typed, merge, popped, ifRoom, overElements, checked, condition, walk, act, body, arm, branches, program, start}
-use Rattle.meaning.specs.Answer.{settingOf, Answer, bare, ended, walked, answerUnder, answer, meaning-open}
+use Rattle.meaning.specs.Answer.{settingOf, Answer, bare, ended, walked, walkAnswer, unlessFault, answerUnder, answer, meaning-open}
 use Rattle.meaning.proofs.Rows.{image}
 use Rattle.meaning.proofs.Codes.{Typing}
 use Rattle.meaning.proofs.Statements.{wrong-done, deep-done, arm-done, arm-fails, arm-deep}
@@ -263,9 +263,9 @@ fault-agrees (some f) a b h l = refl
 
 module _ (bs : List ℕ) (sheetRoom messageRoom : ℕ) where
   under-agrees : answerUnder strict bs sheetRoom messageRoom .code < 20 → answerUnder plain bs sheetRoom messageRoom ≡ answerUnder strict bs sheetRoom messageRoom
-  unfolding answerUnder walked
+  unfolding answerUnder unlessFault walkAnswer walked
   under-agrees l =
-      fault-agrees (imageFault bs) _ _
+      fault-agrees (checkFault bs) _ _
       (ended-agrees (namesOf bs) (nodesOf bs) sheetRoom messageRoom _ _ (program-agrees (namesOf bs) (treeOf (nodesOf bs)) start)
       (λ r s e. refused-typing (namesOf bs) strict _ r s e)) l
 

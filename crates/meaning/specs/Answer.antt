@@ -9,7 +9,7 @@ use Rattle.meaning.specs.Base.{if_then_else_, choose, ifSome, base-open}
 use Rattle.meaning.specs.Types.{types-open}
 use Rattle.meaning.specs.Tree.{tree-open}
 use Rattle.meaning.specs.Bound.{bound-open}
-use Rattle.meaning.specs.Image.{imageFault, namesOf, nodesOf, Name, Node, nodeOf, image-open}
+use Rattle.meaning.specs.Image.{Fault, imageFault, checkFault, namesOf, nodesOf, Name, Node, nodeOf, image-open}
 use Rattle.meaning.specs.Decode.{treeOf, decode-open}
 use Rattle.meaning.specs.Message.{message, message-open}
 use Rattle.meaning.specs.Frames.{newest, frames-open}
@@ -65,11 +65,19 @@ ended ws ds sheetRoom messageRoom (tooDeep n) = bare 9 n
 unfoldable pub walked : Setting → List ℕ → End
 walked setting bs = program (namesOf bs) setting (treeOf (nodesOf bs)) start
 
+-- what the walk answers: "9 and the typing codes come from one walk in program order", and so do 0 and 10
+unfoldable pub walkAnswer : Setting → List ℕ → ℕ → ℕ → Answer
+walkAnswer setting bs sheetRoom messageRoom = ended (namesOf bs) (nodesOf bs) sheetRoom messageRoom (walked setting bs)
+
+-- the same, unless something was found before it
+unfoldable pub unlessFault : Option Fault → Setting → List ℕ → ℕ → ℕ → Answer
+unlessFault fault setting bs sheetRoom messageRoom =
+    let sound : Answer = walkAnswer setting bs sheetRoom messageRoom in
+    ifSome fault (λ f. bare (f .code) (f .place)) sound
+
 -- the answer for an image and the lengths of the sheet and message buffers
 unfoldable pub answerUnder : Setting → List ℕ → ℕ → ℕ → Answer
-answerUnder setting bs sheetRoom messageRoom =
-    let sound : Answer = ended (namesOf bs) (nodesOf bs) sheetRoom messageRoom (walked setting bs) in
-    ifSome (imageFault bs) (λ f. bare (f .code) (f .place)) sound
+answerUnder setting bs sheetRoom messageRoom = unlessFault (checkFault bs) setting bs sheetRoom messageRoom
 
 -- "The caller chooses plain or strict", by a number
 unfoldable pub settingOf : ℕ → Option Setting
@@ -78,6 +86,13 @@ settingOf n = choose n none ((0, some plain) ∷ (1, some strict) ∷ [])
 -- "a setting other than the two gives 13, before code 1"
 unfoldable pub answer : ℕ → List ℕ → ℕ → ℕ → Answer
 answer n bs sheetRoom messageRoom = ifSome (settingOf n) (λ setting. answerUnder setting bs sheetRoom messageRoom) (bare 13 0)
+
+-- "the answer the old one got before the retirement": the same two, for which a TreeSet was an expression like any other
+unfoldable pub formerUnder : Setting → List ℕ → ℕ → ℕ → Answer
+formerUnder setting bs sheetRoom messageRoom = unlessFault (imageFault bs) setting bs sheetRoom messageRoom
+
+unfoldable pub formerAnswer : ℕ → List ℕ → ℕ → ℕ → Answer
+formerAnswer n bs sheetRoom messageRoom = ifSome (settingOf n) (λ setting. formerUnder setting bs sheetRoom messageRoom) (bare 13 0)
 
 -- the reader's: "one refusal, 12, place 0, for anything else, with no buffer touched"
 unfoldable pub readAnswer : List ℕ → Answer
@@ -93,5 +108,5 @@ overlaid bs old = bs ++ drop (length bs) old
 
 -- to unfold this is to unfold every definition
 unfoldable pub meaning-open : Unit {0}
-unfolding base-open types-open tree-open bound-open image-open decode-open message-open frames-open operators-open rules-open walk-open sheet-open read-open written fitting ended walked answerUnder settingOf answer readAnswer writeAnswer overlaid
+unfolding base-open types-open tree-open bound-open image-open decode-open message-open frames-open operators-open rules-open walk-open sheet-open read-open written fitting ended walked walkAnswer unlessFault answerUnder settingOf answer formerUnder formerAnswer readAnswer writeAnswer overlaid
 meaning-open = tt

@@ -1,4 +1,4 @@
--- The program image: what it holds, and the refusals 1 to 8.
+-- The program image: what it holds, and the refusals 1 to 8 and 14.
 use mathlib.Core.Bool.{Bool, true, false, not}
 use mathlib.Core.List.{List, [], _∷_, map}
 use mathlib.Core.Option.{Option, none, some}
@@ -273,6 +273,19 @@ bodyFault bs =
 unfoldable pub imageFault : List ℕ → Option Fault
 imageFault bs = let body = bodyFault bs in ifSome (headFault bs) some body
 
+-- ---- 14: "New images may not hold kind 30"
+
+unfoldable pub isTreeSet : Node → Bool
+isTreeSet d = eqb (d .kind) 30
+
+unfoldable pub firstTreeSet : List ℕ → Option ℕ
+firstTreeSet bs = firstNot (λ i d. not (isTreeSet d)) 0 (nodesOf bs)
+
+-- all that is looked for before the walk: "the check gives 14 at the first TreeSet node, after code 8 and before 9 and all typing codes".
+-- It is computed only where the image is well formed, and so bounded
+unfoldable pub checkFault : List ℕ → Option Fault
+checkFault bs = let retired = firstFound ((14, firstTreeSet bs) ∷ []) in ifSome (imageFault bs) some retired
+
 unfoldable pub image-open : Unit {0}
-unfolding version nameCount nodeCount textCount nodesFrom textsFrom total nameRecord nameRecords textsOf roleOf nameFrom namesOf nameOf allows node nodesOf nodeOf headStands countsStand offsetsStand printable textStands roleStands wrongName safe isStatement isSpanless isExpression argBelow countStands nodeStands belongs lands nests depth unless firstNot firstFound brokenName unsafeName brokenNode badlyNested tooDeepNode headFault bodyFault imageFault
+unfolding version nameCount nodeCount textCount nodesFrom textsFrom total nameRecord nameRecords textsOf roleOf nameFrom namesOf nameOf allows node nodesOf nodeOf headStands countsStand offsetsStand printable textStands roleStands wrongName safe isStatement isSpanless isExpression argBelow countStands nodeStands belongs lands nests depth unless firstNot firstFound brokenName unsafeName brokenNode badlyNested tooDeepNode headFault bodyFault imageFault isTreeSet firstTreeSet checkFault
 image-open = tt

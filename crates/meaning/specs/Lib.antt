@@ -17,3 +17,4 @@ pub mod Line
 pub mod Show
 pub mod Load
 pub mod Known
+pub mod Convert

@@ -19,7 +19,7 @@ use Rattle.meaning.specs.Sheet.{Entry, Triple, typesOf, elementsOf, spellings, 
 use Rattle.meaning.specs.Read.{triple, numbered, typeFrom, entriesIn, isSheet, SheetOf}
 use Rattle.meaning.proofs.Choices.{not-so}
 use Rattle.meaning.proofs.SheetForm.{Limits, limits, sheet-is, sheet-size, sheet-length, Header, sheet-header}
-use Rattle.words.proofs.Laws.{first-word}
+use Rattle.meaning.proofs.Records.{first-word}
 use Rattle.types.specs.Table.{Tab, tab, denote, Wf, Grown, Made, built, shaped}
 use Rattle.types.specs.Steps.{Asked, Listed}
 use Rattle.types.proofs.Laws.{plain-number, unknown-number, grown-refl}

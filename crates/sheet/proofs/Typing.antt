@@ -19,7 +19,7 @@ use Rattle.meaning.specs.Read.{triple, numbered, typeFrom, typesFrom, entriesIn
 use Rattle.meaning.proofs.Choices.{records-many}
 use Rattle.meaning.proofs.SheetForm.{sheet-is}
 use Rattle.meaning.proofs.SheetAreas.{Areas, sheet-areas}
-use Rattle.words.proofs.Laws.{word-drop, first-word, record-at}
+use Rattle.meaning.proofs.Records.{word-drop, first-word, record-at}
 use Rattle.types.specs.Table.{mostNumbers, Tab, tab, capacity, denote, Wf, Grown, Made}
 use Rattle.sheet.specs.Reading.{elementsAt, wordsAt, triplesAt, tupleSum, Bounds, Told, Below, Tupling, tupleAt, Forming, typesLeft, Typing, Typed, TypesRead}
 use Rattle.sheet.specs.Reading.{elementsIn as elementsRead}

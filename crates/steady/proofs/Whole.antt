@@ -6,23 +6,16 @@ use mathlib.Core.List.{List, [], _∷_}
 use mathlib.Core.Option.{Option, none, some, Option·some-injective}
 use Prim.Native.Nat.{ℕ, _≤_}
 use native.Mathlib.Omega.{arith}
-use borrow.Author.Tests.{leb-true}
-use types.Run.{OneOf}
-use denote.Enum.Declared.{tagOf}
-use lib.Dec.{leb}
-use Rattle.meaning.specs.Base.{_and_, all, ifSome}
+use Rattle.meaning.specs.Base.{ifSome}
 use Rattle.meaning.specs.Image.{Fault, imageFault, nodesOf}
 use Rattle.meaning.specs.Image.{Node as ImageNode}
 use Rattle.meaning.specs.Decode.{treeOf}
 use Rattle.meaning.specs.Known.{defsInIfs, NoDefInIf, steady, defInIf, faulty, steadyBy, steadiness}
 use Rattle.meaning.specs.Known.{Steadiness as Meant}
-use Rattle.meaning.proofs.Choices.{and-left, and-right}
 use Rattle.meaning.proofs.Faults.{Sound, sound}
 use Rattle.image.specs.Outcome.{faultOf}
 use Rattle.image.specs.declared.Judged.{Judged}
-use Rattle.image.specs.declared.Judged.the-variants.{WellFormed}
-use Rattle.image.proofs.Answers.{fault-injective, judged-sound}
-use Rattle.image.proofs.Judged.{the-type}
+use Rattle.image.proofs.Answers.{fault-injective, judged-sound, NotFirst, ill-formed}
 use Rattle.steady.specs.declared.Def.{Def}
 use Rattle.steady.specs.declared.Steadiness.{Steadiness}
 use Rattle.steady.specs.declared.Steadiness.the-variants.{Steady, DefInIf, Faulty}
@@ -44,22 +37,7 @@ pub sound-told : {bs : List ℕ} (r : Steadiness) → Sound bs → meant r ≡ s
     → meant r ≡ some (steadiness bs)
 sound-told r s e = e ∙ ap some (sym (steadiness-sound s))
 
--- none of some positive numbers is 0
-pub not-zero : (k : ℕ) (ks : List ℕ) → all (leb 1) (k ∷ ks) ≡ true → OneOf (k ∷ ks) 0 → ⊥
-unfolding all
-not-zero k [] a h = omega (arith, leb-true 1 k (and-left _ _ a), h)
-not-zero k (l ∷ ks) a h = ⊎-elim (λ e. omega (arith, leb-true 1 k (and-left _ _ a), e)) (λ r. not-zero l ks (and-right _ _ a) r) h
-
--- the cases of a judgment but the first, by their places in the enum
-abbrev behind : List ℕ
-behind = 2 ∷ 3 ∷ 4 ∷ 5 ∷ 6 ∷ 7 ∷ 8 ∷ []
-
--- each of them is another than WellFormed
-ill-formed : (j : Judged) → OneOf (1 ∷ behind) (tagOf the-type j) → j ≡ WellFormed → ⊥
-unfolding all _and_
-ill-formed j h e = not-zero 1 behind refl (rw e at h)
-
-pub faulty-told : (bs : List ℕ) (j : Judged) → OneOf (1 ∷ behind) (tagOf the-type j) → faultOf j ≡ imageFault bs → meant (Faulty j) ≡ some (steadiness bs)
+pub faulty-told : (bs : List ℕ) (j : Judged) → NotFirst j → faultOf j ≡ imageFault bs → meant (Faulty j) ≡ some (steadiness bs)
 unfolding ifSome
 faulty-told bs j n e = by (faultOf j) refl
   where

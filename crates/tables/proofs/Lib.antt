@@ -4,3 +4,4 @@ mod Decisions
 mod Strict
 mod Places
 mod Steady
+mod Retired

@@ -109,13 +109,6 @@ part-at x k n i h = rw (getD-take, getD-drop)
 byte-part : (x : List ℕ) (k : ℕ) → getD x k 0 ≡ getD (take 1 (drop k x)) 0 0
 byte-part x k = rw (part-at x k 1 0 (omega arith), add-zero)
 
--- a word of what is left from a place on
-pub word-drop : (bs : List ℕ) (at k : ℕ) → word (drop at bs) k ≡ word bs (at + k)
-word-drop bs at k = simp (getD-drop, add-assoc)
-
-pub first-word : (bs : List ℕ) (at : ℕ) → word (drop at bs) 0 ≡ word bs at
-first-word bs at = simp (getD-drop, add-zero)
-
 word-part : (x : List ℕ) (k : ℕ) → word x k ≡ word (take 4 (drop k x)) 0
 word-part x k =
     rw (part-at x k 4 0 (omega arith), part-at x k 4 1 (omega arith), part-at x k 4 2 (omega arith), part-at x k 4 3 (omega arith), add-zero)
@@ -247,13 +240,3 @@ decimal-longer n h small = rw (decimal-more n h small, length-append)
 same-fixed : (t : List ℕ) → sameText t (112 ∷ 114 ∷ 105 ∷ 110 ∷ 116 ∷ []) ≡ sameText t (bytes "print")
 unfolding bytes
 same-fixed t = refl
-
--- record i of those that stand one after the other from a place on
-pub record-at : {A : Type 0} (read : List ℕ → A) (size n from : ℕ) (bs : List ℕ) (i : ℕ) (d : A) → i < n
-    → getD (records read size n (drop from bs)) i d ≡ read (drop (from + size * i) bs)
-unfolding records
-record-at read size zero from bs i d h = absurd (not-suc-le-zero h)
-record-at read size (suc n) from bs zero d h = rw (mul-zero, add-zero)
-record-at read size (suc n) from bs (suc i) d h =
-    let further : from + size * suc i ≡ from + size + size * i = omega (arith, mul-suc size i) in
-    rw (further, drop-drop) (record-at read size n (from + size) bs i d (le-of-suc-le-suc h))

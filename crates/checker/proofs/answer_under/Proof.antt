@@ -1,5 +1,4 @@
--- The answers stand by name in answers/answer_under.txt: the walk's answer for a well-formed image, or the judge's
--- refusal.
+-- The answers stand by name in answers/answer_under.txt: the answer for a well-formed image, or the judge's refusal.
 use mathlib.Core.Path.{refl, sym, ap, _∙_}
 use Rattle.image.specs.Outcome.{faultOf}
 use Rattle.image.proofs.Answers.{judged-sound}
@@ -10,7 +9,7 @@ use Rattle.checker.proofs.answer_under.Statement.{statement}
 use Rattle.checker.proofs.answer_under.Tie as tie
 use Rattle.checker.proofs.answer_under.Reads as reads
 use Rattle.checker.proofs.answer_under.Lts as lts
-use Rattle.checker.proofs.walk_image.Reads as walk-image-reads
+use Rattle.checker.proofs.answer_well_formed.Reads as answer-well-formed-reads
 use Rattle.image.proofs.judge.Reads as judge-reads
 
 -- src/lib.rt:151:11
@@ -22,8 +21,8 @@ enum-told : tie.Need-enum-told
 enum-told c = search needs
 
 -- src/lib.rt:152:31
-walk-image-requires : tie.Need-walk-image-requires
-walk-image-requires c κs =
+answer-well-formed-requires : tie.Need-answer-well-formed-requires
+answer-well-formed-requires c κs =
     judged-sound _ _ (c .before .before .before .before .judge .ensures) .0 (c .before .before .enum-told .given .1)
 
 -- src/lib.rt:153:28
@@ -116,7 +115,7 @@ answer-under-spec =
     (tie.spec
     judge-requires
     enum-told
-    walk-image-requires
+    answer-well-formed-requires
     enum-told-2
     enum-told-3
     enum-told-4

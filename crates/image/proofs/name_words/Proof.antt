@@ -1,5 +1,5 @@
 -- The answers stand by name in answers/name_words.txt.
-use Rattle.image.proofs.Records.{name-words}
+use Rattle.meaning.proofs.Records.{name-words}
 use mathlib.Core.Path.{sym}
 use borrow.Author.Needs.{needs}
 use Rattle.image.proofs.name_words.Statement.{statement}

@@ -1,5 +1,6 @@
 -- The answers stand by name in answers/node_at.txt.
-use Rattle.image.proofs.Records.{node-at, node-inside}
+use Rattle.meaning.proofs.Records.{node-at}
+use Rattle.image.proofs.Records.{node-inside}
 use mathlib.Core.Path.{sym, _∙_}
 use native.Mathlib.Omega.{arith}
 use Rattle.image.proofs.node_at.Statement.{statement}

@@ -1,5 +1,5 @@
 -- The answers stand by name in answers/node_words.txt.
-use Rattle.image.proofs.Records.{node-words}
+use Rattle.meaning.proofs.Records.{node-words}
 use mathlib.Core.Path.{sym}
 use borrow.Author.Needs.{needs}
 use Rattle.image.proofs.node_words.Statement.{statement}
