@@ -2,3 +2,4 @@ pub mod Cases
 pub mod Rule
 pub mod Legible
 pub mod Steadiness
+pub mod Conversion

@@ -1,8 +1,9 @@
 -- Whether a program has no Def inside an If, in numbers for other languages.
-use mathlib.Core.Option.{Option, none, some}
+use mathlib.Core.Option.{Option}
 use Prim.Native.Nat.{ℕ}
 use Rattle.meaning.specs.Image.{Fault}
 use Rattle.meaning.specs.Known.{Steadiness, steady, defInIf, faulty}
+use Rattle.image.specs.Outcome.{codeTold, placeTold}
 use Rattle.load.specs.declared.Steady.{Steady}
 
 pub record SteadyNumbers : Type 0 where
@@ -27,5 +28,4 @@ steadyMeans r = record { steady = r .steady; code = r .code; place = r .place; s
 
 -- a judgment's fault; `steady` hands out none without one, so that what stands here for none is never told
 abbrev pub blame : Option Fault → SteadyNumbers
-blame none = faultNumbers 0 0
-blame (some f) = steadyNumbers (faulty f)
+blame o = faultNumbers (codeTold o) (placeTold o)

@@ -1,8 +1,10 @@
-// The load rule, and what other languages call of it, of `show` and of `steady`. "A script loads unseen exactly when it
-// is accepted and its type sheet equals the last approved sheet, byte for byte." Nothing is asked of the caller.
+// The load rule, and what other languages call of it, of `show`, of `steady` and of `convert`. "A script loads unseen
+// exactly when it is accepted and its type sheet equals the last approved sheet, byte for byte." Nothing is asked of the
+// caller.
 ghost use mathlib.Core.Path.{_≡_};
 ghost use lib.ListN.{length};
 ghost use Rattle.meaning.specs.Answer.{answer};
+ghost use Rattle.meaning.specs.Convert.{convertAnswer};
 ghost use Rattle.meaning.specs.Known.{steadiness};
 ghost use Rattle.meaning.specs.Load.{loadingNumber};
 ghost use Rattle.meaning.specs.Show.{showAnswer, changesAnswer};
@@ -10,13 +12,17 @@ ghost use Rattle.checker.specs.Answers.{sheetNumbers, numbersOf};
 ghost use Rattle.image.specs.Outcome.{faultOf};
 ghost use Rattle.show.specs.Words.{Tells};
 ghost use Rattle.load.specs.Rule.{kindOf, numbersTold, Decided, Decides, verdictMeans, Numbered};
-ghost use Rattle.load.specs.Steadiness.{steadyNumbers, faultNumbers, steadyMeans, blame};
+ghost use Rattle.convert.specs.Outcome.{Hands};
+ghost use Rattle.load.specs.Steadiness.{steadyNumbers, steadyMeans, blame};
+ghost use Rattle.load.specs.Conversion.{convertedMeans};
 use checker::Answer;
 use checker::NO_SHEET;
 use checker::SHORT_BUFFER;
 use checker::check;
 use checker::replied;
+use convert::Conversion;
 use image::Judged;
+use image::fault_of;
 use show::Telling;
 use steady::Steadiness;
 use words::same;
@@ -197,33 +203,17 @@ const STEADY: u32 = 1;
 
 const UNSTEADY: u32 = 0;
 
-// A fault of the bytes.
-fn fault(code: u32, place: usize) -> Steady
-    ensures { λ r. ⌜ steadyMeans r ≡ faultNumbers code place ⌝ }
-{
-    Steady {
-        steady: UNSTEADY,
-        code,
-        span_start: 0,
-        span_end: 0,
-        place,
-    }
-}
-
-// By the codes of document 01. `steady` never hands out a well-formed image as faulty.
+// A fault of the bytes. `steady` never hands out a well-formed image as faulty.
 fn blamed(j: Judged) -> Steady
     ensures { λ r. ⌜ steadyMeans r ≡ blame (faultOf j) ⌝ }
 {
-    match j {
-        Judged::WellFormed => fault(0, 0),
-        Judged::BadHead => fault(1, 0),
-        Judged::BadCount => fault(2, 0),
-        Judged::BadOffset => fault(3, 0),
-        Judged::BadName(i) => fault(4, i),
-        Judged::UnsafeName(i) => fault(5, i),
-        Judged::BadNode(i) => fault(6, i),
-        Judged::BadNesting(i) => fault(7, i),
-        Judged::TooDeep(i) => fault(8, i),
+    let f = fault_of(j);
+    Steady {
+        steady: UNSTEADY,
+        code: f.code,
+        span_start: 0,
+        span_end: 0,
+        place: f.place,
     }
 }
 
@@ -248,5 +238,45 @@ pub extern "C" fn cablebirch_steady(image: &[u8]) -> Steady
             place: d.node,
         },
         Steadiness::Faulty(j) => blamed(j),
+    }
+}
+
+// ---- the converter, for C and Rust
+
+// Code 0 with the length of the image that was written; 1 to 8 with its place, for bytes that are no image; or 15.
+#[repr(C)]
+pub struct Converted {
+    pub code: u32,
+    pub place: usize,
+    pub length: usize,
+}
+
+const SHORT_OUTPUT: u32 = 15;
+
+// `convert::convert` for other languages.
+#[no_mangle]
+pub extern "C" fn cablebirch_convert(image: &[u8], out: &mut [u8]) -> Converted
+    ensures { λ r. ⌜ Hands (convertAnswer (now (image .entry)) (length (now (out .entry))))
+        (convertedMeans r) (now (out .entry)) (now (out .exit)) ⌝ }
+{
+    match convert::convert(image, out) {
+        Conversion::Converted(n) => Converted {
+            code: 0,
+            place: 0,
+            length: n,
+        },
+        Conversion::Faulty(j) => {
+            let f = fault_of(j);
+            Converted {
+                code: f.code,
+                place: f.place,
+                length: 0,
+            }
+        }
+        Conversion::ShortOutput => Converted {
+            code: SHORT_OUTPUT,
+            place: 0,
+            length: 0,
+        },
     }
 }
