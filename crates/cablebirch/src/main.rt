@@ -1,7 +1,7 @@
-// The program: an image checked, its sheet written, a sheet shown, two compared, and the load rule, over files. What is
-// asked and what is said stands in `verbs`; here files are read and the answers written. All of it is proved safe and
-// ending, and no more, since no contract can say what is read or written. The status goes to descriptor 3 as one digit,
-// since `main` returns nothing.
+// The program: an image checked, its sheet written, a sheet shown, two compared, the load rule, and a stored image
+// converted, over files. What is asked and what is said stands in `verbs`; here files are read and the answers written.
+// All of it is proved safe and ending, and no more, since no contract can say what is read or written. The status goes to
+// descriptor 3 as one digit, since `main` returns nothing.
 ghost use mathlib.Core.Path.{_≡_};
 ghost use Prim.Native.Nat.{_≤_};
 ghost use lib.ListN.{length};
@@ -30,6 +30,7 @@ use verbs::Verb;
 use verbs::command_of;
 use verbs::digit_of;
 use verbs::kind_of;
+use verbs::renew;
 use verbs::say_changes;
 use verbs::say_check;
 use verbs::say_known;
@@ -304,6 +305,20 @@ fn is_changed(status: Status) -> bool {
     }
 }
 
+fn run_convert(a: usize) -> Status {
+    let mut image = [0u8; READ_AT_MOST];
+    let got = read_file(a, &mut image, true);
+    let Got::Read(_) = got else {
+        return Status::Misused;
+    };
+    let mut new = [0u8; READ_AT_MOST];
+    let mut out = [0u8; LINE];
+    let w = renew(text(&image, 0, length_of(got)), &mut new, &mut out);
+    say(text(&out, 0, w.line));
+    let status = w.status;
+    print(text(&new, 0, w.image), status)
+}
+
 fn run_help() -> Status {
     print(
         b"usage: cablebirch VERB ..   (a file `-` is standard input)\n  \
@@ -312,9 +327,10 @@ fn run_help() -> Status {
           show SHEET                        a sheet's names and types\n  \
           changes OLD NEW                   what changed between two sheets\n  \
           load [--strict] APPROVED IMAGE    loads, or look and what changed, or why it is refused\n  \
+          convert IMAGE                     a stored image with its TreeSets made Sets\n  \
           help                              these lines\n\
           --known: whether a type, once known, stays: always with --strict, else if no def is inside an if\n\
-          status: 0 accepted, equal or loads; 1 changed or look; 2 refused or no sheet; 3 nothing done\n",
+          status: 0 accepted, equal, loads or converted; 1 changed or look; 2 refused or no sheet; 3 nothing done\n",
         Status::Fine,
     )
 }
@@ -379,6 +395,7 @@ fn say_bad_words(verb: Verb) {
         Verb::Load => say(
             b"cablebirch: it must be load [--strict] APPROVED IMAGE, one of them - at most; try cablebirch help\n",
         ),
+        Verb::Convert => say(b"cablebirch: it must be convert IMAGE; try cablebirch help\n"),
         _ => say(b"cablebirch: it must be help alone; try cablebirch help\n"),
     }
 }
@@ -391,6 +408,7 @@ fn run(verb: Verb) -> Status {
         Command::ShowSheet(a) => run_show(a),
         Command::TellChanges(a, b) => run_changes(a, b),
         Command::LoadImage(setting, a, b) => run_load(setting, a, b),
+        Command::ConvertImage(a) => run_convert(a),
         Command::Usage => run_help(),
         Command::NoVerb => {
             say_no_verb();

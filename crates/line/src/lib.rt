@@ -62,7 +62,7 @@ fn accepted_line(sheet: &[u8], out: &mut [u8]) -> usize
     put(out, end, b"\n")
 }
 
-fn refused_line(
+pub fn refused_line(
     code: u32,
     place: u32,
     begins: u32,

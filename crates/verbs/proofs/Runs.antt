@@ -8,28 +8,31 @@ use Prim.Native.Nat.{ℕ, _≤_, _<_}
 use native.Mathlib.Decide.{decLt}
 use native.Mathlib.Omega.{arith}
 use lib.Dec.{eqb}
-use lib.ListN.{length, getD, take}
+use lib.ListN.{length, getD, take, length-take}
 use lib.Seq.{length-take-le, take-all}
 use Rattle.meaning.specs.Limits.{largestSheet, sheetBuffer, messageBuffer, readAtMost}
 use Rattle.meaning.specs.Base.{if_then_else_, bytes, sameText}
-use Rattle.meaning.specs.Image.{nodesOf}
+use Rattle.meaning.specs.Image.{Fault, imageFault, nodesOf}
 use Rattle.meaning.specs.Decode.{treeOf}
 use Rattle.meaning.specs.Sheet.{Entry}
 use Rattle.meaning.specs.Read.{readSheet}
 use Rattle.meaning.specs.Answer.{Answer, answer, readAnswer, overlaid}
+use Rattle.meaning.specs.Convert.{Conversion, convertAnswer}
 use Rattle.meaning.specs.Show.{Change, changes, compared}
 use Rattle.meaning.specs.Known.{NoDefInIf, Steadiness, steady, defInIf, faulty, steadiness}
 use Rattle.meaning.specs.Load.{Loading, loads, look, refused, loading, loadingNumber}
 use Rattle.meaning.proofs.Choices.{not-so, same-text}
-use Rattle.meaning.proofs.Faults.{Sound}
+use Rattle.meaning.proofs.Faults.{Sound, sound, fault-told}
+use Rattle.meaning.proofs.Converted.{convert-refused, convert-done}
 use Rattle.meaning.proofs.SheetForm.{read-some}
 use Rattle.meaning.proofs.Changed.{sheets-unchanged}
 use Rattle.meaning.proofs.Answers.{answered, overlaid-front}
-use Rattle.meaning.proofs.Cut.{answer-cut, steady-cut, read-sheet-cut}
+use Rattle.meaning.proofs.Cut.{answer-cut, convert-cut, steady-cut, read-sheet-cut}
 use Rattle.steady.proofs.Whole.{steadiness-exactly}
-use Rattle.verbs.specs.Said.{statusNumber, Said, Says, toldText, checkSaid, knownText, knownSaid, refusalOf, Writes, showSaid, changedIf, changesSaid, namesIn, lookText, loadSaidBy, loadSaid}
+use Rattle.verbs.specs.Said.{statusNumber, Said, Says, toldText, checkSaid, knownText, knownSaid, refusalOf, Writes, Renews, showSaid, changedIf, changesSaid, namesIn, lookText, loadSaidBy, loadSaid}
 use Rattle.verbs.specs.declared.Done.{Done}
 use Rattle.verbs.specs.declared.Written.{Written}
+use Rattle.verbs.specs.declared.Renewed.{Renewed}
 use Rattle.verbs.specs.declared.Status.{Status}
 use Rattle.verbs.specs.declared.Status.the-variants.{Fine, Refused}
 use Rattle.verbs.proofs.Said.{none-said, both-said, not-twelve, read-is}
@@ -51,6 +54,16 @@ one-written w v x y = (
       ∙ ap (λ (t : Status). record { sheet = v .sheet; line = v .line; status = t }) (x .status ∙ sym (y .status)),
   x .sheet .line ∙ sym (y .sheet .line),
   x .line ∙ sym (y .line),
+)
+
+-- (false of a promise that leaves open what `convert` leaves behind the image)
+pub one-renewed : {a : Conversion} {s s₁ s₂ o o₁ o₂ : List ℕ} (w v : Renewed) → Renews a s s₁ o o₁ w → Renews a s s₂ o o₂ v → (w ≡ v) × (s₁ ≡ s₂) × (o₁ ≡ o₂)
+one-renewed w v x y = (
+  ap (λ (n : ℕ). record { image = n; line = w .line; status = w .status }) (x .image .ends ∙ sym (y .image .ends))
+      ∙ ap (λ (n : ℕ). record { image = v .image; line = n; status = w .status }) (x .line .ends ∙ sym (y .line .ends))
+      ∙ ap (λ (t : Status). record { image = v .image; line = v .line; status = t }) (x .status ∙ sym (y .status)),
+  x .image .line ∙ sym (y .image .line),
+  x .line .line ∙ sym (y .line .line),
 )
 
 -- what `sheet` tells of the line is a refusal's, all of it, and of an accepted script nothing: (false of a program that prints `accepted ..` beside
@@ -125,6 +138,9 @@ pub known-cut : (setting : ℕ) (image : List ℕ) → knownSaid setting (take r
 unfolding knownSaid
 known-cut setting image = rw (answer-cut image setting sheetBuffer messageBuffer, steady-cut image) refl
 
+pub renewed-cut : (image : List ℕ) (room : ℕ) → convertAnswer (take readAtMost image) room ≡ convertAnswer image room
+renewed-cut image room = convert-cut image room
+
 pub show-cut : (bs : List ℕ) → showSaid (take readAtMost bs) ≡ showSaid bs
 unfolding showSaid
 show-cut bs = rw (read-sheet-cut bs) refl
@@ -169,3 +185,14 @@ load-cut setting image approved =
     ap (λ (b : Answer). loadSaid b (take readAtMost approved)) (answer-cut image setting sheetBuffer messageBuffer)
     ∙ ap (λ (k : Loading). loadSaidBy k a (take readAtMost approved)) (loading-cut a approved (answered sheetBuffer messageBuffer setting image .sheet-fits))
     ∙ by-cut (loading a approved) a approved
+
+-- ---- `convert`: the program lends as much room as it reads, so that 15 never comes. (False of a program with room for 59,935 bytes.)
+
+never-short-by : (bs : List ℕ) (room : ℕ) → length bs ≤ room → (o : Option Fault) → imageFault bs ≡ o → convertAnswer bs room .code ≡ 15 → ⊥
+never-short-by bs room h (some f) e c = let q = ap (λ (a : Conversion). a .code) (convert-refused bs room f e) in omega (arith, q, c, fault-told bs f e .below)
+never-short-by bs room h none e c = let q = ap (λ (a : Conversion). a .code) (convert-done bs room (sound bs .0 e) h) in omega (arith, q, c)
+
+pub never-short : (image : List ℕ) → convertAnswer (take readAtMost image) readAtMost .code ≡ 15 → ⊥
+never-short image =
+    let bs = take readAtMost image in
+    never-short-by bs readAtMost (omega (arith, length-take readAtMost image)) (imageFault bs) refl

@@ -4,8 +4,9 @@ use mathlib.Core.Bool.{true}
 use mathlib.Core.Logic.{_⊎_, inl, inr}
 use mathlib.Core.List.{List, [], _∷_, _++_}
 use mathlib.Core.Option.{Option, none, some, Option·none-ne-some, Option·some-injective}
-use Prim.Native.Nat.{ℕ, _+_, _≤_}
+use Prim.Native.Nat.{ℕ, _+_, _≤_, _<_}
 use native.Mathlib.Nat.{zero-add}
+use native.Mathlib.Decide.{decLt}
 use native.Mathlib.Omega.{arith}
 use borrow.Author.Tests.{eq-eqb, ne-eqb}
 use denote.Enum.Declared.{tagOf}
@@ -15,12 +16,15 @@ use Rattle.meaning.specs.Limits.{sheetBuffer, messageBuffer, largestShow, large
 use Rattle.meaning.specs.Base.{_or_, if_then_else_, ifSome, bytes}
 use Rattle.meaning.specs.Sheet.{Entry}
 use Rattle.meaning.specs.Read.{entriesIn, isSheet, readSheet}
-use Rattle.meaning.specs.Answer.{Answer, answer, readAnswer, overlaid, meaning-open}
-use Rattle.meaning.specs.Line.{spaced, lineOf}
+use Rattle.meaning.specs.Answer.{Answer, bare, answer, readAnswer, overlaid, meaning-open}
+use Rattle.meaning.specs.Convert.{Conversion, convertAnswer}
+use Rattle.meaning.specs.Line.{spaced, refusedLine, lineOf}
 use Rattle.meaning.specs.Show.{entriesText, Change, changesText, changes, InWords, showAnswer, changesAnswer}
-use Rattle.meaning.specs.Image.{Fault}
+use Rattle.meaning.specs.Image.{Fault, imageFault}
 use Rattle.meaning.specs.Known.{Steadiness, steady, defInIf, faulty, steadiness}
 use Rattle.meaning.specs.Load.{Loading, loads, look, loading, loadingNumber}
+use Rattle.meaning.proofs.Faults.{sound}
+use Rattle.meaning.proofs.Converted.{convert-refused, convert-short, convert-done}
 use Rattle.meaning.proofs.SheetForm.{read-yes}
 use Rattle.meaning.proofs.Changed.{no-words}
 use Rattle.meaning.proofs.InWords.{show-none, show-whole, compared-none, compared-both, changes-none, changes-whole}
@@ -30,6 +34,9 @@ use Rattle.words.specs.Words.{Wrote}
 use Rattle.words.proofs.Laws.{put-nil, put-overlaid, wrote, and-then}
 use Rattle.checker.specs.Answers.{Numbers, sheetNumbers, numbersOf, numbersIn, readingNumbers}
 use Rattle.checker.specs.declared.Answer.{Answer as Reply}
+use Rattle.checker.proofs.Places.{fault-near}
+use Rattle.convert.specs.Outcome.{Hands}
+use Rattle.convert.specs.Outcome.{Numbers as Converting}
 use Rattle.checker.specs.declared.Reading.{Reading}
 use Rattle.checker.specs.declared.Reading.the-variants.{Sheet, NoSheet}
 use Rattle.image.specs.Outcome.{faultOf}
@@ -46,7 +53,7 @@ use Rattle.load.specs.declared.Loading.{Loading as Decision}
 use Rattle.load.specs.declared.Loading.the-variants.{Loads, Look, Refused as Refuses}
 use Rattle.load.proofs.Loading.{the-type}
 use Rattle.load.proofs.Cases.{sheet-there, decides-as}
-use Rattle.verbs.specs.Said.{statusOf, statusNumber, Said, Says, spanText, firstText, toldText, checkSaid, knownText, Knows, knownSaid, refusalOf, Writes, noSheetSaid, showSaid, changedIf, changesSaid, comparedAs, namesIn, lookText, loadSaidBy, loadSaid}
+use Rattle.verbs.specs.Said.{statusOf, statusNumber, Said, Says, spanText, firstText, toldText, checkSaid, knownText, Knows, knownSaid, refusalOf, Writes, unconvertedText, Renews, noSheetSaid, showSaid, changedIf, changesSaid, comparedAs, namesIn, lookText, loadSaidBy, loadSaid}
 use Rattle.verbs.specs.declared.Status.{Status}
 use Rattle.verbs.specs.declared.Status.the-variants.{Fine, Changed, Refused}
 
@@ -177,6 +184,52 @@ module _ {a : Answer} {old mid new s s₁ m m₁ : List ℕ} {size code count st
   writes-refused z =
       let n : a .code ≡ 0 → ⊥ = λ e. z (l .told ∙ e) in
       (record { sheet = in-front; line = told .line; told = told .ends ∙ ap length (a-refusal a n); status = status-refused n }, (in-front .inside, told .inside))
+
+-- ---- `convert`
+
+near-by : (bs : List ℕ) (room : ℕ) (o : Option Fault) → imageFault bs ≡ o → convertAnswer bs room .place < 4294967296
+near-by bs room (some f) e = rw (convert-refused bs room f e) (fault-near bs f e)
+near-by bs room none e = elim (decLt room (length bs)) [
+  | yes l ↦ rw (convert-short bs room (sound bs .0 e) l) (omega arith)
+  | no l ↦ rw (convert-done bs room (sound bs .0 e) (omega arith)) (omega arith)
+]
+
+-- its place is a word
+pub convert-near : (bs : List ℕ) (room : ℕ) {n : Converting} {old new : List ℕ} → Hands (convertAnswer bs room) n old new → n .place < 4294967296
+convert-near bs room x = omega (arith, near-by bs room (imageFault bs) refl, ap (λ (k : Converting). k .place) (x .numbers))
+
+module _ {a : Conversion} {n : Converting} {s s₁ : List ℕ} (x : Hands a n s s₁) (kept : length s₁ ≡ length s) where
+  image-front : Fronted (a .image) s s₁ (n .length)
+  image-front = fronted s (a .image) (x .out) (ap (λ (k : Converting). k .length) (x .numbers)) kept
+
+  code-same : n .code ≡ a .code
+  code-same = ap (λ (k : Converting). k .code) (x .numbers)
+
+  no-text : a .code ≡ 0 → [] ≡ unconvertedText a
+  unfolding unconvertedText if_then_else_
+  no-text e = rw (eq-eqb (a .code) 0 e)
+
+  a-text : (a .code ≡ 0 → ⊥) → refusedLine (bare (a .code) (a .place)) ≡ unconvertedText a
+  unfolding unconvertedText if_then_else_
+  a-text z = rw (ne-eqb (a .code) 0 z)
+
+  pub renews-fine : (old : List ℕ) → n .code ≡ 0
+      → Renews a s s₁ old old (record { image = n .length; line = 0; status = Fine }) × ((n .length ≤ length s₁) × (0 ≤ length old))
+  renews-fine old z =
+      let e : a .code ≡ 0 = sym code-same ∙ z in
+      let w : Fronted (unconvertedText a) old old 0 =
+      subst (λ (t : List ℕ). Fronted t old old 0) (no-text e) (front-of [] (wrote [] (omega arith) (sym (put-nil old 0)) (omega arith))) in
+      (record { image = image-front; line = w; status = status-fine e }, (image-front .inside, omega arith))
+
+  pub renews-refused : {old new : List ℕ} {r : ℕ} (place : ℕ) → (n .code ≡ 0 → ⊥) → place ≡ n .place → Wrote old 0 (refusedLine (bare (n .code) place)) new r
+      → Renews a s s₁ old new (record { image = n .length; line = r; status = Refused }) × ((n .length ≤ length s₁) × (r ≤ length new))
+  renews-refused {old} {new} {r} place z p w =
+      let c : a .code ≡ 0 → ⊥ = λ e. z (code-same ∙ e) in
+      let q : place ≡ a .place = p ∙ ap (λ (k : Converting). k .place) (x .numbers) in
+      let f : Fronted (unconvertedText a) old new r =
+      subst (λ (t : List ℕ). Fronted t old new r) (ap (λ (i : ℕ). refusedLine (bare i place)) code-same ∙ ap (λ (i : ℕ). refusedLine (bare (a .code) i)) q ∙ a-text c)
+      (front-of _ w) in
+      (record { image = image-front; line = f; status = status-refused c }, (image-front .inside, f .inside))
 
 -- ---- a sheet in words: the room is always enough
 

@@ -13,14 +13,14 @@ use Rattle.meaning.specs.Base.{if_then_else_, bytes, sameText}
 use Rattle.meaning.specs.Answer.{meaning-open}
 use Rattle.verbs.specs.Words.{verbOf, kindOf, withFile, withWord, nothingAsked, askedBy, settingIf, noFile, oneFile, twoFiles, verbAsked, knownAsked, commandOf, commandTold, words-open}
 use Rattle.verbs.specs.declared.Verb.{Verb}
-use Rattle.verbs.specs.declared.Verb.the-variants.{Check, Sheet, Show, Changes, Load, Help, Nothing}
+use Rattle.verbs.specs.declared.Verb.the-variants.{Check, Sheet, Show, Changes, Load, Convert, Help, Nothing}
 use Rattle.verbs.specs.declared.Kind.{Kind}
 use Rattle.verbs.specs.declared.Kind.the-variants.{Strict, Known, Input, Name, Unknown}
 use Rattle.verbs.specs.declared.Files.{Files}
 use Rattle.verbs.specs.declared.Files.the-variants.{None, One, Two, Wrong}
 use Rattle.verbs.specs.declared.Asked.{Asked}
 use Rattle.verbs.specs.declared.Command.{Command}
-use Rattle.verbs.specs.declared.Command.the-variants.{CheckImage, CheckKnown, WriteSheet, ShowSheet, TellChanges, LoadImage, Usage, NoVerb, BadWords}
+use Rattle.verbs.specs.declared.Command.the-variants.{CheckImage, CheckKnown, WriteSheet, ShowSheet, TellChanges, LoadImage, ConvertImage, Usage, NoVerb, BadWords}
 use Rattle.verbs.proofs.Verb.{the-type as verb-type}
 use Rattle.verbs.proofs.Files.{the-type}
 
@@ -53,13 +53,18 @@ module _ (w : List ℕ) where
           is-load e = rw (a, b, c, d, e)
 
           module _ (e : sameText w (bytes "load") ≡ false) where
-            pub is-help : sameText w (bytes "help") ≡ true → Help ≡ verbOf w
+            pub is-convert : sameText w (bytes "convert") ≡ true → Convert ≡ verbOf w
             unfolding verbOf if_then_else_
-            is-help f = rw (a, b, c, d, e, f)
+            is-convert f = rw (a, b, c, d, e, f)
 
-            pub is-nothing : sameText w (bytes "help") ≡ false → Nothing ≡ verbOf w
-            unfolding verbOf if_then_else_
-            is-nothing f = rw (a, b, c, d, e, f)
+            module _ (f : sameText w (bytes "convert") ≡ false) where
+              pub is-help : sameText w (bytes "help") ≡ true → Help ≡ verbOf w
+              unfolding verbOf if_then_else_
+              is-help g = rw (a, b, c, d, e, f, g)
+
+              pub is-nothing : sameText w (bytes "help") ≡ false → Nothing ≡ verbOf w
+              unfolding verbOf if_then_else_
+              is-nothing g = rw (a, b, c, d, e, f, g)
 
 no-first : (w : List ℕ) → length w ≡ 0 → getD w 0 0 ≡ 45 → ⊥
 no-first [] e h = omega (arith, h)
@@ -218,6 +223,10 @@ module _ {v : Verb} (w : Asked) where
   unfolding verbAsked if_then_else_
   strict-changes p b = rw (p, b)
 
+  pub strict-convert : v ≡ Convert → w .strict ≡ true → BadWords ≡ verbAsked v w
+  unfolding verbAsked if_then_else_
+  strict-convert p b = rw (p, b)
+
   pub strict-help : v ≡ Help → w .strict ≡ true → BadWords ≡ verbAsked v w
   unfolding verbAsked if_then_else_
   strict-help p b = rw (p, b)
@@ -242,6 +251,14 @@ module _ {v : Verb} (w : Asked) where
     pub no-changes : v ≡ Changes → OneOf (0 ∷ 1 ∷ 3 ∷ []) (tagOf the-type (w .files)) → BadWords ≡ verbAsked v w
     unfolding verbAsked if_then_else_
     no-changes p h = rw (p, b) (two-else _ (w .files) h)
+
+    pub asks-convert : {i : ℕ} → v ≡ Convert → w .files ≡ One i → ConvertImage i ≡ verbAsked v w
+    unfolding verbAsked oneFile if_then_else_
+    asks-convert p q = rw (p, b, q)
+
+    pub no-convert : v ≡ Convert → OneOf (0 ∷ 2 ∷ 3 ∷ []) (tagOf the-type (w .files)) → BadWords ≡ verbAsked v w
+    unfolding verbAsked if_then_else_
+    no-convert p h = rw (p, b) (one-else _ (w .files) h)
 
     pub asks-help : v ≡ Help → w .files ≡ None → Usage ≡ verbAsked v w
     unfolding verbAsked noFile if_then_else_
@@ -275,24 +292,26 @@ module _ (v : Verb) (w : Asked) where
   unfolding commandOf if_then_else_
   without k = rw k
 
--- the other verbs do not take it: Sheet is 1, and Help 5
-others : {n : ℕ} → OneOf (1 ∷ 2 ∷ 3 ∷ 4 ∷ 5 ∷ []) n → (1 ≤ n) × (n ≤ 5)
+-- the other verbs do not take it: Sheet is 1, and Help 6
+others : {n : ℕ} → OneOf (1 ∷ 2 ∷ 3 ∷ 4 ∷ 5 ∷ 6 ∷ []) n → (1 ≤ n) × (n ≤ 6)
 others {n} h =
     ⊎-elim (λ e. is 1 e (omega arith) (omega arith))
     (λ i. ⊎-elim (λ e. is 2 e (omega arith) (omega arith))
     (λ j. ⊎-elim (λ e. is 3 e (omega arith) (omega arith))
-    (λ k. ⊎-elim (λ e. is 4 e (omega arith) (omega arith)) (λ e. is 5 e (omega arith) (omega arith)) k) j) i) h
+    (λ k. ⊎-elim (λ e. is 4 e (omega arith) (omega arith))
+    (λ l. ⊎-elim (λ e. is 5 e (omega arith) (omega arith)) (λ e. is 6 e (omega arith) (omega arith)) l) k) j) i) h
   where
-    is : (k : ℕ) → n ≡ k → 1 ≤ k → k ≤ 5 → (1 ≤ n) × (n ≤ 5)
+    is : (k : ℕ) → n ≡ k → 1 ≤ k → k ≤ 6 → (1 ≤ n) × (n ≤ 6)
     is k e l u = (omega (arith, e, l), omega (arith, e, u))
 
-pub known-other : (v : Verb) (w : Asked) → OneOf (1 ∷ 2 ∷ 3 ∷ 4 ∷ 5 ∷ []) (tagOf verb-type v) → BadWords ≡ knownAsked v w
+pub known-other : (v : Verb) (w : Asked) → OneOf (1 ∷ 2 ∷ 3 ∷ 4 ∷ 5 ∷ 6 ∷ []) (tagOf verb-type v) → BadWords ≡ knownAsked v w
 unfolding knownAsked
 known-other Check w h = absurd (omega (arith, others h .0))
 known-other Sheet w h = refl
 known-other Show w h = refl
 known-other Changes w h = refl
 known-other Load w h = refl
+known-other Convert w h = refl
 known-other Help w h = refl
 known-other Nothing w h = absurd (omega (arith, others h .1))
 
@@ -356,6 +375,7 @@ refusedBy Sheet = BadWords
 refusedBy Show = BadWords
 refusedBy Changes = BadWords
 refusedBy Load = BadWords
+refusedBy Convert = BadWords
 refusedBy Help = BadWords
 refusedBy Nothing = NoVerb
 
@@ -385,6 +405,7 @@ verb-refuses Sheet w e = rw e
 verb-refuses Load w e = rw e
 verb-refuses Show w e = rw e (or-bad (w .strict) refl)
 verb-refuses Changes w e = rw e (or-bad (w .strict) refl)
+verb-refuses Convert w e = rw e (or-bad (w .strict) refl)
 verb-refuses Help w e = rw e (or-bad (w .strict) refl)
 verb-refuses Nothing w e = refl
 
@@ -395,6 +416,7 @@ known-refuses Sheet w h = refl
 known-refuses Load w h = refl
 known-refuses Show w h = refl
 known-refuses Changes w h = refl
+known-refuses Convert w h = refl
 known-refuses Help w h = refl
 known-refuses Nothing w h = refl
 
@@ -432,7 +454,9 @@ pub words-so : (commandTold (bytes "load" ∷ bytes "--strict" ∷ bytes "a" ∷
     × (commandTold (bytes "check" ∷ bytes "a" ∷ bytes "b" ∷ []) ≡ BadWords)
     × (commandTold (bytes "changes" ∷ bytes "-" ∷ bytes "-" ∷ []) ≡ BadWords)
     × (commandTold (bytes "show" ∷ bytes "--strict" ∷ bytes "a" ∷ []) ≡ BadWords)
+    × (commandTold (bytes "convert" ∷ bytes "a" ∷ []) ≡ ConvertImage 2)
+    × (commandTold (bytes "convert" ∷ bytes "--strict" ∷ bytes "a" ∷ []) ≡ BadWords)
     × (commandTold (bytes "shew" ∷ bytes "a" ∷ []) ≡ NoVerb)
     × (commandTold [] ≡ NoVerb)
 unfolding meaning-open words-open
-words-so = (refl, refl, refl, refl, refl, refl, refl, refl, refl, refl, refl, refl, refl)
+words-so = (refl, refl, refl, refl, refl, refl, refl, refl, refl, refl, refl, refl, refl, refl, refl)

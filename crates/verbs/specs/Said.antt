@@ -9,8 +9,9 @@ use Rattle.meaning.specs.Limits.{sheetBuffer, messageBuffer, largestChanges}
 use Rattle.meaning.specs.Base.{_or_, if_then_else_, ifSome, bytes}
 use Rattle.meaning.specs.Sheet.{Entry}
 use Rattle.meaning.specs.Read.{readSheet}
-use Rattle.meaning.specs.Answer.{Answer, answer, overlaid}
-use Rattle.meaning.specs.Line.{spaced, lineOf}
+use Rattle.meaning.specs.Answer.{Answer, bare, answer, overlaid}
+use Rattle.meaning.specs.Convert.{Conversion}
+use Rattle.meaning.specs.Line.{spaced, refusedLine, lineOf}
 use Rattle.meaning.specs.Show.{entriesText, Change, changesText, changes, compared}
 use Rattle.meaning.specs.Known.{Steadiness, steady, defInIf, faulty, steadiness}
 use Rattle.meaning.specs.Load.{Loading, loads, look, refused, loading}
@@ -22,6 +23,7 @@ use Rattle.verbs.specs.declared.Status.{Status}
 use Rattle.verbs.specs.declared.Status.the-variants.{Fine, Changed, Refused, Misused}
 use Rattle.verbs.specs.declared.Done.{Done}
 use Rattle.verbs.specs.declared.Written.{Written}
+use Rattle.verbs.specs.declared.Renewed.{Renewed}
 
 -- ---- the status
 
@@ -102,6 +104,15 @@ pub record Writes (a : Answer) (oldSheet newSheet oldLine newLine : List ℕ) (w
   pub told : w .line ≡ length (refusalOf a)
   pub status : w .status ≡ statusOf (a .code)
 
+-- `convert`: the image for standard output, and what tells of a refusal for standard error, the line of `typecheck`
+unfoldable pub unconvertedText : Conversion → List ℕ
+unconvertedText a = if eqb (a .code) 0 then [] else refusedLine (bare (a .code) (a .place))
+
+pub record Renews (a : Conversion) (oldImage newImage oldLine newLine : List ℕ) (w : Renewed) : Type 0 where
+  pub image : Fronted (a .image) oldImage newImage (w .image)
+  pub line : Fronted (unconvertedText a) oldLine newLine (w .line)
+  pub status : w .status ≡ statusOf (a .code)
+
 -- what is no sheet has nothing to show
 abbrev pub noSheetSaid : Said
 noSheetSaid = record { text = []; status = Refused }
@@ -142,5 +153,5 @@ abbrev pub loadRoom : ℕ
 loadRoom = 5 + largestChanges
 
 unfoldable pub said-open : Unit {0}
-unfolding statusOf spanText firstText toldText checkSaid knownText knownSaid refusalOf showSaid changedIf changesSaid comparedAs namesIn lookText loadSaidBy loadSaid
+unfolding statusOf spanText firstText toldText checkSaid knownText knownSaid refusalOf unconvertedText showSaid changedIf changesSaid comparedAs namesIn lookText loadSaidBy loadSaid
 said-open = tt

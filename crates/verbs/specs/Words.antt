@@ -6,14 +6,14 @@ use lib.Dec.{eqb}
 use lib.ListN.{getD}
 use Rattle.meaning.specs.Base.{if_then_else_, bytes, sameText}
 use Rattle.verbs.specs.declared.Verb.{Verb}
-use Rattle.verbs.specs.declared.Verb.the-variants.{Check, Sheet, Show, Changes, Load, Help, Nothing}
+use Rattle.verbs.specs.declared.Verb.the-variants.{Check, Sheet, Show, Changes, Load, Convert, Help, Nothing}
 use Rattle.verbs.specs.declared.Kind.{Kind}
 use Rattle.verbs.specs.declared.Kind.the-variants.{Strict, Known, Input, Name, Unknown}
 use Rattle.verbs.specs.declared.Files.{Files}
 use Rattle.verbs.specs.declared.Files.the-variants.{None, One, Two, Wrong}
 use Rattle.verbs.specs.declared.Asked.{Asked}
 use Rattle.verbs.specs.declared.Command.{Command}
-use Rattle.verbs.specs.declared.Command.the-variants.{CheckImage, CheckKnown, WriteSheet, ShowSheet, TellChanges, LoadImage, Usage, NoVerb, BadWords}
+use Rattle.verbs.specs.declared.Command.the-variants.{CheckImage, CheckKnown, WriteSheet, ShowSheet, TellChanges, LoadImage, ConvertImage, Usage, NoVerb, BadWords}
 
 -- ---- a word
 
@@ -24,6 +24,7 @@ verbOf w =
     else if sameText w (bytes "show") then Show
     else if sameText w (bytes "changes") then Changes
     else if sameText w (bytes "load") then Load
+    else if sameText w (bytes "convert") then Convert
     else if sameText w (bytes "help") then Help
     else Nothing
 
@@ -84,13 +85,14 @@ twoFiles c (One i) = BadWords
 twoFiles c (Two i j) = c i j
 twoFiles c Wrong = BadWords
 
--- without `--known`; only what reads an image may be strict
+-- without `--known`; only what checks an image may be strict
 unfoldable pub verbAsked : Verb → Asked → Command
 verbAsked Check w = oneFile (λ i. CheckImage (settingIf (w .strict)) i) (w .files)
 verbAsked Sheet w = oneFile (λ i. WriteSheet (settingIf (w .strict)) i) (w .files)
 verbAsked Load w = twoFiles (λ i j. LoadImage (settingIf (w .strict)) i j) (w .files)
 verbAsked Show w = if w .strict then BadWords else oneFile (λ i. ShowSheet i) (w .files)
 verbAsked Changes w = if w .strict then BadWords else twoFiles (λ i j. TellChanges i j) (w .files)
+verbAsked Convert w = if w .strict then BadWords else oneFile (λ i. ConvertImage i) (w .files)
 verbAsked Help w = if w .strict then BadWords else noFile Usage (w .files)
 verbAsked Nothing w = NoVerb
 
@@ -101,6 +103,7 @@ knownAsked Sheet w = BadWords
 knownAsked Load w = BadWords
 knownAsked Show w = BadWords
 knownAsked Changes w = BadWords
+knownAsked Convert w = BadWords
 knownAsked Help w = BadWords
 knownAsked Nothing w = NoVerb
 

@@ -7,6 +7,7 @@ ghost use lib.ListN.{length};
 ghost use Rattle.meaning.specs.Limits.{sheetBuffer, messageBuffer, largestShow, largestChanges};
 ghost use Rattle.meaning.specs.Read.{isSheet};
 ghost use Rattle.meaning.specs.Answer.{answer};
+ghost use Rattle.meaning.specs.Convert.{convertAnswer};
 ghost use Rattle.meaning.specs.Show.{changesText, changes as changesOf};
 ghost use Rattle.line.specs.Printing.{Fronted};
 ghost use Rattle.words.specs.Words.{Wrote};
@@ -15,7 +16,7 @@ ghost use Rattle.show.specs.Words.{tellingLength};
 ghost use Rattle.verbs.specs.Words.{verbOf, withFile, withWord, settingIf, knownAsked};
 ghost use Rattle.verbs.specs.Words.{kindOf as kindTold, commandOf as commandAsked};
 ghost use Rattle.verbs.specs.Said.{statusNumber, statusOf, Says, spanText, firstText, checkSaid, lineRoom};
-ghost use Rattle.verbs.specs.Said.{Knows, knownText, knownLine, knownRoom, knownSaid, Writes};
+ghost use Rattle.verbs.specs.Said.{Knows, knownText, knownLine, knownRoom, knownSaid, Writes, Renews};
 ghost use Rattle.verbs.specs.Said.{showSaid, comparedAs, changesSaid, namesIn, lookText};
 ghost use Rattle.verbs.specs.Said.{loadSaid, loadRoom};
 use checker::PLAIN;
@@ -27,7 +28,9 @@ use limits::LARGEST_CHANGES;
 use limits::MESSAGE_BUFFER;
 use limits::SHEET_BUFFER;
 use line::put_spaced;
+use line::refused_line;
 use load::Loading;
+use load::cablebirch_convert;
 use rules::codes;
 use show::Telling;
 use steady::Def;
@@ -45,6 +48,7 @@ pub enum Verb {
     Show,
     Changes,
     Load,
+    Convert,
     Help,
     Nothing,
 }
@@ -66,6 +70,9 @@ pub fn verb_told(word: &[u8]) -> Verb
     }
     if same(word, b"load") {
         return Verb::Load;
+    }
+    if same(word, b"convert") {
+        return Verb::Convert;
     }
     if same(word, b"help") {
         return Verb::Help;
@@ -183,6 +190,7 @@ pub enum Command {
     ShowSheet(usize),
     TellChanges(usize, usize),
     LoadImage(u32, usize, usize),
+    ConvertImage(usize),
     Usage,
     NoVerb,
     BadWords,
@@ -211,7 +219,7 @@ fn known_asked(verb: Verb, w: Asked) -> Command
     }
 }
 
-// A verb and the number of its files must fit, and only what reads an image may be strict.
+// A verb and the number of its files must fit, and only what checks an image may be strict.
 pub fn command_of(verb: Verb, w: Asked) -> Command
     ensures { λ r. ⌜ r ≡ commandAsked verb w ⌝ }
 {
@@ -256,6 +264,15 @@ pub fn command_of(verb: Verb, w: Asked) -> Command
                 return Command::BadWords;
             };
             Command::TellChanges(i, j)
+        }
+        Verb::Convert => {
+            if w.strict {
+                return Command::BadWords;
+            }
+            let Files::One(i) = files else {
+                return Command::BadWords;
+            };
+            Command::ConvertImage(i)
         }
         Verb::Help => {
             if w.strict {
@@ -422,6 +439,35 @@ pub fn write_sheet(setting: u32, image: &[u8], sheet: &mut [u8], out: &mut [u8])
     Written {
         sheet: p.sheet,
         line,
+        status: Status::Refused,
+    }
+}
+
+// How many bytes of the converted image go to standard output, and how many of a refusal's line to standard error.
+pub struct Renewed {
+    pub image: usize,
+    pub line: usize,
+    pub status: Status,
+}
+
+// Nothing is checked: a refusal is one of the codes 1 to 8, or 15, and has no span and no message.
+pub fn renew(image: &[u8], new: &mut [u8], out: &mut [u8]) -> Renewed
+    requires { ⌜ 64 ≤ length (now out) ⌝ }
+    ensures { λ r. ⌜ Renews (convertAnswer (now (image .entry)) (length (now (new .entry))))
+        (now (new .entry)) (now (new .exit)) (now (out .entry)) (now (out .exit)) r ⌝ }
+    ensures { λ r. ⌜ (r .image ≤ length (now (new .exit))) × (r .line ≤ length (now (out .exit))) ⌝ }
+{
+    let c = cablebirch_convert(image, new);
+    if c.code == 0 {
+        return Renewed {
+            image: c.length,
+            line: 0,
+            status: Status::Fine,
+        };
+    }
+    Renewed {
+        image: c.length,
+        line: refused_line(c.code, line::word(c.place), 0, 0, b"", out),
         status: Status::Refused,
     }
 }

@@ -1,7 +1,7 @@
 -- The answers stand by name in answers/verb_told.txt.
 use mathlib.Core.Path.{sym, _∙_}
 use Rattle.meaning.specs.Base.{bytes}
-use Rattle.verbs.proofs.Words.{is-check, is-sheet, is-show, is-changes, is-load, is-help, is-nothing}
+use Rattle.verbs.proofs.Words.{is-check, is-sheet, is-show, is-changes, is-load, is-convert, is-help, is-nothing}
 use native.Mathlib.Omega.{arith}
 use borrow.Author.Needs.{needs}
 use Rattle.verbs.proofs.verb_told.Statement.{statement}
@@ -10,95 +10,87 @@ use Rattle.verbs.proofs.verb_told.Reads as reads
 use Rattle.verbs.proofs.verb_told.Lts as lts
 use Rattle.words.proofs.same.Reads as same-reads
 
--- src/lib.rt:38:19
 slice-aggregate-same : tie.Need-slice-aggregate-same
 slice-aggregate-same c = search needs
 
--- src/lib.rt:38:8
 same-requires : tie.Need-same-requires
 same-requires c κs = search needs
 
--- src/lib.rt:39:9
 returns : tie.Need-returns
 unfolding bytes
 returns c =
     is-check _ (sym (c .before .same .ensures) ∙ c .if1 .taken)
 
--- src/lib.rt:41:19
 slice-aggregate-same-2 : tie.Need-slice-aggregate-same-2
 slice-aggregate-same-2 c = search needs
 
--- src/lib.rt:41:8
 same-requires-2 : tie.Need-same-requires-2
 same-requires-2 c κs = search needs
 
--- src/lib.rt:42:9
 returns-2 : tie.Need-returns-2
 unfolding bytes
 returns-2 c =
     is-sheet _ (sym (c .before .before .before .before .same .ensures) ∙ c .before .before .before .if1 .left) (sym (c .before .same2 .ensures) ∙ c .if2 .taken)
 
--- src/lib.rt:44:19
 slice-aggregate-same-3 : tie.Need-slice-aggregate-same-3
 slice-aggregate-same-3 c = search needs
 
--- src/lib.rt:44:8
 same-requires-3 : tie.Need-same-requires-3
 same-requires-3 c κs = search needs
 
--- src/lib.rt:45:9
 returns-3 : tie.Need-returns-3
 unfolding bytes
 returns-3 c =
     is-show _ (sym (c .before .before .before .before .before .before .before .same .ensures) ∙ c .before .before .before .before .before .before .if1 .left) (sym (c .before .before .before .before .same2 .ensures) ∙ c .before .before .before .if2 .left) (sym (c .before .same3 .ensures) ∙ c .if3 .taken)
 
--- src/lib.rt:47:19
 slice-aggregate-same-4 : tie.Need-slice-aggregate-same-4
 slice-aggregate-same-4 c = search needs
 
--- src/lib.rt:47:8
 same-requires-4 : tie.Need-same-requires-4
 same-requires-4 c κs = search needs
 
--- src/lib.rt:48:9
 returns-4 : tie.Need-returns-4
 unfolding bytes
 returns-4 c =
     is-changes _ (sym (c .before .before .before .before .before .before .before .before .before .before .same .ensures) ∙ c .before .before .before .before .before .before .before .before .before .if1 .left) (sym (c .before .before .before .before .before .before .before .same2 .ensures) ∙ c .before .before .before .before .before .before .if2 .left) (sym (c .before .before .before .before .same3 .ensures) ∙ c .before .before .before .if3 .left) (sym (c .before .same4 .ensures) ∙ c .if4 .taken)
 
--- src/lib.rt:50:19
 slice-aggregate-same-5 : tie.Need-slice-aggregate-same-5
 slice-aggregate-same-5 c = search needs
 
--- src/lib.rt:50:8
 same-requires-5 : tie.Need-same-requires-5
 same-requires-5 c κs = search needs
 
--- src/lib.rt:51:9
 returns-5 : tie.Need-returns-5
 unfolding bytes
 returns-5 c =
     is-load _ (sym (c .before .before .before .before .before .before .before .before .before .before .before .before .before .same .ensures) ∙ c .before .before .before .before .before .before .before .before .before .before .before .before .if1 .left) (sym (c .before .before .before .before .before .before .before .before .before .before .same2 .ensures) ∙ c .before .before .before .before .before .before .before .before .before .if2 .left) (sym (c .before .before .before .before .before .before .before .same3 .ensures) ∙ c .before .before .before .before .before .before .if3 .left) (sym (c .before .before .before .before .same4 .ensures) ∙ c .before .before .before .if4 .left) (sym (c .before .same5 .ensures) ∙ c .if5 .taken)
 
--- src/lib.rt:53:19
 slice-aggregate-same-6 : tie.Need-slice-aggregate-same-6
 slice-aggregate-same-6 c = search needs
 
--- src/lib.rt:53:8
 same-requires-6 : tie.Need-same-requires-6
 same-requires-6 c κs = search needs
 
--- src/lib.rt:54:9
 returns-6 : tie.Need-returns-6
 unfolding bytes
 returns-6 c =
-    is-help _ (sym (c .before .before .before .before .before .before .before .before .before .before .before .before .before .before .before .before .same .ensures) ∙ c .before .before .before .before .before .before .before .before .before .before .before .before .before .before .before .if1 .left) (sym (c .before .before .before .before .before .before .before .before .before .before .before .before .before .same2 .ensures) ∙ c .before .before .before .before .before .before .before .before .before .before .before .before .if2 .left) (sym (c .before .before .before .before .before .before .before .before .before .before .same3 .ensures) ∙ c .before .before .before .before .before .before .before .before .before .if3 .left) (sym (c .before .before .before .before .before .before .before .same4 .ensures) ∙ c .before .before .before .before .before .before .if4 .left) (sym (c .before .before .before .before .same5 .ensures) ∙ c .before .before .before .if5 .left) (sym (c .before .same6 .ensures) ∙ c .if6 .taken)
+    is-convert _ (sym (c .before .before .before .before .before .before .before .before .before .before .before .before .before .before .before .before .same .ensures) ∙ c .before .before .before .before .before .before .before .before .before .before .before .before .before .before .before .if1 .left) (sym (c .before .before .before .before .before .before .before .before .before .before .before .before .before .same2 .ensures) ∙ c .before .before .before .before .before .before .before .before .before .before .before .before .if2 .left) (sym (c .before .before .before .before .before .before .before .before .before .before .same3 .ensures) ∙ c .before .before .before .before .before .before .before .before .before .if3 .left) (sym (c .before .before .before .before .before .before .before .same4 .ensures) ∙ c .before .before .before .before .before .before .if4 .left) (sym (c .before .before .before .before .same5 .ensures) ∙ c .before .before .before .if5 .left) (sym (c .before .same6 .ensures) ∙ c .if6 .taken)
 
--- src/lib.rt:35:1
+slice-aggregate-same-7 : tie.Need-slice-aggregate-same-7
+slice-aggregate-same-7 c = search needs
+
+same-requires-7 : tie.Need-same-requires-7
+same-requires-7 c κs = search needs
+
 returns-7 : tie.Need-returns-7
 unfolding bytes
 returns-7 c =
-    is-nothing _ (sym (c .before .before .before .before .before .before .before .before .before .before .before .before .before .before .before .before .same .ensures) ∙ c .before .before .before .before .before .before .before .before .before .before .before .before .before .before .before .if1 .left) (sym (c .before .before .before .before .before .before .before .before .before .before .before .before .before .same2 .ensures) ∙ c .before .before .before .before .before .before .before .before .before .before .before .before .if2 .left) (sym (c .before .before .before .before .before .before .before .before .before .before .same3 .ensures) ∙ c .before .before .before .before .before .before .before .before .before .if3 .left) (sym (c .before .before .before .before .before .before .before .same4 .ensures) ∙ c .before .before .before .before .before .before .if4 .left) (sym (c .before .before .before .before .same5 .ensures) ∙ c .before .before .before .if5 .left) (sym (c .before .same6 .ensures) ∙ c .if6 .left)
+    is-help _ (sym (c .before .before .before .before .before .before .before .before .before .before .before .before .before .before .before .before .before .before .before .same .ensures) ∙ c .before .before .before .before .before .before .before .before .before .before .before .before .before .before .before .before .before .before .if1 .left) (sym (c .before .before .before .before .before .before .before .before .before .before .before .before .before .before .before .before .same2 .ensures) ∙ c .before .before .before .before .before .before .before .before .before .before .before .before .before .before .before .if2 .left) (sym (c .before .before .before .before .before .before .before .before .before .before .before .before .before .same3 .ensures) ∙ c .before .before .before .before .before .before .before .before .before .before .before .before .if3 .left) (sym (c .before .before .before .before .before .before .before .before .before .before .same4 .ensures) ∙ c .before .before .before .before .before .before .before .before .before .if4 .left) (sym (c .before .before .before .before .before .before .before .same5 .ensures) ∙ c .before .before .before .before .before .before .if5 .left) (sym (c .before .before .before .before .same6 .ensures) ∙ c .before .before .before .if6 .left) (sym (c .before .same7 .ensures) ∙ c .if7 .taken)
+
+returns-8 : tie.Need-returns-8
+unfolding bytes
+returns-8 c =
+    is-nothing _ (sym (c .before .before .before .before .before .before .before .before .before .before .before .before .before .before .before .before .before .before .before .same .ensures) ∙ c .before .before .before .before .before .before .before .before .before .before .before .before .before .before .before .before .before .before .if1 .left) (sym (c .before .before .before .before .before .before .before .before .before .before .before .before .before .before .before .before .same2 .ensures) ∙ c .before .before .before .before .before .before .before .before .before .before .before .before .before .before .before .if2 .left) (sym (c .before .before .before .before .before .before .before .before .before .before .before .before .before .same3 .ensures) ∙ c .before .before .before .before .before .before .before .before .before .before .before .before .if3 .left) (sym (c .before .before .before .before .before .before .before .before .before .before .same4 .ensures) ∙ c .before .before .before .before .before .before .before .before .before .if4 .left) (sym (c .before .before .before .before .before .before .before .same5 .ensures) ∙ c .before .before .before .before .before .before .if5 .left) (sym (c .before .before .before .before .same6 .ensures) ∙ c .before .before .before .if6 .left) (sym (c .before .same7 .ensures) ∙ c .if7 .left)
 
 pub verb-told-spec : {M : Type 1} → statement M
 verb-told-spec =
@@ -122,4 +114,7 @@ verb-told-spec =
     slice-aggregate-same-6
     same-requires-6
     returns-6
-    returns-7)
+    slice-aggregate-same-7
+    same-requires-7
+    returns-7
+    returns-8)
