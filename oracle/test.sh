@@ -127,6 +127,107 @@ for who in judge reference; do
     $oracle $who --no-checksum < "$scratch/runs.batch" | cmp - "$scratch/alone.txt" || fail "$who does not give document 01's line alone"
 done
 
+say "14 at the lowest TreeSet, after 8 and before 9 and the typing codes"
+# A program, where its 14 is, and its former code in plain and in strict, counted by hand; - for a program without a TreeSet. u is
+# nowhere bound. Lines are parted by |.
+while IFS='~' read -r program place plain strict; do
+    printf '%s\n' "$program" | tr '|' '\n' | $oracle encode > "$scratch/retired.batch"
+    for setting in "" --strict; do
+        former=$plain
+        [ -z "$setting" ] || former=$strict
+        for who in judge reference; do
+            [ "$($oracle $who $setting --former < "$scratch/retired.batch" | sed 's/^accepted.*/accepted/; s/^refused \([0-9]*\).*/\1/')" = "$former" ] ||
+                fail "$program: $who $setting has another former answer than $former"
+            if [ "$place" = - ]; then
+                $oracle $who $setting --former < "$scratch/retired.batch" > "$scratch/wanted.txt"
+            else
+                printf 'refused 14 %s 0 0 -\n' "$place" > "$scratch/wanted.txt"
+            fi
+            $oracle $who $setting < "$scratch/retired.batch" | cmp - "$scratch/wanted.txt" || fail "$program: no 14 at $place by $who $setting"
+            $oracle convert < "$scratch/retired.batch" 2> "$scratch/note.txt" | $oracle $who $setting > "$scratch/converted.txt"
+            $oracle $who $setting --former < "$scratch/retired.batch" | cmp - "$scratch/converted.txt" || fail "$program: converted, another answer by $who $setting"
+        done
+    done
+done <<'RETIRED'
+t{1}~2~accepted~accepted
+x = {1}~-~accepted~accepted
+x = treeset([1])~-~accepted~accepted
+x = {1, t{2}}|y = t{t{3}}~5~accepted~accepted
+[1, "a", t{1}]~5~accepted~accepted
+{u: u, 1: t{1}}~6~accepted~accepted
+@int between 1 2|int(1, t{1})~5~accepted~accepted
+x = 1 + "a"|y = t{1}~8~29~29
+x = 1|x = "s"|t{-1}~8~25~25
+if True: 1 + t{-"a"}~7~accepted~34
+while True:| break| def f(): return t{1}~8~accepted~accepted
+t{a} = u~2~28~28
+u[t{1}] = t{2}~4~accepted~accepted
+if t{1}: pass~2~36~36
+for i in t{1}: x = i~2~accepted~accepted
+def a():| def b():|  def c():|   def d():|    def e():|     def f():|      def g():|       def h(): pass|t{1}~19~9~9
+RETIRED
+# Depth 64 and 65: what t{[[..[1]..]]} gets with 60 and with 61 Lists.
+for lists in 60 61; do
+    printf 't{%s1%s}\n' "$(printf '[%.0s' $(seq $lists))" "$(printf ']%.0s' $(seq $lists))" | $oracle encode > "$scratch/retired.batch"
+    $oracle judge < "$scratch/retired.batch"
+    $oracle reference < "$scratch/retired.batch"
+done > "$scratch/said.txt"
+printf 'refused %s 0 0 -\n' "14 2" "14 2" "8 64" "8 64" | cmp - "$scratch/said.txt" || fail "8 does not come before 14"
+
+say "convert makes Sets of TreeSets and keeps all else"
+cat > "$scratch/trees.txt" <<'TREES'
+a = t{1, t{2, {3}}, 4}
+---
+x = [30]
+---
+if True:
+  (b, c[t{1}]) = t{}
+TREES
+cat > "$scratch/sets.txt" <<'SETS'
+a = {1, {2, {3}}, 4}
+---
+x = [1]
+---
+if True:
+  (b, c[{1}]) = {,}
+SETS
+$oracle encode < "$scratch/trees.txt" > "$scratch/trees.batch"
+$oracle convert < "$scratch/trees.batch" > "$scratch/sets.batch" 2> "$scratch/note.txt"
+[ "$(cat "$scratch/note.txt")" = "3 images, 0 of them refused with 1 to 8 and copied as they are" ] || fail "the note of convert"
+# As show writes them, whatever their spans.
+$oracle show --source < "$scratch/sets.batch" > "$scratch/shown.txt"
+$oracle encode < "$scratch/sets.txt" | $oracle show --source | cmp - "$scratch/shown.txt" || fail "the converted programs are others"
+# Byte by byte: 30 became 29, 36 and 35 as cmp writes them, as often as there are TreeSets.
+[ "$(cmp -l "$scratch/trees.batch" "$scratch/sets.batch" | tr -s ' ' | sed 's/^ *[0-9]* //' | uniq -c | tr -s ' ')" = " 4 36 35" ] || fail "the converted bytes"
+$oracle convert < "$scratch/sets.batch" 2> "$scratch/note.txt" | cmp - "$scratch/sets.batch" || fail "converted twice, something changes"
+
+say "converted images get T's former answers"
+$oracle convert < $stored/images.batch > "$scratch/converted.batch" 2> "$scratch/note.txt"
+refused=$(grep -c '^refused [1-8] ' $stored/answers.txt)
+grep -q "images, $refused of them" "$scratch/note.txt" || fail "convert copies others than those that are refused with 1 to 8"
+$oracle generate --seed 6 --family treesets --count 600 > "$scratch/trees.batch"
+for setting in "" --strict "--sheet-room 98 --message-room 69"; do
+    for list in $stored/images.batch "$scratch/trees.batch"; do
+        # shellcheck disable=SC2086 # the rooms are words
+        $oracle judge --rules --former $setting < "$list" > "$scratch/former.txt"
+        $oracle convert < "$list" 2> "$scratch/note.txt" | $oracle judge --rules $setting | cmp - "$scratch/former.txt" || fail "a converted image has another answer, $setting"
+        $oracle compare --converted $setting $oracle reference $setting < "$list" > "$scratch/compare.txt" || { cat "$scratch/compare.txt"; fail "compare --converted, $setting"; }
+    done
+done
+if $oracle compare --converted --show 1 $oracle mistaken sets-unread < "$scratch/trees.batch" > "$scratch/compare.txt"; then fail "compare --converted finds nothing"; fi
+# Raw they are refused, so a program that is given them as they are does not pass for one that is given them converted.
+if $oracle compare --converted --show 0 sh -c 'cat > /dev/null; '"$oracle"' reference < '"$scratch/trees.batch" < "$scratch/trees.batch" > "$scratch/compare.txt"; then fail "compare --converted does not convert"; fi
+
+say "TreeSets stand in the family treesets, and in no well-formed image of another"
+for family in $($oracle families | cut -d' ' -f1); do
+    $oracle generate --seed 7 --family "$family" --count 500 > "$scratch/family.batch"
+    count=$($oracle reference < "$scratch/family.batch" | grep -c '^refused 14 ' || true)
+    case $family in
+        treesets) [ "$count" -ge 325 ] && [ "$count" -le 425 ] || fail "$count of 500 images of $family have a TreeSet" ;;
+        *) [ "$count" -eq 0 ] || fail "$count of 500 images of $family have a TreeSet" ;;
+    esac
+done
+
 say "25 and 23 point at the node that first made the old type known"
 # A program, and its code and second span in plain and in strict, counted by hand. u is nowhere bound. Lines are parted by |.
 while IFS='~' read -r program plain strict; do
@@ -189,7 +290,7 @@ if True:| x = 1| def f(): break~x = u
 LISTED
 
 say "images shown as text and read again are judged the same, spans apart"
-for family in well small stray dropped calls types bound first; do
+for family in well small stray dropped calls types bound first treesets; do
     $oracle generate --seed 3 --family $family --count 200 > "$scratch/programs.batch"
     $oracle show --source < "$scratch/programs.batch" | $oracle encode > "$scratch/again.batch"
     for list in programs again; do
@@ -214,7 +315,7 @@ for file in images.batch answers.txt strict-answers.txt notes.txt tight-images.b
     cmp "$scratch/$file" "$stored/$file" || fail "$stored/$file is not what seed $seed makes"
 done
 images_and_answers="$stored/images.batch $stored/answers.txt $stored/strict-answers.txt $stored/notes.txt $stored/tight-images.batch $stored/tight-answers.txt $stored/tight-notes.txt"
-[ "$(cat $images_and_answers | wc -c)" -lt 3600000 ] || fail "the stored lists are 3.6 MB or more"
+[ "$(cat $images_and_answers | wc -c)" -lt 3800000 ] || fail "the stored lists are 3.8 MB or more"
 
 say "the stored answers are T's, and the reference's"
 $oracle judge --rules < $stored/images.batch | cmp - $stored/answers.txt || fail "T answers otherwise"
@@ -234,12 +335,14 @@ done
 for who in "judge --rules" reference; do
     $oracle $who --sheet-room 98 --message-room 69 < $stored/tight-images.batch | cmp - $stored/tight-answers.txt || fail "$who, tight rooms"
 done
-for code in 0 1 2 3 4 5 6 7 8 9 $(seq 20 50); do
+for code in 0 1 2 3 4 5 6 7 8 9 14 $(seq 20 50); do
     if [ "$code" = 0 ]; then form="^accepted "; else form="^refused $code "; fi
     grep -q "$form" $stored/answers.txt || fail "no stored image has code $code"
     grep -q "$form" $stored/strict-answers.txt || fail "no stored image has code $code in strict"
 done
-grep -q "^refused 10 " $stored/tight-answers.txt || fail "no stored image has code 10"
+for code in 10 14; do
+    grep -q "^refused $code " $stored/tight-answers.txt || fail "no stored image has code $code in tight rooms"
+done
 
 say "every mistake is told"
 $oracle mistakes --tight $stored/tight-images.batch < $stored/images.batch > "$scratch/mistakes.txt" || { grep SURVIVES "$scratch/mistakes.txt"; fail "a mistake survives"; }
@@ -278,6 +381,11 @@ merge-lowest-node 605
 clash-at-lowest 533
 assigned-by-node 461
 strict-has-none 221 --strict
+retired-at-last 152
+retired-as-walked 152
+retired-dropped 152
+retired-before-eight 2000
+sets-retired-too 152
 PLANTED
 
 say "compare tells a program without second spans, and takes it with --no-checksum"

@@ -138,20 +138,30 @@ pub fn check_reference(seed: u64, count: u64, only: Option<&str>, setting: Setti
     total.differences == 0
 }
 
-/// Every program of up to `nodes` nodes besides the module's Block, over each pair of names.
+/// Every program of up to `nodes` nodes besides the module's Block, over each pair of names. One with a TreeSet has three
+/// answers.
 pub fn exhaust(nodes: usize, setting: Setting) -> bool {
     let all = All::new(nodes);
     let mut total = Tally::default();
+    let mut programs = 0;
     for pair in PAIRS.iter() {
         let mut tally = Tally::default();
+        let before = programs;
         for size in 0..=nodes {
             all.programs(size, pair, &mut |program| {
                 tally.compare(&program.image(), setting, Rooms::default());
+                programs += 1;
             });
         }
-        println!("{} {:?}: {} programs, {} differences", pair[0].0, pair[1].0, tally.images, tally.differences);
+        println!("{} {:?}: {} programs, {} differences", pair[0].0, pair[1].0, programs - before, tally.differences);
         total.add(&tally);
     }
-    println!("all: {} programs, {} differences; codes: {}", total.images, total.differences, total.codes());
+    println!(
+        "all: {} programs, {} answers, {} differences; codes: {}",
+        programs,
+        total.images,
+        total.differences,
+        total.codes()
+    );
     total.differences == 0
 }

@@ -203,17 +203,8 @@ const VALUES: [&str; 12] = [
     "--runs",
     "--without",
 ];
-const FLAGS: [&str; 9] = [
-    "--strict",
-    "--full",
-    "--rules",
-    "--single",
-    "--no-checksum",
-    "--source",
-    "--sheets",
-    "--former",
-    "--converted",
-];
+const FLAGS: [&str; 9] =
+    ["--strict", "--full", "--rules", "--single", "--no-checksum", "--source", "--sheets", "--former", "--converted"];
 
 impl Options {
     fn new(args: &[String]) -> Result<Options, String> {
