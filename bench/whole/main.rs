@@ -62,6 +62,9 @@ fn check(bytes: &[u8]) -> Answer {
         Ok(image) => image,
         Err(fault) => return Answer::bare(fault.code, fault.place),
     };
+    if let Some(node) = image.retired() {
+        return Answer::bare(14, node);
+    }
     let program = tree::program(&image);
     let context = judge::context(&image);
     match judge::outcome(|| semantic::framed::typecheck_program(&program, &context)) {

@@ -7,7 +7,7 @@ use native.Mathlib.Numerals.{add-one}
 use native.Mathlib.Omega.{arith}
 use lib.ListN.{length, getD, set, drop, length-append, length-set, List·getD-append}
 use lib.Seq.{getD-set-other, set-append-left, drop-at}
-use Rattle.meaning.specs.Base.{if_then_else_, word, words}
+use Rattle.meaning.specs.Base.{if_then_else_, words}
 use Rattle.meaning.specs.Image.{nodeCount, nodesFrom, nodesOf, nodeOf, isTreeSet}
 use Rattle.meaning.specs.Answer.{overlaid}
 use Rattle.meaning.specs.Convert.{kindFrom, convertedTo, converted}

@@ -8,8 +8,8 @@ use native.Mathlib.Omega.{arith}
 use lib.ListN.{length, take, drop, List·getD-map, length-drop}
 use lib.Seq.{drop-drop, take-all}
 use borrow.Author.Tests.{leb-true}
-use Rattle.meaning.specs.Base.{_and_, choose, if_then_else_, word}
-use Rattle.meaning.specs.Image.{nameRecord, nameRecords, textsOf, nameFrom, roleOf, namesOf, nameOf, node, nodesOf, nodeOf, nameCount, nodeCount, textCount, namesFrom, nodesFrom, textsFrom, total, headStands, brokenName}
+use Rattle.meaning.specs.Base.{_and_, choose, if_then_else_}
+use Rattle.meaning.specs.Image.{nameRecord, nameRecords, textsOf, nameFrom, roleOf, namesOf, nameOf, nameCount, nodeCount, textCount, namesFrom, nodesFrom, textsFrom, total, headStands, brokenName}
 use Rattle.meaning.specs.Image.{Name}
 use Rattle.meaning.proofs.Choices.{and-left}
 use Rattle.meaning.proofs.Faults.{Headed, sizes}

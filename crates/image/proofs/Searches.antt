@@ -1,6 +1,6 @@
 -- A turn of each search: what is left answers what all answer. Assumes nothing.
 use mathlib.Core.Path.{_≡_, sym, ap, _∙_}
-use mathlib.Core.Bool.{Bool, true, false, not}
+use mathlib.Core.Bool.{Bool, true, false}
 use mathlib.Core.Option.{none, some}
 use mathlib.Core.List.{List, [], _∷_}
 use Prim.Native.Nat.{ℕ, zero, suc, _+_, _-_, _<_, _≤_}
@@ -43,8 +43,8 @@ module _ (x : ImageNode) (d : Node) (e : nodeMeans d ≡ x) where
   pub is-tree-set : d .kind ≡ 30 → isTreeSet x ≡ true
   is-tree-set k = tree-set-is ∙ eq-eqb (d .kind) 30 k
 
-  pub no-tree-set : (d .kind ≡ 30 → ⊥) → isTreeSet x ≡ false
-  no-tree-set k = tree-set-is ∙ ne-eqb (d .kind) 30 k
+  pub not-tree-set : (d .kind ≡ 30 → ⊥) → isTreeSet x ≡ false
+  not-tree-set k = tree-set-is ∙ ne-eqb (d .kind) 30 k
 
 -- ---- the first name record that breaks its rules
 

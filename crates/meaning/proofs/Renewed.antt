@@ -1,11 +1,11 @@
 -- Nodes whose TreeSets are made Sets: they have the same faults and spell the same tree.
 use mathlib.Core.Path.{_≡_, refl, _∙_, ap, sym, fun-ext}
-use mathlib.Core.Bool.{Bool, true, false, not}
+use mathlib.Core.Bool.{Bool, true, false}
 use mathlib.Core.List.{List, [], _∷_, map}
 use Prim.Native.Nat.{ℕ, zero, suc, _-_}
 use borrow.Author.Tests.{eqb-true}
 use lib.Dec.{eqb}
-use lib.ListN.{length, getD, length-map, List·getD-map}
+use lib.ListN.{length-map, List·getD-map}
 use Rattle.meaning.specs.Limits.{deepest}
 use Rattle.meaning.specs.Base.{_and_, _or_, if_then_else_, choose}
 use Rattle.meaning.specs.Tree.{Expr, at, lambda, Stmt, Stmts, line, pass}

@@ -4,13 +4,13 @@ use mathlib.Core.Path.{_≡_, refl, sym, ap, _∙_}
 use mathlib.Core.Logic.{_⊎_, inl, inr}
 use mathlib.Core.List.{List, [], _∷_, _++_, append-assoc}
 use Prim.Native.Nat.{ℕ, zero, suc, _+_, _-_, _*_, _/_, _%_, _^_, _<_, _≤_}
-use native.Mathlib.Nat.{add-assoc, zero-add, add-zero, mul-zero, mul-suc, pow-suc, not-suc-le-zero, le-of-suc-le-suc}
+use native.Mathlib.Nat.{add-assoc, zero-add, add-zero, pow-suc}
 use native.Mathlib.Decide.{decLt}
 use native.Mathlib.Omega.{arith}
 use lib.ListN.{length, getD, set, take, drop, length-append, length-drop, take-append-drop, List·getD-append}
 use lib.Seq.{length-take-le, take-at, drop-at, take-append-le, drop-append-le, drop-drop, getD-drop, getD-take, getD-append-seam, split-at, paste-zero, sets-eq}
 use borrow.Author.Tests.{lt-ltb, le-ltb}
-use Rattle.meaning.specs.Base.{if_then_else_, bytes, sameText, digits, decimal, word, words, records}
+use Rattle.meaning.specs.Base.{if_then_else_, bytes, sameText, digits, decimal, word, words}
 use Rattle.meaning.specs.Answer.{overlaid}
 use Rattle.meaning.proofs.SheetWords.{Small, four-bytes, words-length}
 use Rattle.words.specs.Words.{putAt, Wrote}

@@ -1,12 +1,12 @@
 -- The answers stand by name in answers/write_converted.txt: the first i nodes of the copy are converted
-use mathlib.Core.Path.{_≡_, refl, _∙_, ap, sym}
+use mathlib.Core.Path.{_≡_, refl, _∙_, ap}
 use mathlib.Core.Logic.{⊎-elim}
 use Prim.Native.Nat.{_-_, _≤_}
 use lib.ListN.{length}
 use Rattle.meaning.specs.Answer.{overlaid}
 use Rattle.meaning.specs.Convert.{convertedTo}
 use Rattle.image.proofs.Records.{head-long, node-inside}
-use Rattle.image.proofs.Searches.{is-tree-set, no-tree-set}
+use Rattle.image.proofs.Searches.{is-tree-set, not-tree-set}
 use Rattle.words.proofs.Laws.{put-length}
 use Rattle.convert.proofs.Turning.{turned-none, turned-all, turned-other, turned-tree-set}
 use native.Mathlib.Omega.{arith}
@@ -61,7 +61,7 @@ loop-again c =
       w .2 .ensures .0
           ∙ rw (c .before .before .before .before .before .before .areas .ensures .nodes, c .before .before .before .before .before .loop .inv .2) (turned-tree-set (c .before .before .before .before .before .before .before .before .before .before .before .before .before .args .image .now) _ (c .before .before .before .before .before .loop .i) (c .before .before .before .before .before .before .before .before .before .before .before .before .before .pre .0 .headed) (omega (arith, c .before .before .before .before .before .before .areas .ensures .count)) (is-tree-set _ _ (c .before .before .node-at .ensures) (w .0 .taken))),
     ))
-    (λ w. rw (w .1) (omega (arith, c .before .before .before .if1 .taken), c .before .before .before .before .before .loop .inv .1, c .before .before .before .before .before .loop .inv .2 ∙ turned-other (c .before .before .before .before .before .before .before .before .before .before .before .before .before .args .image .now) _ (c .before .before .before .before .before .loop .i) (no-tree-set _ _ (c .before .before .node-at .ensures) (w .0 .left))))
+    (λ w. rw (w .1) (omega (arith, c .before .before .before .if1 .taken), c .before .before .before .before .before .loop .inv .1, c .before .before .before .before .before .loop .inv .2 ∙ turned-other (c .before .before .before .before .before .before .before .before .before .before .before .before .before .args .image .now) _ (c .before .before .before .before .before .loop .i) (not-tree-set _ _ (c .before .before .node-at .ensures) (w .0 .left))))
     (c .if2 .came)
 
 same-length : tie.Need-same-length Inv-loop μ-loop

@@ -1,11 +1,11 @@
 -- The answers stand by name in answers/first_tree_set.txt.
-use Rattle.image.proofs.Searches.{first-end, first-fails, first-next, is-tree-set, no-tree-set}
+use Rattle.image.proofs.Searches.{first-end, first-fails, first-next, is-tree-set, not-tree-set}
 use Rattle.image.proofs.Records.{head-long}
 use Rattle.meaning.proofs.Nesting.{nodes-many}
 use Rattle.meaning.specs.Image.{Node, nodeOf, nodesOf, isTreeSet, firstNot, firstTreeSet}
 use mathlib.Core.Bool.{Bool, not}
-use Prim.Native.Nat.{ℕ, _-_, _≤_, _<_}
-use lib.ListN.{length, drop}
+use Prim.Native.Nat.{ℕ, _-_, _≤_}
+use lib.ListN.{drop}
 use mathlib.Core.Path.{_≡_, sym, ap, _∙_}
 use native.Mathlib.Omega.{arith}
 use borrow.Author.Needs.{needs}
@@ -53,7 +53,7 @@ loop-again : tie.Need-loop-again Inv-loop μ-loop
 unfolding nodeOf
 loop-again c = (
   omega arith,
-  sym (first-next notTreeSet (nodesOf (c .before .before .before .before .before .before .before .before .args .image .now)) (c .before .before .before .before .before .loop .i) _ (rw nodes-many (omega (arith, c .before .before .before .before .before .before .areas .ensures .count))) (ap not (no-tree-set _ _ (c .before .before .node-at .ensures) (c .if2 .left)))) ∙ c .before .before .before .before .before .loop .inv .1,
+  sym (first-next notTreeSet (nodesOf (c .before .before .before .before .before .before .before .before .args .image .now)) (c .before .before .before .before .before .loop .i) _ (rw nodes-many (omega (arith, c .before .before .before .before .before .before .areas .ensures .count))) (ap not (not-tree-set _ _ (c .before .before .node-at .ensures) (c .if2 .left)))) ∙ c .before .before .before .before .before .loop .inv .1,
 )
 
 returns-2 : tie.Need-returns-2 Inv-loop μ-loop
