@@ -3,7 +3,7 @@
  * Two archives for x86-64 Linux, in target/staticlib; `rt staticlib checker` and `rt staticlib load` prove and write them:
  *
  *     libchecker.a    cablebirch_check, cablebirch_read_sheet, cablebirch_write_sheet
- *     libload.a       cablebirch_load, cablebirch_show, cablebirch_changes, cablebirch_steady
+ *     libload.a       cablebirch_load, cablebirch_show, cablebirch_changes, cablebirch_steady, cablebirch_convert
  *
  * Link the one whose functions you call, or both, in any order: neither needs the other.
  *
@@ -13,8 +13,9 @@
  * They allocate nothing and work on the caller's stack. The most that each was seen to need (measured on the deepest inputs known, by
  * bench/stack, and not proved): cablebirch_check and cablebirch_load 219 KB (218,600 and 218,712 bytes), cablebirch_read_sheet and
  * cablebirch_write_sheet 90 KB (89,704 and 89,768), cablebirch_show 124 KB (123,944), cablebirch_changes 253 KB (252,472),
- * cablebirch_steady 5 KB (4,252). With a message buffer of more than CABLEBIRCH_MESSAGE_ROOM, cablebirch_check and cablebirch_load need
- * more where a message names a type that is nested deeper than such a buffer can tell: 292,520 and 292,632 bytes for one of 1,891 levels.
+ * cablebirch_steady and cablebirch_convert 5 KB (4,252 and 4,268). With a message buffer of more than CABLEBIRCH_MESSAGE_ROOM,
+ * cablebirch_check and cablebirch_load need more where a message names a type that is nested deeper than such a buffer can tell: 292,520
+ * and 292,632 bytes for one of 1,891 levels.
  *
  * A script loads unseen exactly when it is accepted and its sheet equals the last approved sheet, byte for byte:
  *
@@ -41,7 +42,7 @@ extern "C" {
 
 /* No sheet is longer: with this much room, code 10 cannot come. */
 #define CABLEBIRCH_SHEET_MAX 42532
-/* No program image is longer. */
+/* No program image is longer: with this much room for a converted one, code 15 cannot come. */
 #define CABLEBIRCH_IMAGE_MAX 59936
 /* No text of cablebirch_show is longer, and none of cablebirch_changes: with this much room, code 10 cannot come. */
 #define CABLEBIRCH_SHOW_MAX 34176
@@ -54,12 +55,15 @@ extern "C" {
 #define CABLEBIRCH_PLAIN 0
 #define CABLEBIRCH_STRICT 1
 
-/* Codes; docs/CODES.md has them all. 1 to 8: the image is not well formed. 9: a ninth frame. 20 to 50: a typing error. */
+/* Codes; docs/CODES.md has them all. 1 to 8: the image is not well formed. 9: a ninth frame. 14: a TreeSet, which is retired. 20 to
+ * 50: a typing error. */
 #define CABLEBIRCH_ACCEPTED 0
 #define CABLEBIRCH_NINTH_FRAME 9
 #define CABLEBIRCH_SHEET_TOO_LONG 10
 #define CABLEBIRCH_NO_SHEET 12
 #define CABLEBIRCH_NO_SETTING 13
+#define CABLEBIRCH_RETIRED 14
+#define CABLEBIRCH_OUTPUT_TOO_SHORT 15
 /* The codes with a second span: after an `if` a name would have different types by branch, and a name gets a value of
  * another type than it has. Go by the code: that span too is as the image has it, and may be 0 and 0. */
 #define CABLEBIRCH_BRANCHES_DIFFER 23
@@ -73,7 +77,7 @@ typedef struct {
     uint32_t span_end;
     uint32_t second_start; /* codes 23 and 25: the span of what first made the old type known; else 0 */
     uint32_t second_end;
-    size_t place;          /* codes 4 and 5: a name's number; 6 to 9 and 20 to 50: a node's number; else 0 */
+    size_t place;          /* codes 4 and 5: a name's number; 6 to 9, 14 and 20 to 50: a node's number; else 0 */
     size_t sheet_length;   /* code 0: how many bytes of the sheet were written, at its front; else 0 */
     size_t message_length; /* codes 20 to 50: how many bytes of the message were written, at its front; 0 if it did not fit */
 } cablebirch_answer;
@@ -84,6 +88,8 @@ typedef struct {
  * Codes 20 to 50 write the message to the front of `message` if it fits (ASCII, each byte 32 to 126, with no 0 at its end); `sheet`
  * stays as it is.
  * For every other code, 10 too, no buffer is touched.
+ * Code 14 is for an image that is well formed and has a TreeSet, a node of kind 30, wherever it stands: it comes before 9 and every typing
+ * error, at the first one. cablebirch_convert makes TreeSets Sets.
  * Codes 23 and 25 tell in a second span where the old type was first set: the name where it was assigned, or what a loop goes
  * over if the loop binds the name. The old type is for 25 the one that the name has, for 23 that of the first branch that knows one. */
 cablebirch_answer cablebirch_check(uint32_t setting, const uint8_t *image, size_t image_len, uint8_t *sheet, size_t sheet_len,
@@ -156,6 +162,22 @@ typedef struct {
  * stays that type, with the place where it was first set, and it is the type in the sheet of the accepted script: in strict always, in
  * plain if `steady` is 1. (Plain passes over errors inside an `if`, and a def that fails there leaves its own variables behind.) */
 cablebirch_steadiness cablebirch_steady(const uint8_t *image, size_t image_len);
+
+typedef struct {
+    uint32_t code; /* 0, 1 to 8 if the image is not well formed, or 15 if the converted one does not fit */
+    size_t place;  /* codes 4 and 5: a name's number; 6 to 8: a node's number; else 0 */
+    size_t length; /* code 0: how many bytes of the converted image were written, at the front of `out`: the image's own number; else 0 */
+} cablebirch_conversion;
+
+/* Converts a stored image: each TreeSet (a node of kind 30) becomes a Set (29), and every other byte is the same. So an image without
+ * TreeSets comes out as it is, and converting twice changes nothing. Code 0 writes it to the front of `out`; the bytes after it stay as
+ * they are. If the image is not well formed, code and place are those that cablebirch_check gives; else 15 if `out_len` is less than
+ * `image_len`, with a TreeSet or without. On a refusal `out` is not touched. Nothing is typed: an image with typing errors is converted
+ * too.
+ * `out` must not overlap `image`: none is converted in its place.
+ * What it is for: a check of the converted image never gives 14. It gives what a check of the old one gave before TreeSets were retired:
+ * code, place, both spans, sheet and message, under either setting and with buffers of any length. So an approved sheet stays approved. */
+cablebirch_conversion cablebirch_convert(const uint8_t *image, size_t image_len, uint8_t *out, size_t out_len);
 
 #ifdef __cplusplus
 }

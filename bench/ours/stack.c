@@ -7,9 +7,9 @@
    Prints for each file: bytes, the call's code, what was called, and the file. A file is an image, checked in plain, or
    with --strict in strict, or with --told in plain and a message buffer in which every message fits. The same by the load
    rule, with the image's own sheet approved: --load, --load-strict and --load-told. With --steady it is asked whether a def
-   stands inside an if. With --read a file is a sheet that is read, with --sheet one that is read and written again, with
-   --show one whose names are shown; with --changes each two files are an old sheet and a new one. Ends with 3 if the archives
-   do not have the function. */
+   stands inside an if, with --convert the image is converted. With --read a file is a sheet that is read, with --sheet one
+   that is read and written again, with --show one whose names are shown; with --changes each two files are an old sheet and a
+   new one. Ends with 3 if the archives do not have the function. */
 #define _GNU_SOURCE
 #include "cablebirch.h"
 #include <stdio.h>
@@ -40,6 +40,12 @@ enum { HAS_STEADY = 1 };
 enum { HAS_STEADY = 0 };
 #define cablebirch_steady(...) (cablebirch_steadiness){0}
 #endif
+#ifdef CONVERT
+enum { HAS_CONVERT = 1 };
+#else
+enum { HAS_CONVERT = 0 };
+#define cablebirch_convert(...) (cablebirch_conversion){0}
+#endif
 
 enum { ROOM = 16 << 20, GUARD = 1 << 16 };
 
@@ -58,6 +64,8 @@ static int is_load(void) { return is("load") || is("load-strict") || is("load-to
 
 static int is_check(void) { return is("plain") || is("strict") || is("told"); }
 
+static int is_on_image(void) { return is_check() || is_load() || is("steady") || is("convert"); }
+
 static void call(void) {
     /* Pushing its return address is the first thing that a call writes. */
     __asm__ volatile("mov %%rsp, %0" : "=m"(entered));
@@ -69,6 +77,8 @@ static void call(void) {
         code = cablebirch_load(setting, input, length, approved, approved_length, sheet, sizeof sheet, text, room).code;
     } else if (is("steady")) {
         code = cablebirch_steady(input, length).code;
+    } else if (is("convert")) {
+        code = cablebirch_convert(input, length, text, CABLEBIRCH_IMAGE_MAX).code;
     } else if (is("read")) {
         code = cablebirch_read_sheet(input, length);
     } else if (is("sheet")) {
@@ -119,13 +129,15 @@ int main(int argc, char **argv) {
     }
     int on_sheet = is("read") || is("sheet"), in_words = is("show") || is("changes");
     int each = is("changes") ? 2 : 1;
-    if (first >= argc || (argc - first) % each || !(is_check() || is_load() || is("steady") || on_sheet || in_words)) {
-        fprintf(stderr, "usage: stack [--plain | --strict | --told | --load | --load-strict | --load-told | --steady] IMAGE...\n"
+    if (first >= argc || (argc - first) % each || !(is_on_image() || on_sheet || in_words)) {
+        fprintf(stderr, "usage: stack [--plain | --strict | --told] IMAGE...\n"
+                        "       stack --load | --load-strict | --load-told | --steady | --convert IMAGE...\n"
                         "       stack --read | --sheet | --show SHEET...\n"
                         "       stack --changes OLD NEW...\n");
         return 2;
     }
-    if ((on_sheet && !HAS_SHEETS) || ((is_load() || in_words) && !HAS_LOAD) || (is("steady") && !HAS_STEADY)) {
+    if ((on_sheet && !HAS_SHEETS) || ((is_load() || in_words) && !HAS_LOAD) || (is("steady") && !HAS_STEADY) ||
+        (is("convert") && !HAS_CONVERT)) {
         fprintf(stderr, "stack: no archive has the function for --%s\n", mode);
         return 3;
     }
