@@ -1,14 +1,15 @@
 /* usage: example [plain | strict] IMAGE [SHEET]
  *        example steady IMAGE
+ *        example convert IMAGE
  * Prints the checker's line for a program image, in plain if no setting is named, and for codes 23 and 25 where the old type was
  * first set. Given the last approved sheet, it says whether the script loads unseen; if someone must look, the names that changed
  * too, or all names if the approved file is no type sheet. With `steady` it says whether no def stands inside an if, and else which
- * one does. */
+ * one does. With `convert` it writes the image with Sets for its TreeSets to standard output. */
 #include "cablebirch.h"
 #include <stdio.h>
 #include <string.h>
 
-static uint8_t image[CABLEBIRCH_IMAGE_MAX + 1], approved[CABLEBIRCH_SHEET_MAX + 1];
+static uint8_t image[CABLEBIRCH_IMAGE_MAX + 1], converted[CABLEBIRCH_IMAGE_MAX], approved[CABLEBIRCH_SHEET_MAX + 1];
 static uint8_t sheet[CABLEBIRCH_SHEET_MAX], again[CABLEBIRCH_SHEET_MAX], message[CABLEBIRCH_MESSAGE_ROOM];
 /* For the names of a sheet too: CABLEBIRCH_SHOW_MAX is less. */
 static uint8_t text[CABLEBIRCH_CHANGES_MAX];
@@ -62,15 +63,31 @@ static void print_steadiness(size_t image_length)
         printf("a def inside an if %zu %u %u\n", s.place, s.span_start, s.span_end);
 }
 
+/* Writes the converted image, or says why there is none: code 15 is not among the reasons, as no image is longer than the room. */
+static int write_converted(size_t image_length)
+{
+    cablebirch_conversion c = cablebirch_convert(image, image_length, converted, sizeof converted);
+    if (c.code) {
+        fprintf(stderr, "refused %u %zu\n", c.code, c.place);
+        return 2;
+    }
+    if (fwrite(converted, 1, c.length, stdout) != c.length || fflush(stdout)) {
+        perror("example");
+        return 2;
+    }
+    return 0;
+}
+
 int main(int count, char **words)
 {
     uint32_t setting = CABLEBIRCH_PLAIN;
     size_t image_length, approved_length = 0;
     int steady = count == 3 && strcmp(words[1], "steady") == 0;
-    if (steady || (count > 1 && names_setting(words[1], &setting)))
+    int convert = count == 3 && strcmp(words[1], "convert") == 0;
+    if (steady || convert || (count > 1 && names_setting(words[1], &setting)))
         count--, words++;
     if (count < 2 || count > 3) {
-        fprintf(stderr, "usage: example [plain | strict] IMAGE [SHEET]\n       example steady IMAGE\n");
+        fprintf(stderr, "usage: example [plain | strict] IMAGE [SHEET]\n       example steady | convert IMAGE\n");
         return 2;
     }
     if (!read_file(words[1], image, sizeof image, &image_length))
@@ -79,6 +96,8 @@ int main(int count, char **words)
         print_steadiness(image_length);
         return 0;
     }
+    if (convert)
+        return write_converted(image_length);
     if (count == 3 && !read_file(words[2], approved, sizeof approved, &approved_length))
         return 2;
 

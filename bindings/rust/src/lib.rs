@@ -17,9 +17,9 @@
 //! ```
 //!
 //! The functions keep no state: any number of threads may call them at once. They work on the caller's stack: [`check`] was seen to
-//! need 218,600 bytes at most, [`load`] 218,712, [`read_sheet`] 89,704, [`write_sheet`] 89,768, [`show`] 123,944, [`changes`] 252,472 and
-//! [`steady`] 4,252; with a message buffer of more than [`MESSAGE_ROOM`], [`check`] up to 292,520 and [`load`] up to 292,632, where a message
-//! names a type nested 1,891 deep (measured, not proved: `bench/stack`).
+//! need 218,600 bytes at most, [`load`] 218,712, [`read_sheet`] 89,704, [`write_sheet`] 89,768, [`show`] 123,944, [`changes`] 252,472,
+//! [`steady`] 4,252 and [`convert`] 4,268; with a message buffer of more than [`MESSAGE_ROOM`], [`check`] up to 292,520 and [`load`] up to
+//! 292,632, where a message names a type nested 1,891 deep (measured, not proved: `bench/stack`).
 
 #![warn(missing_docs)]
 
@@ -27,7 +27,7 @@ use std::fmt;
 
 /// No sheet is longer: with this much room, code 10 cannot come.
 pub const SHEET_MAX: usize = 42_532;
-/// No program image is longer.
+/// No program image is longer: with this much room, code 15 cannot come.
 pub const IMAGE_MAX: usize = 59_936;
 /// No text of [`show`] is longer: with this much room, code 10 cannot come.
 pub const SHOW_MAX: usize = 34_176;
@@ -36,6 +36,8 @@ pub const CHANGES_MAX: usize = 68_864;
 /// The room for a message that the program `typecheck` has. A message that does not fit is left out whole.
 pub const MESSAGE_ROOM: usize = 1_024;
 
+/// The code for a TreeSet, which is retired: [`convert`] makes it a Set.
+pub const RETIRED: u32 = 14;
 /// The code for a name that would have different types by branch after an `if`.
 pub const BRANCHES_DIFFER: u32 = 23;
 /// The code for a name that gets a value of another type than it has.
@@ -66,9 +68,9 @@ pub enum Answer<'a> {
 /// Why an image was refused, and where.
 #[derive(Debug, Clone, Copy, PartialEq, Eq)]
 pub struct Refusal<'a> {
-    /// 1 to 10, or 20 to 50: see `docs/CODES.md`. Code 13, for a setting that is none, cannot come: a [`Setting`] is one.
+    /// 1 to 10, 14, or 20 to 50: see `docs/CODES.md`. Code 13, for a setting that is none, cannot come: a [`Setting`] is one.
     pub code: u32,
-    /// Codes 4 and 5: a name's number; 6 to 9 and 20 to 50: a node's number; else 0.
+    /// Codes 4 and 5: a name's number; 6 to 9, 14 and 20 to 50: a node's number; else 0.
     pub place: usize,
     /// Codes 20 to 50: start and end of that node's span, as the image has them; else 0 and 0.
     pub span: (u32, u32),
@@ -119,6 +121,15 @@ pub enum SheetError {
     TooShort,
     /// Code 12: the bytes are no type sheet.
     NoSheet,
+}
+
+/// Why a stored image was not converted.
+#[derive(Debug, Clone, Copy, PartialEq, Eq)]
+pub enum ConvertError {
+    /// The image is not well formed: code 1 to 8, as [`check`] refuses it under either setting.
+    Refused(Refusal<'static>),
+    /// Code 15: the image is well formed, and the buffer is shorter.
+    TooShort,
 }
 
 /// Judges a program image under a setting. An accepted one's sheet is written to the front of `sheet`, a typing error's message to
@@ -247,6 +258,24 @@ pub fn steady(image: &[u8]) -> Steadiness {
     }
 }
 
+/// Converts a stored image: each TreeSet (a node of kind 30) becomes a Set (29), and every other byte is the same. The converted image is
+/// the front of `out` and as long as the image; on a refusal `out` is not touched. Nothing is typed: an image with typing errors is
+/// converted too. One without TreeSets comes out as it is.
+///
+/// What it is for: TreeSets are retired, and [`check`] refuses an image that has one with code [`RETIRED`]. A check of the converted image
+/// gives what a check of the old one gave before that: code, place, both spans, sheet and message, under either setting and with buffers of
+/// any length. So an approved sheet stays approved.
+pub fn convert<'a>(image: &[u8], out: &'a mut [u8]) -> Result<&'a [u8], ConvertError> {
+    // Safety: the pointers and lengths are those of slices, and the one that is written is borrowed by this call alone.
+    let raw = unsafe { raw::cablebirch_convert(image.as_ptr(), image.len(), out.as_mut_ptr(), out.len()) };
+    let place = raw.place;
+    match raw.code {
+        0 => Ok(&out[..raw.length]),
+        15 => Err(ConvertError::TooShort),
+        code => Err(ConvertError::Refused(Refusal { code, place, span: (0, 0), second: None, message: &[] })),
+    }
+}
+
 /// The text that was written to the front of `out`, or why none was.
 fn told(raw: raw::RawWords, out: &[u8]) -> Result<&str, SheetError> {
     match raw.code {
@@ -287,6 +316,17 @@ impl fmt::Display for SheetError {
 }
 
 impl std::error::Error for SheetError {}
+
+impl fmt::Display for ConvertError {
+    fn fmt(&self, f: &mut fmt::Formatter<'_>) -> fmt::Result {
+        match self {
+            ConvertError::Refused(refusal) => refusal.fmt(f),
+            ConvertError::TooShort => f.write_str("the buffer is shorter than the image"),
+        }
+    }
+}
+
+impl std::error::Error for ConvertError {}
 
 /// The libraries' own functions, as `include/cablebirch.h` has them.
 mod raw {
@@ -330,6 +370,13 @@ mod raw {
         pub place: usize,
     }
 
+    #[repr(C)]
+    pub struct RawConversion {
+        pub code: u32,
+        pub place: usize,
+        pub length: usize,
+    }
+
     extern "C" {
         pub fn cablebirch_check(
             setting: u32,
@@ -363,5 +410,6 @@ mod raw {
             out_len: usize,
         ) -> RawWords;
         pub fn cablebirch_steady(image: *const u8, image_len: usize) -> RawSteadiness;
+        pub fn cablebirch_convert(image: *const u8, image_len: usize, out: *mut u8, out_len: usize) -> RawConversion;
     }
 }

@@ -41,7 +41,7 @@ fn line_of(setting: Setting, name: &str) -> String {
 
 #[test]
 fn each_example_gives_its_line() {
-    assert!(names().len() >= 9);
+    assert!(names().len() >= 11);
     for (setting, name) in cases() {
         let (mut sheet, mut message) = (vec![0; SHEET_MAX], [0; MESSAGE_ROOM]);
         let answer = check(setting, &file(&(name.clone() + ".image")), &mut sheet, &mut message);

@@ -9,7 +9,8 @@ use std::path::PathBuf;
 const SHEET_PAINT: u8 = 0xa5;
 const MESSAGE_PAINT: u8 = 0x5a;
 
-const EXAMPLES: [&str; 10] = ["bias", "bias-float", "corners", "dial", "limit", "race", "soft", "stint", "table", "wet"];
+const EXAMPLES: [&str; 11] =
+    ["bias", "bias-float", "corners", "dial", "limit", "race", "soft", "stint", "stored", "table", "wet"];
 
 fn file(name: &str) -> Vec<u8> {
     let folder = PathBuf::from(env!("CARGO_MANIFEST_DIR")).join("../../examples");
@@ -86,10 +87,10 @@ fn the_rule_on_each_example() {
             }
         }
     }
-    // Five sheets are approved that an example has: each loads in both settings, but for race in strict. Four examples are refused in both
+    // Five sheets are approved that an example has: each loads in both settings, but for race in strict. Five examples are refused in both
     // settings, race and soft in strict.
     let all = 2 * EXAMPLES.len() * approved().len();
-    let (loads, refused) = (2 * 5 - 1, (2 * 4 + 2) * approved().len());
+    let (loads, refused) = (2 * 5 - 1, (2 * 5 + 2) * approved().len());
     assert_eq!(cases, [loads, all - loads - refused, refused]);
 }
 

@@ -302,7 +302,7 @@ fn no_image() {
 fn each_example_but_soft_is_steady() {
     let folder = PathBuf::from(env!("CARGO_MANIFEST_DIR")).join("../../examples");
     let file = |name: String| fs::read(folder.join(name)).expect("the example's file can be read");
-    for name in ["bias", "bias-float", "corners", "dial", "limit", "race", "stint", "table", "wet"] {
+    for name in ["bias", "bias-float", "corners", "dial", "limit", "race", "stint", "stored", "table", "wet"] {
         holds(&file(name.to_string() + ".image"), Steadiness::Steady);
     }
     // The span is the def, to the script's end but for the newline.
