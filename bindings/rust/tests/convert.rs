@@ -6,56 +6,11 @@ use cablebirch::{
     check, convert, load, show, Answer, ConvertError, Loading, Refusal, BRANCHES_DIFFER, CANNOT_ASSIGN, IMAGE_MAX,
     MESSAGE_ROOM, RETIRED, SHEET_MAX, SHOW_MAX,
 };
+use made::*;
 use std::fs;
 use std::path::PathBuf;
 
-/// Words of an image, as document 01 has them.
-const VERSION: u32 = 1;
-const HEADER: usize = 8;
-const NAME: usize = 5;
-const NODE: usize = 6;
-const WORD: usize = 4;
-const PASS: u32 = 3;
-const ASSIGN: u32 = 5;
-const EXPR: u32 = 6;
-const RETURN: u32 = 7;
-const IF: u32 = 8;
-const WHILE: u32 = 9;
-const FOR: u32 = 10;
-const DEF: u32 = 11;
-const BLOCK: u32 = 12;
-const PARAM: u32 = 13;
-const LITERAL: u32 = 20;
-const VARIABLE: u32 = 21;
-const BINARY: u32 = 23;
-const CALL: u32 = 24;
-const ATTRIBUTE: u32 = 25;
-const LIST: u32 = 26;
-const DICT: u32 = 27;
-const TUPLE: u32 = 28;
-const SET: u32 = 29;
-const TREE_SET: u32 = 30;
-const INDEX: u32 = 31;
-const BOOL: u32 = 0;
-const INT: u32 = 1;
-const STRING: u32 = 2;
-const PLUS: u32 = 0;
-/// Roles: a plain name, a builtin of any count, and a function of one.
-const PLAIN_NAME: u32 = 0;
-const ANY_COUNT: u32 = 3;
-const FUNCTION: u32 = 4;
-/// A record's words by their place in it.
-const NODE_COUNT: usize = 3;
-const TEXT_LENGTH: usize = 1;
-const KIND: usize = 0;
-const ARG: usize = 1;
-const CHILDREN: usize = 2;
-const END: usize = 3;
-/// The most that an image may have: the bytes of a name too, and how deep its tree may be.
-const MOST_NAMES: usize = 128;
-const MOST_NODES: usize = 2048;
-const LONGEST_NAME: usize = 64;
-const DEEPEST: usize = 64;
+mod made;
 
 /// The codes of the ninth frame, of an assignment to what is no target, and of operands that cannot be added.
 const NINTH_FRAME: u32 = 9;
@@ -66,11 +21,7 @@ const CANNOT_ADD: u32 = 29;
 const F: u32 = 0;
 const X: u32 = 1;
 const Y: u32 = 2;
-const TEXTS: [(&str, u32); 3] = [("f", PLAIN_NAME), ("x", PLAIN_NAME), ("y", PLAIN_NAME)];
-
-/// What a node's number is added to for its span, a different number in each byte.
-const SPAN_START: u32 = 0x0102_0304;
-const SPAN_END: u32 = 0x1516_1718;
+const TEXTS: [(&str, u32, u32); 3] = [("f", PLAIN_NAME, 0), ("x", PLAIN_NAME, 0), ("y", PLAIN_NAME, 0)];
 
 /// What a room and the bytes around it hold before a call, and how many stand around it on each side.
 const PAINT: u8 = 0xa5;
@@ -90,14 +41,6 @@ extern "C" {
 }
 
 // ---- programs
-
-/// A node: kind, arg and children.
-#[derive(Clone)]
-struct Tree(u32, u32, Vec<Tree>);
-
-fn block(body: Vec<Tree>) -> Tree {
-    Tree(BLOCK, 0, body)
-}
 
 fn literal(which: u32) -> Tree {
     Tree(LITERAL, which, vec![])
@@ -202,47 +145,8 @@ fn everywhere(kind: u32) -> Vec<Tree> {
 
 // ---- images
 
-/// A node's record, and those of all that it holds, behind the others.
-fn record(tree: &Tree, records: &mut Vec<[u32; NODE]>) {
-    let Tree(kind, arg, children) = tree;
-    let place = records.len();
-    let span = [SPAN_START, SPAN_END].map(|at| if matches!(*kind, BLOCK | PARAM) { 0 } else { at + place as u32 });
-    records.push([*kind, *arg, children.len() as u32, 0, span[0], span[1]]);
-    for child in children {
-        record(child, records);
-    }
-    records[place][END] = records.len() as u32;
-}
-
-/// The nodes of a program.
-fn nodes(program: Vec<Tree>) -> Vec<[u32; NODE]> {
-    let mut records = vec![];
-    record(&block(program), &mut records);
-    records
-}
-
-/// The image of nodes over names, each with its role and that role's number.
-fn image_over(names: &[(String, u32, u32)], nodes: &[[u32; NODE]]) -> Vec<u8> {
-    let text: String = names.iter().map(|(text, ..)| &text[..]).collect();
-    let names_at = WORD * HEADER;
-    let nodes_at = names_at + WORD * NAME * names.len();
-    let text_at = nodes_at + WORD * NODE * nodes.len();
-    let header = [names.len(), names_at, nodes.len(), nodes_at, text.len(), text_at, text_at + text.len()];
-    let mut words = vec![VERSION];
-    words.extend(header.map(|n| n as u32));
-    let mut start = 0;
-    for (text, role, count) in names {
-        words.extend([start, text.len() as u32, *role, *count, 0]);
-        start += text.len() as u32;
-    }
-    words.extend(nodes.iter().flatten());
-    let mut image: Vec<u8> = words.iter().flat_map(|word| word.to_le_bytes()).collect();
-    image.extend(text.as_bytes());
-    image
-}
-
 fn image(nodes: &[[u32; NODE]]) -> Vec<u8> {
-    image_over(&TEXTS.map(|(text, role)| (text.to_string(), role, 0)), nodes)
+    image_over(&TEXTS, nodes)
 }
 
 fn file(name: &str) -> Vec<u8> {
@@ -412,7 +316,7 @@ fn no_images() -> Vec<(u32, Vec<u8>)> {
     let name_word = |name: u32, word: usize| HEADER + NAME * name as usize + word;
     let node_word = |node: usize, word: usize| HEADER + NAME * TEXTS.len() + NODE * node + word;
     let tree_set = all.iter().position(|node| node[KIND] == TREE_SET).expect("a TreeSet");
-    let panicking = [("f", PLAIN_NAME), ("len", ANY_COUNT), ("x", PLAIN_NAME)];
+    let panicking = [("f", PLAIN_NAME, 0), ("len", ANY_COUNT, 0), ("x", PLAIN_NAME, 0)];
     vec![
         (1, vec![]),
         (1, good[..WORD * HEADER - 1].to_vec()),
@@ -421,7 +325,7 @@ fn no_images() -> Vec<(u32, Vec<u8>)> {
         (3, good[..good.len() - 1].to_vec()),
         (3, [&good[..], &[0]].concat()),
         (4, with(name_word(X, TEXT_LENGTH), 0)),
-        (5, image_over(&panicking.map(|(text, role)| (text.to_string(), role, 0)), &all)),
+        (5, image_over(&panicking, &all)),
         (6, with(node_word(all.len() - 1, KIND), u32::MAX)),
         // 30 in the lowest byte and in each other one.
         (6, with(node_word(tree_set, KIND), 0x1e1e_1e1e)),

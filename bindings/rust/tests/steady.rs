@@ -2,53 +2,17 @@
 
 use cablebirch::Setting::{Plain, Strict};
 use cablebirch::{check, show, steady, Answer, Steadiness, MESSAGE_ROOM, SHEET_MAX, SHOW_MAX};
+use made::*;
 use std::fs;
 use std::path::PathBuf;
 
-/// Words of an image, as document 01 has them.
-const VERSION: u32 = 1;
-const HEADER: usize = 8;
-const NAME: usize = 5;
-const NODE: usize = 6;
-const WORD: usize = 4;
-const PASS: u32 = 3;
-const ASSIGN: u32 = 5;
-const EXPR: u32 = 6;
-const IF: u32 = 8;
-const WHILE: u32 = 9;
-const FOR: u32 = 10;
-const DEF: u32 = 11;
-const BLOCK: u32 = 12;
-const PARAM: u32 = 13;
-const LITERAL: u32 = 20;
-const VARIABLE: u32 = 21;
-const BINARY: u32 = 23;
-const LIST: u32 = 26;
-const BOOL: u32 = 0;
-const INT: u32 = 1;
-const STRING: u32 = 2;
-const PLUS: u32 = 0;
-/// Roles: a plain name, and a builtin of any count.
-const PLAIN_NAME: u32 = 0;
-const ANY_COUNT: u32 = 3;
-/// A record's words by their place in it.
-const NODE_COUNT: usize = 3;
-const TEXT_LENGTH: usize = 1;
-const KIND: usize = 0;
-const CHILDREN: usize = 2;
-const END: usize = 3;
-/// How deep a tree may be.
-const DEEPEST: usize = 64;
+mod made;
 
 /// The names by their numbers.
 const F: u32 = 0;
 const G: u32 = 1;
 const X: u32 = 2;
-const TEXTS: [(&str, u32); 3] = [("f", PLAIN_NAME), ("g", PLAIN_NAME), ("x", PLAIN_NAME)];
-
-/// What a node's number is added to for its span, a different number in each byte.
-const SPAN_START: u32 = 0x0102_0304;
-const SPAN_END: u32 = 0x1516_1718;
+const TEXTS: [(&str, u32, u32); 3] = [("f", PLAIN_NAME, 0), ("g", PLAIN_NAME, 0), ("x", PLAIN_NAME, 0)];
 
 /// As `include/cablebirch.h` has it.
 #[repr(C)]
@@ -63,13 +27,6 @@ struct RawSteadiness {
 
 extern "C" {
     fn cablebirch_steady(image: *const u8, image_len: usize) -> RawSteadiness;
-}
-
-/// A node: kind, arg and children.
-struct Tree(u32, u32, Vec<Tree>);
-
-fn block(body: Vec<Tree>) -> Tree {
-    Tree(BLOCK, 0, body)
 }
 
 fn pass() -> Tree {
@@ -109,49 +66,6 @@ fn if_else(then: Vec<Tree>, otherwise: Vec<Tree>) -> Tree {
 /// So many ifs, each in the one before, around a body.
 fn in_ifs(times: usize, body: Vec<Tree>) -> Vec<Tree> {
     (0..times).fold(body, |body, _| vec![if_true(vec![body])])
-}
-
-fn span_of(place: usize) -> (u32, u32) {
-    (SPAN_START + place as u32, SPAN_END + place as u32)
-}
-
-/// A node's record, and those of all that it holds, behind the others.
-fn record(tree: &Tree, records: &mut Vec<[u32; NODE]>) {
-    let Tree(kind, arg, children) = tree;
-    let place = records.len();
-    let (start, end) = if matches!(*kind, BLOCK | PARAM) { (0, 0) } else { span_of(place) };
-    records.push([*kind, *arg, children.len() as u32, 0, start, end]);
-    for child in children {
-        record(child, records);
-    }
-    records[place][END] = records.len() as u32;
-}
-
-/// The nodes of a program.
-fn nodes(program: Vec<Tree>) -> Vec<[u32; NODE]> {
-    let mut records = vec![];
-    record(&block(program), &mut records);
-    records
-}
-
-/// The image of nodes over names, each with its role.
-fn image_over(names: &[(&str, u32)], nodes: &[[u32; NODE]]) -> Vec<u8> {
-    let text: String = names.iter().map(|(text, _)| *text).collect();
-    let names_at = WORD * HEADER;
-    let nodes_at = names_at + WORD * NAME * names.len();
-    let text_at = nodes_at + WORD * NODE * nodes.len();
-    let header = [names.len(), names_at, nodes.len(), nodes_at, text.len(), text_at, text_at + text.len()];
-    let mut words = vec![VERSION];
-    words.extend(header.map(|n| n as u32));
-    let mut start = 0;
-    for (text, role) in names {
-        words.extend([start, text.len() as u32, *role, 0, 0]);
-        start += text.len() as u32;
-    }
-    words.extend(nodes.iter().flatten());
-    let mut image: Vec<u8> = words.iter().flat_map(|word| word.to_le_bytes()).collect();
-    image.extend(text.as_bytes());
-    image
 }
 
 fn image(program: Vec<Tree>) -> Vec<u8> {
@@ -266,7 +180,7 @@ fn no_images() -> Vec<(u32, Vec<u8>)> {
     let node_word = |node: usize, word: usize| HEADER + NAME * TEXTS.len() + NODE * node + word;
     let all = nodes(program());
     let inner_block = all.iter().rposition(|node| node[KIND] == BLOCK).expect("the inner def's Block");
-    let panicking = [("f", PLAIN_NAME), ("len", ANY_COUNT), ("x", PLAIN_NAME)];
+    let panicking = [("f", PLAIN_NAME, 0), ("len", ANY_COUNT, 0), ("x", PLAIN_NAME, 0)];
     vec![
         (1, vec![]),
         (1, good[..WORD * HEADER - 1].to_vec()),

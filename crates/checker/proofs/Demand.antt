@@ -1,8 +1,8 @@
 -- Demand 3, of two runs of `check` or of its C twin, each under either setting: two sheets are equal exactly when both programs list the
 -- same names with the same types. Document 02: "Demand 3 speaks of listed names from here."
 use mathlib.Core.Path.{_≡_, refl, sym, ap, _∙_, subst}
-use mathlib.Core.Logic.{_↔_}
-use mathlib.Core.Option.{Option, none, some}
+use mathlib.Core.Logic.{_↔_, inl}
+use mathlib.Core.Option.{none}
 use mathlib.Core.List.{List, [], _∷_}
 use Prim.Native.Nat.{ℕ, _≤_, _<_}
 use native.Mathlib.Omega.{arith}
@@ -10,18 +10,17 @@ use native.Mathlib.Decide.{ℕ-discrete}
 use lib.ListN.{length, drop}
 use lib.Seq.{take-append-seam}
 use Rattle.meaning.specs.Limits.{largestSheet}
-use Rattle.meaning.specs.Image.{Fault, checkFault, firstTreeSet, namesOf, nodesOf}
-use Rattle.meaning.specs.Base.{ifSome}
+use Rattle.meaning.specs.Image.{firstTreeSet, namesOf, nodesOf}
 use Rattle.meaning.specs.Decode.{treeOf}
 use Rattle.meaning.specs.Frames.{Frame, Frames, newest}
-use Rattle.meaning.specs.Walk.{Setting, plain, State, End, done, wrong, tooDeep}
+use Rattle.meaning.specs.Walk.{Setting, plain, State, End, done}
 use Rattle.meaning.specs.Sheet.{Entry, sheetOf}
 use Rattle.meaning.specs.Read.{entriesIn}
-use Rattle.meaning.specs.Answer.{Answer as Meant, written, ended, walked, walkAnswer, unlessFault, answerUnder, answer, overlaid}
-use Rattle.meaning.proofs.Faults.{Sound, walks, check-told}
-use Rattle.meaning.proofs.Answers.{answered, plain-is, no-setting, walk-last}
+use Rattle.meaning.specs.Answer.{Answer as Meant, written, ended, walked, walkAnswer, answerUnder, answer, overlaid}
+use Rattle.meaning.proofs.Faults.{Sound}
+use Rattle.meaning.proofs.Answers.{answered, plain-is, no-setting, walk-last, accepted-last}
 use Rattle.meaning.proofs.Strict.{plain-accepts}
-use Rattle.meaning.proofs.Kept.{accepted-one-frame, refused-typing}
+use Rattle.meaning.proofs.Kept.{accepted-one-frame}
 use Rattle.meaning.proofs.SheetForm.{sheet-is, sheet-length, short-trip, short-injective}
 use Rattle.meaning.proofs.Listed.{listingOf, same-list, list-same}
 use Rattle.checker.specs.Answers.{Numbers, Replies}
@@ -54,24 +53,10 @@ module _ (image : List ℕ) (room told : ℕ) where
   one-frame s e =
       only-frame (s .frames) (accepted-one-frame (namesOf image) plain (treeOf (nodesOf image)) s e) ∙ ap (λ (x : End). lowest [] (framesAt x)) (sym e)
 
-  by-end : (setting : Setting) (e : End) → walked setting image ≡ e → ended (namesOf image) (nodesOf image) room told e .code ≡ 0
-      → (s : State) × (walked setting image ≡ done s)
-  unfolding ended walked
-  by-end setting (done s) e c = (s, e)
-  by-end setting (wrong r s) e c = absurd (omega (arith, refused-typing (namesOf image) setting (treeOf (nodesOf image)) r s e .above))
-  by-end setting (tooDeep n) e c = absurd (omega arith)
-
-  by-fault : (setting : Setting) (o : Option Fault) → checkFault image ≡ o → unlessFault o setting image room told .code ≡ 0
-      → Sound image × (firstTreeSet image ≡ none) × ((s : State) × (walked setting image ≡ done s))
-  unfolding unlessFault walkAnswer ifSome
-  by-fault setting (some f) e c = absurd (omega (arith, check-told image f e .above))
-  by-fault setting none e c = let w = walks image .0 e in (w .0, w .1, by-end setting (walked setting image) refl c)
-
   -- what is accepted has a sound image with no TreeSet, and its walk ends well
   pub ends-well : (setting : Setting) → answerUnder setting image room told .code ≡ 0
       → Sound image × (firstTreeSet image ≡ none) × ((s : State) × (walked setting image ≡ done s))
-  unfolding answerUnder
-  ends-well setting c = by-fault setting (checkFault image) refl c
+  ends-well setting c = accepted-last image room told setting (inl c)
 
   plain-concluded : answerUnder plain image room told .code ≡ 0 → Concluded image (answerUnder plain image room told)
   unfolding walkAnswer ended

@@ -3,8 +3,8 @@ use mathlib.Core.Path.{_≡_, refl, _∙_, ap, sym}
 use mathlib.Core.Bool.{Bool, true, false}
 use mathlib.Core.Logic.{_⊎_, inl, inr, ⊎-elim}
 use mathlib.Core.Option.{Option, none, some}
-use mathlib.Core.List.{List, [], _∷_, _++_}
-use Prim.Native.Nat.{ℕ, _+_, _≤_, _<_}
+use mathlib.Core.List.{List, []}
+use Prim.Native.Nat.{ℕ, _≤_, _<_}
 use native.Mathlib.Omega.{arith}
 use borrow.Author.Tests.{leb-true, ne-eqb}
 use lib.Dec.{leb}
@@ -14,13 +14,13 @@ use Rattle.meaning.specs.Base.{if_then_else_, choose, ifSome}
 use Rattle.meaning.specs.Image.{Fault, Name, Node, imageFault, firstTreeSet, checkFault, namesOf, nodesOf}
 use Rattle.meaning.specs.Message.{Refusal}
 use Rattle.meaning.specs.Walk.{Setting, plain, strict, State, End, done, wrong, tooDeep}
-use Rattle.meaning.specs.Sheet.{Entry, sheetOf, withinLimits}
-use Rattle.meaning.specs.Read.{readSheet, SheetOf}
+use Rattle.meaning.specs.Sheet.{Entry}
+use Rattle.meaning.specs.Read.{readSheet}
 use Rattle.meaning.specs.Answer.{Answer, settingOf, bare, written, fitting, ended, walked, walkAnswer, unlessFault, answerUnder, answer, formerUnder, formerAnswer, readAnswer, writeAnswer, overlaid}
-use Rattle.meaning.proofs.Faults.{Sound, sound, Early, check-told, check-found, fault-told, fault-early, fault-14, no-check-fault}
+use Rattle.meaning.proofs.Faults.{Sound, sound, walks, Early, check-told, check-found, fault-told, fault-early, fault-14, no-check-fault}
 use Rattle.meaning.proofs.Codes.{Typing}
-use Rattle.meaning.proofs.Kept.{accepted-one-frame, refused-typing}
-use Rattle.meaning.proofs.SheetForm.{read-some, sheet-length}
+use Rattle.meaning.proofs.Kept.{refused-typing}
+use Rattle.meaning.proofs.SheetForm.{read-some}
 
 -- an answer to a caller who lends so much room
 pub record Answered (sheetRoom messageRoom : ℕ) (a : Answer) : Type 0 where
@@ -190,6 +190,29 @@ module _ (n : ℕ) (bs : List ℕ) (sheetRoom messageRoom : ℕ) where
           ≡ ifSome o (λ setting. formerUnder setting bs sheetRoom messageRoom) (bare 13 0)
       by none = refl
       by (some setting) = under-former setting bs sheetRoom messageRoom t
+
+-- Accepted, with a sheet that fits (0) or does not (10): nothing was found before the walk, and the walk ended well. So 10 is the last of all.
+module _ (bs : List ℕ) (sheetRoom messageRoom : ℕ) (setting : Setting) where
+  ended-well : (e : End) → walked setting bs ≡ e → let a : Answer = ended (namesOf bs) (nodesOf bs) sheetRoom messageRoom e in
+      (a .code ≡ 0) ⊎ (a .code ≡ 10) → (s : State) × (walked setting bs ≡ done s)
+  unfolding ended walked
+  ended-well (done s) w c = (s, w)
+  ended-well (wrong r s) w c =
+      let t = refused-typing (namesOf bs) setting _ r s w .above in absurd (⊎-elim (λ z. omega (arith, t)) (λ z. omega (arith, t)) c)
+  ended-well (tooDeep n) w c = absurd (⊎-elim (λ z. omega arith) (λ z. omega arith) c)
+
+  fault-well : (o : Option Fault) → checkFault bs ≡ o → let a : Answer = unlessFault o setting bs sheetRoom messageRoom in
+      (a .code ≡ 0) ⊎ (a .code ≡ 10) → Sound bs × (firstTreeSet bs ≡ none) × ((s : State) × (walked setting bs ≡ done s))
+  unfolding unlessFault walkAnswer ifSome
+  fault-well none e c = let w = walks bs .0 e in (w .0, w .1, ended-well (walked setting bs) refl c)
+  fault-well (some f) e c =
+      let t = check-told bs f e in
+      absurd (⊎-elim (λ z. omega (arith, t .above)) (λ z. ⊎-elim (λ l. omega arith) (λ l. omega arith) (t .below)) c)
+
+  pub accepted-last : let a : Answer = answerUnder setting bs sheetRoom messageRoom in
+      (a .code ≡ 0) ⊎ (a .code ≡ 10) → Sound bs × (firstTreeSet bs ≡ none) × ((s : State) × (walked setting bs ≡ done s))
+  unfolding answerUnder
+  accepted-last = fault-well (checkFault bs) refl
 
 -- 14 is given for nothing else: the image is well formed, and the place is that of its first TreeSet
 module _ (bs : List ℕ) (sheetRoom messageRoom : ℕ) where

@@ -15,6 +15,8 @@ use lib.Seq.{getD-set-same, getD-set-other, drop-set-lt, ext-getD}
 use Rattle.meaning.specs.Base.{if_then_else_, ifSome, word}
 use Rattle.meaning.specs.Image.{nameCount, nodeCount, textsFrom, Name, namesOf, Node, node, nodesOf, nodeOf, Fault, firstNot, firstFound, brokenNode, badlyNested, tooDeepNode, imageFault, isTreeSet, firstTreeSet, checkFault}
 use Rattle.meaning.specs.Convert.{kindFrom, convertedTo, converted, unconverted, convertAnswer}
+use Rattle.meaning.specs.Decode.{treeOf}
+use Rattle.meaning.specs.Known.{defsInIfs, steadyBy, steadiness}
 use Rattle.meaning.specs.Walk.{Setting, End, done, wrong, tooDeep}
 use Rattle.meaning.specs.Answer.{bare, ended, walked, walkAnswer, unlessFault, answerUnder, settingOf, answer, formerUnder, formerAnswer}
 use Rattle.meaning.proofs.Choices.{all-pass}
@@ -286,6 +288,19 @@ module _ (bs : List ℕ) (sheetRoom messageRoom : ℕ) where
   -- it is never refused for a TreeSet. (False of a converter that turns the first one alone.)
   pub never-14 : (n : ℕ) → answer n (converted bs) sheetRoom messageRoom .code ≡ 14 → ⊥
   never-14 n e = Option·none-ne-some _ (sym (no-tree-set bs) ∙ only-tree-sets (converted bs) sheetRoom messageRoom n e .1)
+
+-- ---- whether known stays known: what is told of the old image holds of the converted one
+
+steady-alike : (ds : List Node) (ns : List ℕ) → steadyBy (map renewed ds) ns ≡ steadyBy ds ns
+unfolding steadyBy
+steady-alike ds [] = refl
+steady-alike ds (n ∷ ns) = rw (span-alike ds n .0, span-alike ds n .1)
+
+-- (False of a converter that moves a Def's span.)
+pub converted-steadiness : (bs : List ℕ) → steadiness (converted bs) ≡ steadiness bs
+unfolding steadiness
+converted-steadiness bs =
+    rw (faults-same bs, nodes-renewed bs, tree-alike (nodesOf bs), steady-alike (nodesOf bs) (defsInIfs (treeOf (nodesOf bs))))
 
 -- ---- "Other images come out unchanged."
 
