@@ -1,7 +1,7 @@
 // The program: an image checked, its sheet written, a sheet shown, two compared, the load rule, and a stored image
 // converted, over files. What is asked and what is said stands in `verbs`; here files are read and the answers written.
-// All of it is proved safe and ending, and no more, since no contract can say what is read or written. The status goes to
-// descriptor 3 as one digit, since `main` returns nothing.
+// All of it is proved safe and ending, and no more, since no contract can say what is read or written. The status goes
+// to descriptor 3 as one digit, since `main` returns nothing.
 ghost use mathlib.Core.Path.{_≡_};
 ghost use Prim.Native.Nat.{_≤_};
 ghost use lib.ListN.{length};

@@ -58,8 +58,8 @@ pub struct Refusal {
     pub message: usize,
 }
 
-// Code 0 with the sheet's length; 1 to 8, those of a name or a node with its number; 9 with the Def; 10; 13; 14 with the
-// first TreeSet; or a typing refusal.
+// Code 0 with the sheet's length; 1 to 8, those of a name or a node with its number; 9 with the Def; 10; 13; 14 with
+// the first TreeSet; or a typing refusal.
 pub enum Answer {
     Accepted(usize),
     BadHead,

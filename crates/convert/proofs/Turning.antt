@@ -2,11 +2,11 @@
 use mathlib.Core.Path.{_≡_, refl, _∙_, ap, sym}
 use mathlib.Core.Bool.{true, false}
 use mathlib.Core.List.{List, [], _∷_}
-use Prim.Native.Nat.{ℕ, zero, suc, _+_, _*_, _≤_, _<_}
+use Prim.Native.Nat.{ℕ, _+_, _*_, _≤_, _<_}
 use native.Mathlib.Numerals.{add-one}
 use native.Mathlib.Omega.{arith}
 use lib.ListN.{length, getD, set, drop, length-append, length-set, List·getD-append}
-use lib.Seq.{getD-set-other, set-append-left, drop-at}
+use lib.Seq.{getD-set-other, set-append-left, set-getD, drop-at}
 use Rattle.meaning.specs.Base.{if_then_else_, words}
 use Rattle.meaning.specs.Image.{nodeCount, nodesFrom, nodesOf, nodeOf, isTreeSet}
 use Rattle.meaning.specs.Answer.{overlaid}
@@ -18,19 +18,14 @@ use Rattle.words.proofs.Steps.{put-four}
 use Rattle.words.proofs.Laws.{put-overlaid}
 use Rattle.image.proofs.Records.{node-inside}
 
--- a 0 where a 0 stands
-set-zero : (xs : List ℕ) (k : ℕ) → getD xs k 0 ≡ 0 → set xs k 0 ≡ xs
-set-zero [] k e = refl
-set-zero (x ∷ xs) zero e = ap (λ y. y ∷ xs) (sym e)
-set-zero (x ∷ xs) (suc k) e = ap (λ ys. x ∷ ys) (set-zero xs k e)
-
 -- the word 29 over three bytes of 0 is its first byte
 put-set : (d : List ℕ) (at : ℕ) → at + 4 ≤ length d → getD d (at + 1) 0 ≡ 0 → getD d (at + 2) 0 ≡ 0 → getD d (at + 3) 0 ≡ 0
     → putAt d at (words (29 ∷ [])) ≡ set d at 29
 unfolding words
 put-set d at h p q r =
     let e : List ℕ = set d at 29 in
-    let other : (k : ℕ) → (k ≡ at → ⊥) → getD d k 0 ≡ 0 → set e k 0 ≡ e = λ k n z. set-zero e k (getD-set-other d at k 29 0 n ∙ z) in
+    let other : (k : ℕ) → (k ≡ at → ⊥) → getD d k 0 ≡ 0 → set e k 0 ≡ e =
+    λ k n z. ap (λ v. set e k v) (sym (getD-set-other d at k 29 0 n ∙ z)) ∙ set-getD e k 0 in
     sym (put-four d at 29 0 0 0 h)
     ∙ rw (other (at + 1) (λ z. omega arith) p, other (at + 2) (λ z. omega arith) q, other (at + 3) (λ z. omega arith) r)
 

@@ -1,6 +1,6 @@
-// The converter for stored images: it "turns each TreeSet into a Set, all else equal byte for byte" (document 02), so that
-// what was stored before TreeSets were retired is judged as it was. It judges the image and types nothing. Nothing is
-// asked of the caller.
+// The converter for stored images: it "turns each TreeSet into a Set, all else equal byte for byte" (document 02), so
+// that what was stored before TreeSets were retired is judged as it was. It judges the image and types nothing. Nothing
+// is asked of the caller.
 ghost use mathlib.Core.Path.{_≡_};
 ghost use Prim.Native.Nat.{_≤_};
 ghost use lib.ListN.{length};

@@ -7,13 +7,14 @@ use Prim.Native.Nat.{ℕ, _≤_}
 use native.Mathlib.Decide.{decLt}
 use native.Mathlib.Omega.{arith}
 use lib.ListN.{length, take}
+use Rattle.meaning.specs.Limits.{largestImage}
 use Rattle.meaning.specs.Image.{Fault, imageFault, firstTreeSet}
 use Rattle.meaning.specs.Answer.{answer, formerAnswer}
 use Rattle.meaning.specs.Convert.{converted, convertAnswer}
 use Rattle.meaning.specs.Convert.{Conversion as Meant}
 use Rattle.meaning.proofs.Faults.{Sound, sound, fault-told}
 use Rattle.meaning.proofs.Answers.{overlaid-front}
-use Rattle.meaning.proofs.Converted.{converted-answer, never-14, unchanged, convert-refused, convert-short, convert-done}
+use Rattle.meaning.proofs.Converted.{converted-answer, never-14, unchanged, convert-refused, convert-short, convert-done, convert-roomy}
 use Rattle.convert.specs.Outcome.{Numbers, Hands}
 use Rattle.convert.proofs.Outcomes.{one-handed}
 use Rattle.load.specs.Conversion.{convertedMeans}
@@ -37,6 +38,10 @@ imageIn n buffer = take (n .length) buffer
 module _ (image : List ℕ) {n : Numbers} {old new : List ℕ} (x : Hands (convertAnswer image (length old)) n old new) where
   code-is : n .code ≡ convertAnswer image (length old) .code
   code-is = ap (λ (k : Numbers). k .code) (x .numbers)
+
+  -- in 59,936 bytes 15 does not come
+  pub never-fifteen : largestImage ≤ length old → n .code ≡ 15 → ⊥
+  never-fifteen h e = convert-roomy image (length old) h (sym code-is ∙ e)
 
   by-fault : n .code ≡ 0 → (o : Option Fault) → imageFault image ≡ o → Sound image
   by-fault c none e = sound image .0 e

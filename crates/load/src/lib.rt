@@ -1,6 +1,6 @@
 // The load rule, and what other languages call of it, of `show`, of `steady` and of `convert`. "A script loads unseen
-// exactly when it is accepted and its type sheet equals the last approved sheet, byte for byte." Nothing is asked of the
-// caller.
+// exactly when it is accepted and its type sheet equals the last approved sheet, byte for byte." Nothing is asked of
+// the caller.
 ghost use mathlib.Core.Path.{_≡_};
 ghost use lib.ListN.{length};
 ghost use Rattle.meaning.specs.Answer.{answer};

@@ -12,16 +12,17 @@ use borrow.Author.Tests.{eqb-true, le-leb, lt-leb, not-true}
 use lib.Dec.{eqb}
 use lib.ListN.{length, getD, set, drop, length-set, length-map, List·getD-map, List·getD-eq-default}
 use lib.Seq.{getD-set-same, getD-set-other, drop-set-lt, ext-getD}
+use Rattle.meaning.specs.Limits.{largestImage}
 use Rattle.meaning.specs.Base.{if_then_else_, ifSome, word}
 use Rattle.meaning.specs.Image.{nameCount, nodeCount, textsFrom, Name, namesOf, Node, node, nodesOf, nodeOf, Fault, firstNot, firstFound, brokenNode, badlyNested, tooDeepNode, imageFault, isTreeSet, firstTreeSet, checkFault}
-use Rattle.meaning.specs.Convert.{kindFrom, convertedTo, converted, unconverted, convertAnswer}
+use Rattle.meaning.specs.Convert.{kindFrom, convertedTo, converted, Conversion, unconverted, convertAnswer}
 use Rattle.meaning.specs.Decode.{treeOf}
 use Rattle.meaning.specs.Known.{defsInIfs, steadyBy, steadiness}
 use Rattle.meaning.specs.Walk.{Setting, End, done, wrong, tooDeep}
 use Rattle.meaning.specs.Answer.{bare, ended, walked, walkAnswer, unlessFault, answerUnder, settingOf, answer, formerUnder, formerAnswer}
 use Rattle.meaning.proofs.Choices.{all-pass}
 use Rattle.meaning.proofs.Records.{node-words, node-at}
-use Rattle.meaning.proofs.Faults.{Sound, sound}
+use Rattle.meaning.proofs.Faults.{Sound, sound, fault-told, image-length}
 use Rattle.meaning.proofs.Nesting.{nodes-many}
 use Rattle.meaning.proofs.Beside.{Beside, names-same, nodes-same, from-same, names-of-same, fault-same}
 use Rattle.meaning.proofs.Answers.{fault-first, only-tree-sets}
@@ -345,3 +346,14 @@ pub convert-done : (bs : List ℕ) (room : ℕ) → Sound bs → length bs ≤ r
     → convertAnswer bs room ≡ record { code = 0; place = 0; image = converted bs }
 unfolding convertAnswer ifSome if_then_else_
 convert-done bs room s h = rw (sound bs .1 s, le-leb (length bs) room h)
+
+-- no image is longer than 59,936 bytes, so that in so much room 15 does not come. (False of a room for 59,935.)
+roomy-by : (bs : List ℕ) (room : ℕ) → largestImage ≤ room → (o : Option Fault) → imageFault bs ≡ o → convertAnswer bs room .code ≡ 15 → ⊥
+roomy-by bs room h (some f) e c =
+    let q = ap (λ (a : Conversion). a .code) (convert-refused bs room f e) in omega (arith, q, c, fault-told bs f e .below)
+roomy-by bs room h none e c =
+    let s = sound bs .0 e in
+    let q = ap (λ (a : Conversion). a .code) (convert-done bs room s (omega (arith, h, image-length (s .headed)))) in omega (arith, q, c)
+
+pub convert-roomy : (bs : List ℕ) (room : ℕ) → largestImage ≤ room → convertAnswer bs room .code ≡ 15 → ⊥
+convert-roomy bs room h = roomy-by bs room h (imageFault bs) refl

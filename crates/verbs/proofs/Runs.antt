@@ -8,11 +8,11 @@ use Prim.Native.Nat.{ℕ, _≤_, _<_}
 use native.Mathlib.Decide.{decLt}
 use native.Mathlib.Omega.{arith}
 use lib.Dec.{eqb}
-use lib.ListN.{length, getD, take, length-take}
+use lib.ListN.{length, getD, take}
 use lib.Seq.{length-take-le, take-all}
 use Rattle.meaning.specs.Limits.{largestSheet, sheetBuffer, messageBuffer, readAtMost}
 use Rattle.meaning.specs.Base.{if_then_else_, bytes, sameText}
-use Rattle.meaning.specs.Image.{Fault, imageFault, nodesOf}
+use Rattle.meaning.specs.Image.{nodesOf}
 use Rattle.meaning.specs.Decode.{treeOf}
 use Rattle.meaning.specs.Sheet.{Entry}
 use Rattle.meaning.specs.Read.{readSheet}
@@ -22,8 +22,8 @@ use Rattle.meaning.specs.Show.{Change, changes, compared}
 use Rattle.meaning.specs.Known.{NoDefInIf, Steadiness, steady, defInIf, faulty, steadiness}
 use Rattle.meaning.specs.Load.{Loading, loads, look, refused, loading, loadingNumber}
 use Rattle.meaning.proofs.Choices.{not-so, same-text}
-use Rattle.meaning.proofs.Faults.{Sound, sound, fault-told}
-use Rattle.meaning.proofs.Converted.{convert-refused, convert-done}
+use Rattle.meaning.proofs.Faults.{Sound}
+use Rattle.meaning.proofs.Converted.{convert-roomy}
 use Rattle.meaning.proofs.SheetForm.{read-some}
 use Rattle.meaning.proofs.Changed.{sheets-unchanged}
 use Rattle.meaning.proofs.Answers.{answered, overlaid-front}
@@ -186,13 +186,7 @@ load-cut setting image approved =
     ∙ ap (λ (k : Loading). loadSaidBy k a (take readAtMost approved)) (loading-cut a approved (answered sheetBuffer messageBuffer setting image .sheet-fits))
     ∙ by-cut (loading a approved) a approved
 
--- ---- `convert`: the program lends as much room as it reads, so that 15 never comes. (False of a program with room for 59,935 bytes.)
+-- ---- `convert`: in the program's own room 15 never comes. (False of a program with room for 59,935 bytes.)
 
-never-short-by : (bs : List ℕ) (room : ℕ) → length bs ≤ room → (o : Option Fault) → imageFault bs ≡ o → convertAnswer bs room .code ≡ 15 → ⊥
-never-short-by bs room h (some f) e c = let q = ap (λ (a : Conversion). a .code) (convert-refused bs room f e) in omega (arith, q, c, fault-told bs f e .below)
-never-short-by bs room h none e c = let q = ap (λ (a : Conversion). a .code) (convert-done bs room (sound bs .0 e) h) in omega (arith, q, c)
-
-pub never-short : (image : List ℕ) → convertAnswer (take readAtMost image) readAtMost .code ≡ 15 → ⊥
-never-short image =
-    let bs = take readAtMost image in
-    never-short-by bs readAtMost (omega (arith, length-take readAtMost image)) (imageFault bs) refl
+pub never-short : (image : List ℕ) → convertAnswer image readAtMost .code ≡ 15 → ⊥
+never-short image = convert-roomy image readAtMost (omega arith)
