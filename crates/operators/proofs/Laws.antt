@@ -1,6 +1,6 @@
 -- What an answer means. Callers use these laws and never the text of the definitions.
 use mathlib.Core.Path.{_≡_, refl, _∙_}
-use mathlib.Core.Bool.{Bool}
+use mathlib.Core.Bool.{Bool, true}
 use mathlib.Core.Logic.{⊎-elim}
 use mathlib.Core.List.{[], _∷_}
 use mathlib.Core.Option.{none}
@@ -87,13 +87,21 @@ unary-means {k} {x} n op t p e =
       code = λ h. ⊎-elim (λ u. absurd (omega arith)) (λ u. (omega arith, omega arith)) (unary-range (unaryOf op) k .says);
     }
 
--- ---- operands changed round
+-- ---- pairs of kinds
 
--- the answer at the two kinds of place k, and at those kinds changed round
+-- what holds of all pairs of kinds by one computation holds of each
+pub all-kinds : (p : ℕ → ℕ → Bool) → firstNot (λ k x. p (k / 13) (k % 13)) 0 (count 0 169) ≡ none → (a b : ℕ) → a < 13 → b < 13 → p a b ≡ true
+unfolding count
+all-kinds p e a b ha hb =
+    let e0 : (a * 13 + b) / 13 ≡ a = omega arith in
+    let e1 : (a * 13 + b) % 13 ≡ b = omega arith in
+    rw (e0, e1) at (all-pass (λ k (x : ℕ). p (k / 13) (k % 13)) (count 0 169) 0 e (a * 13 + b) (omega arith))
+
+-- the answer for two kinds, and for those kinds changed round
 turned : BinaryOp → ℕ → ℕ → Bool
-turned o k x = eqb (operatorAnswer o (k / 13) (k % 13)) (operatorAnswer o (k % 13) (k / 13))
+turned o a b = eqb (operatorAnswer o a b) (operatorAnswer o b a)
 
-all-turned : (o : BinaryOp) → firstNot (turned o) 0 (count 0 169) ≡ none
+all-turned : (o : BinaryOp) → firstNot (λ k (x : ℕ). turned o (k / 13) (k % 13)) 0 (count 0 169) ≡ none
 unfolding turned base-open types-open image-open operators-open
 all-turned add = refl
 all-turned subtract = refl
@@ -110,13 +118,6 @@ all-turned greaterEqual = refl
 all-turned andOp = refl
 all-turned orOp = refl
 
-turned-at : (o : BinaryOp) (k : ℕ) → k < 169 → operatorAnswer o (k / 13) (k % 13) ≡ operatorAnswer o (k % 13) (k / 13)
-unfolding turned count
-turned-at o k h =
-    eqb-true _ _ (all-pass (turned o) (count 0 169) 0 (all-turned o) k h)
-
 pub symmetric : (o : BinaryOp) (a b : ℕ) → a < 13 → b < 13 → operatorAnswer o a b ≡ operatorAnswer o b a
-symmetric o a b ha hb =
-    let e0 : (a * 13 + b) / 13 ≡ a = omega arith in
-    let e1 : (a * 13 + b) % 13 ≡ b = omega arith in
-    rw (e0, e1) at (turned-at o (a * 13 + b) (omega arith))
+unfolding turned
+symmetric o a b ha hb = eqb-true _ _ (all-kinds (turned o) (all-turned o) a b ha hb)

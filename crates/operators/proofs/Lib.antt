@@ -1,4 +1,5 @@
 -- Callers use Laws alone; the rest is the inside of the lookups.
 mod Lists
+mod Places
 mod Rules
 pub mod Laws

@@ -1,14 +1,19 @@
 // The operators' answers by kinds, written by tools/operator-table. An answer is a plain type's number (0 Unknown, 1
 // Int, 2 Bool, 3 String, 4 Float), 8 for "compare the whole types", or a refusal's code. The kinds, in order:
 // Unknown, Int, Bool, String, Float, NoneType, Range, Function, List, Dict, Tuple, MapIter, FilterIter.
-pub const KINDS: usize = 13;
+const KINDS: usize = 13;
 
-const PAIRS: usize = KINDS * KINDS;
+// How many pairs of kinds there are with the lower one first, each kind beside itself among them.
+const PAIRS: usize = KINDS * (KINDS + 1) / 2;
 
-// One operator's answers: by the kind of the left operand, then by that of the right one; or by the kind of its one
-// operand.
+// One operator's answers. How a row is to be read: an operator answers the same with its operands changed round, so a
+// row has two kinds once, in order. It goes by the higher kind, then by the lower one: Unknown beside itself; Int
+// beside Unknown and Int; Bool beside Unknown, Int and Bool; and so on, up to FilterIter beside all. So a kind's
+// answers begin behind kind * (kind + 1) / 2 others: `1.0 + 2`, Float and Int, is read at "Int + Float", which is
+// place 4 * 5 / 2 + 1.
 pub type Row = [u8; PAIRS];
 
+// The answers of an operator of one operand, by its kind.
 pub type UnaryRow = [u8; KINDS];
 
 // A row for each of the 14 operators, in ast.rs order.
@@ -17,2408 +22,1316 @@ pub const ANSWERS: [Row; 14] = [
     [
         0, // Unknown + Unknown
         1, // Unknown + Int
-        29, // Unknown + Bool
-        3, // Unknown + String
-        4, // Unknown + Float
-        29, // Unknown + NoneType
-        29, // Unknown + Range
-        29, // Unknown + Function
-        29, // Unknown + List
-        29, // Unknown + Dict
-        29, // Unknown + Tuple
-        29, // Unknown + MapIter
-        29, // Unknown + FilterIter
-        1, // Int + Unknown
         1, // Int + Int
+        29, // Unknown + Bool
         29, // Int + Bool
-        29, // Int + String
-        4, // Int + Float
-        29, // Int + NoneType
-        29, // Int + Range
-        29, // Int + Function
-        29, // Int + List
-        29, // Int + Dict
-        29, // Int + Tuple
-        29, // Int + MapIter
-        29, // Int + FilterIter
-        29, // Bool + Unknown
-        29, // Bool + Int
         29, // Bool + Bool
+        3, // Unknown + String
+        29, // Int + String
         29, // Bool + String
-        29, // Bool + Float
-        29, // Bool + NoneType
-        29, // Bool + Range
-        29, // Bool + Function
-        29, // Bool + List
-        29, // Bool + Dict
-        29, // Bool + Tuple
-        29, // Bool + MapIter
-        29, // Bool + FilterIter
-        3, // String + Unknown
-        29, // String + Int
-        29, // String + Bool
         3, // String + String
+        4, // Unknown + Float
+        4, // Int + Float
+        29, // Bool + Float
         29, // String + Float
-        29, // String + NoneType
-        29, // String + Range
-        29, // String + Function
-        29, // String + List
-        29, // String + Dict
-        29, // String + Tuple
-        29, // String + MapIter
-        29, // String + FilterIter
-        4, // Float + Unknown
-        4, // Float + Int
-        29, // Float + Bool
-        29, // Float + String
         4, // Float + Float
+        29, // Unknown + NoneType
+        29, // Int + NoneType
+        29, // Bool + NoneType
+        29, // String + NoneType
         29, // Float + NoneType
-        29, // Float + Range
-        29, // Float + Function
-        29, // Float + List
-        29, // Float + Dict
-        29, // Float + Tuple
-        29, // Float + MapIter
-        29, // Float + FilterIter
-        29, // NoneType + Unknown
-        29, // NoneType + Int
-        29, // NoneType + Bool
-        29, // NoneType + String
-        29, // NoneType + Float
         29, // NoneType + NoneType
+        29, // Unknown + Range
+        29, // Int + Range
+        29, // Bool + Range
+        29, // String + Range
+        29, // Float + Range
         29, // NoneType + Range
-        29, // NoneType + Function
-        29, // NoneType + List
-        29, // NoneType + Dict
-        29, // NoneType + Tuple
-        29, // NoneType + MapIter
-        29, // NoneType + FilterIter
-        29, // Range + Unknown
-        29, // Range + Int
-        29, // Range + Bool
-        29, // Range + String
-        29, // Range + Float
-        29, // Range + NoneType
         29, // Range + Range
+        29, // Unknown + Function
+        29, // Int + Function
+        29, // Bool + Function
+        29, // String + Function
+        29, // Float + Function
+        29, // NoneType + Function
         29, // Range + Function
-        29, // Range + List
-        29, // Range + Dict
-        29, // Range + Tuple
-        29, // Range + MapIter
-        29, // Range + FilterIter
-        29, // Function + Unknown
-        29, // Function + Int
-        29, // Function + Bool
-        29, // Function + String
-        29, // Function + Float
-        29, // Function + NoneType
-        29, // Function + Range
         29, // Function + Function
+        29, // Unknown + List
+        29, // Int + List
+        29, // Bool + List
+        29, // String + List
+        29, // Float + List
+        29, // NoneType + List
+        29, // Range + List
         29, // Function + List
-        29, // Function + Dict
-        29, // Function + Tuple
-        29, // Function + MapIter
-        29, // Function + FilterIter
-        29, // List + Unknown
-        29, // List + Int
-        29, // List + Bool
-        29, // List + String
-        29, // List + Float
-        29, // List + NoneType
-        29, // List + Range
-        29, // List + Function
         29, // List + List
+        29, // Unknown + Dict
+        29, // Int + Dict
+        29, // Bool + Dict
+        29, // String + Dict
+        29, // Float + Dict
+        29, // NoneType + Dict
+        29, // Range + Dict
+        29, // Function + Dict
         29, // List + Dict
-        29, // List + Tuple
-        29, // List + MapIter
-        29, // List + FilterIter
-        29, // Dict + Unknown
-        29, // Dict + Int
-        29, // Dict + Bool
-        29, // Dict + String
-        29, // Dict + Float
-        29, // Dict + NoneType
-        29, // Dict + Range
-        29, // Dict + Function
-        29, // Dict + List
         29, // Dict + Dict
+        29, // Unknown + Tuple
+        29, // Int + Tuple
+        29, // Bool + Tuple
+        29, // String + Tuple
+        29, // Float + Tuple
+        29, // NoneType + Tuple
+        29, // Range + Tuple
+        29, // Function + Tuple
+        29, // List + Tuple
         29, // Dict + Tuple
-        29, // Dict + MapIter
-        29, // Dict + FilterIter
-        29, // Tuple + Unknown
-        29, // Tuple + Int
-        29, // Tuple + Bool
-        29, // Tuple + String
-        29, // Tuple + Float
-        29, // Tuple + NoneType
-        29, // Tuple + Range
-        29, // Tuple + Function
-        29, // Tuple + List
-        29, // Tuple + Dict
         29, // Tuple + Tuple
+        29, // Unknown + MapIter
+        29, // Int + MapIter
+        29, // Bool + MapIter
+        29, // String + MapIter
+        29, // Float + MapIter
+        29, // NoneType + MapIter
+        29, // Range + MapIter
+        29, // Function + MapIter
+        29, // List + MapIter
+        29, // Dict + MapIter
         29, // Tuple + MapIter
-        29, // Tuple + FilterIter
-        29, // MapIter + Unknown
-        29, // MapIter + Int
-        29, // MapIter + Bool
-        29, // MapIter + String
-        29, // MapIter + Float
-        29, // MapIter + NoneType
-        29, // MapIter + Range
-        29, // MapIter + Function
-        29, // MapIter + List
-        29, // MapIter + Dict
-        29, // MapIter + Tuple
         29, // MapIter + MapIter
+        29, // Unknown + FilterIter
+        29, // Int + FilterIter
+        29, // Bool + FilterIter
+        29, // String + FilterIter
+        29, // Float + FilterIter
+        29, // NoneType + FilterIter
+        29, // Range + FilterIter
+        29, // Function + FilterIter
+        29, // List + FilterIter
+        29, // Dict + FilterIter
+        29, // Tuple + FilterIter
         29, // MapIter + FilterIter
-        29, // FilterIter + Unknown
-        29, // FilterIter + Int
-        29, // FilterIter + Bool
-        29, // FilterIter + String
-        29, // FilterIter + Float
-        29, // FilterIter + NoneType
-        29, // FilterIter + Range
-        29, // FilterIter + Function
-        29, // FilterIter + List
-        29, // FilterIter + Dict
-        29, // FilterIter + Tuple
-        29, // FilterIter + MapIter
         29, // FilterIter + FilterIter
     ],
     // `-` takes two numbers, Unknown for either; else 33
     [
         0, // Unknown - Unknown
         1, // Unknown - Int
-        33, // Unknown - Bool
-        33, // Unknown - String
-        4, // Unknown - Float
-        33, // Unknown - NoneType
-        33, // Unknown - Range
-        33, // Unknown - Function
-        33, // Unknown - List
-        33, // Unknown - Dict
-        33, // Unknown - Tuple
-        33, // Unknown - MapIter
-        33, // Unknown - FilterIter
-        1, // Int - Unknown
         1, // Int - Int
+        33, // Unknown - Bool
         33, // Int - Bool
-        33, // Int - String
-        4, // Int - Float
-        33, // Int - NoneType
-        33, // Int - Range
-        33, // Int - Function
-        33, // Int - List
-        33, // Int - Dict
-        33, // Int - Tuple
-        33, // Int - MapIter
-        33, // Int - FilterIter
-        33, // Bool - Unknown
-        33, // Bool - Int
         33, // Bool - Bool
+        33, // Unknown - String
+        33, // Int - String
         33, // Bool - String
-        33, // Bool - Float
-        33, // Bool - NoneType
-        33, // Bool - Range
-        33, // Bool - Function
-        33, // Bool - List
-        33, // Bool - Dict
-        33, // Bool - Tuple
-        33, // Bool - MapIter
-        33, // Bool - FilterIter
-        33, // String - Unknown
-        33, // String - Int
-        33, // String - Bool
         33, // String - String
+        4, // Unknown - Float
+        4, // Int - Float
+        33, // Bool - Float
         33, // String - Float
-        33, // String - NoneType
-        33, // String - Range
-        33, // String - Function
-        33, // String - List
-        33, // String - Dict
-        33, // String - Tuple
-        33, // String - MapIter
-        33, // String - FilterIter
-        4, // Float - Unknown
-        4, // Float - Int
-        33, // Float - Bool
-        33, // Float - String
         4, // Float - Float
+        33, // Unknown - NoneType
+        33, // Int - NoneType
+        33, // Bool - NoneType
+        33, // String - NoneType
         33, // Float - NoneType
-        33, // Float - Range
-        33, // Float - Function
-        33, // Float - List
-        33, // Float - Dict
-        33, // Float - Tuple
-        33, // Float - MapIter
-        33, // Float - FilterIter
-        33, // NoneType - Unknown
-        33, // NoneType - Int
-        33, // NoneType - Bool
-        33, // NoneType - String
-        33, // NoneType - Float
         33, // NoneType - NoneType
+        33, // Unknown - Range
+        33, // Int - Range
+        33, // Bool - Range
+        33, // String - Range
+        33, // Float - Range
         33, // NoneType - Range
-        33, // NoneType - Function
-        33, // NoneType - List
-        33, // NoneType - Dict
-        33, // NoneType - Tuple
-        33, // NoneType - MapIter
-        33, // NoneType - FilterIter
-        33, // Range - Unknown
-        33, // Range - Int
-        33, // Range - Bool
-        33, // Range - String
-        33, // Range - Float
-        33, // Range - NoneType
         33, // Range - Range
+        33, // Unknown - Function
+        33, // Int - Function
+        33, // Bool - Function
+        33, // String - Function
+        33, // Float - Function
+        33, // NoneType - Function
         33, // Range - Function
-        33, // Range - List
-        33, // Range - Dict
-        33, // Range - Tuple
-        33, // Range - MapIter
-        33, // Range - FilterIter
-        33, // Function - Unknown
-        33, // Function - Int
-        33, // Function - Bool
-        33, // Function - String
-        33, // Function - Float
-        33, // Function - NoneType
-        33, // Function - Range
         33, // Function - Function
+        33, // Unknown - List
+        33, // Int - List
+        33, // Bool - List
+        33, // String - List
+        33, // Float - List
+        33, // NoneType - List
+        33, // Range - List
         33, // Function - List
-        33, // Function - Dict
-        33, // Function - Tuple
-        33, // Function - MapIter
-        33, // Function - FilterIter
-        33, // List - Unknown
-        33, // List - Int
-        33, // List - Bool
-        33, // List - String
-        33, // List - Float
-        33, // List - NoneType
-        33, // List - Range
-        33, // List - Function
         33, // List - List
+        33, // Unknown - Dict
+        33, // Int - Dict
+        33, // Bool - Dict
+        33, // String - Dict
+        33, // Float - Dict
+        33, // NoneType - Dict
+        33, // Range - Dict
+        33, // Function - Dict
         33, // List - Dict
-        33, // List - Tuple
-        33, // List - MapIter
-        33, // List - FilterIter
-        33, // Dict - Unknown
-        33, // Dict - Int
-        33, // Dict - Bool
-        33, // Dict - String
-        33, // Dict - Float
-        33, // Dict - NoneType
-        33, // Dict - Range
-        33, // Dict - Function
-        33, // Dict - List
         33, // Dict - Dict
+        33, // Unknown - Tuple
+        33, // Int - Tuple
+        33, // Bool - Tuple
+        33, // String - Tuple
+        33, // Float - Tuple
+        33, // NoneType - Tuple
+        33, // Range - Tuple
+        33, // Function - Tuple
+        33, // List - Tuple
         33, // Dict - Tuple
-        33, // Dict - MapIter
-        33, // Dict - FilterIter
-        33, // Tuple - Unknown
-        33, // Tuple - Int
-        33, // Tuple - Bool
-        33, // Tuple - String
-        33, // Tuple - Float
-        33, // Tuple - NoneType
-        33, // Tuple - Range
-        33, // Tuple - Function
-        33, // Tuple - List
-        33, // Tuple - Dict
         33, // Tuple - Tuple
+        33, // Unknown - MapIter
+        33, // Int - MapIter
+        33, // Bool - MapIter
+        33, // String - MapIter
+        33, // Float - MapIter
+        33, // NoneType - MapIter
+        33, // Range - MapIter
+        33, // Function - MapIter
+        33, // List - MapIter
+        33, // Dict - MapIter
         33, // Tuple - MapIter
-        33, // Tuple - FilterIter
-        33, // MapIter - Unknown
-        33, // MapIter - Int
-        33, // MapIter - Bool
-        33, // MapIter - String
-        33, // MapIter - Float
-        33, // MapIter - NoneType
-        33, // MapIter - Range
-        33, // MapIter - Function
-        33, // MapIter - List
-        33, // MapIter - Dict
-        33, // MapIter - Tuple
         33, // MapIter - MapIter
+        33, // Unknown - FilterIter
+        33, // Int - FilterIter
+        33, // Bool - FilterIter
+        33, // String - FilterIter
+        33, // Float - FilterIter
+        33, // NoneType - FilterIter
+        33, // Range - FilterIter
+        33, // Function - FilterIter
+        33, // List - FilterIter
+        33, // Dict - FilterIter
+        33, // Tuple - FilterIter
         33, // MapIter - FilterIter
-        33, // FilterIter - Unknown
-        33, // FilterIter - Int
-        33, // FilterIter - Bool
-        33, // FilterIter - String
-        33, // FilterIter - Float
-        33, // FilterIter - NoneType
-        33, // FilterIter - Range
-        33, // FilterIter - Function
-        33, // FilterIter - List
-        33, // FilterIter - Dict
-        33, // FilterIter - Tuple
-        33, // FilterIter - MapIter
         33, // FilterIter - FilterIter
     ],
     // `*` takes two numbers, Unknown for either, or a String beside an Int or Unknown; else 30
     [
         0, // Unknown * Unknown
         1, // Unknown * Int
-        30, // Unknown * Bool
-        3, // Unknown * String
-        4, // Unknown * Float
-        30, // Unknown * NoneType
-        30, // Unknown * Range
-        30, // Unknown * Function
-        30, // Unknown * List
-        30, // Unknown * Dict
-        30, // Unknown * Tuple
-        30, // Unknown * MapIter
-        30, // Unknown * FilterIter
-        1, // Int * Unknown
         1, // Int * Int
+        30, // Unknown * Bool
         30, // Int * Bool
-        3, // Int * String
-        4, // Int * Float
-        30, // Int * NoneType
-        30, // Int * Range
-        30, // Int * Function
-        30, // Int * List
-        30, // Int * Dict
-        30, // Int * Tuple
-        30, // Int * MapIter
-        30, // Int * FilterIter
-        30, // Bool * Unknown
-        30, // Bool * Int
         30, // Bool * Bool
+        3, // Unknown * String
+        3, // Int * String
         30, // Bool * String
-        30, // Bool * Float
-        30, // Bool * NoneType
-        30, // Bool * Range
-        30, // Bool * Function
-        30, // Bool * List
-        30, // Bool * Dict
-        30, // Bool * Tuple
-        30, // Bool * MapIter
-        30, // Bool * FilterIter
-        3, // String * Unknown
-        3, // String * Int
-        30, // String * Bool
         30, // String * String
+        4, // Unknown * Float
+        4, // Int * Float
+        30, // Bool * Float
         30, // String * Float
-        30, // String * NoneType
-        30, // String * Range
-        30, // String * Function
-        30, // String * List
-        30, // String * Dict
-        30, // String * Tuple
-        30, // String * MapIter
-        30, // String * FilterIter
-        4, // Float * Unknown
-        4, // Float * Int
-        30, // Float * Bool
-        30, // Float * String
         4, // Float * Float
+        30, // Unknown * NoneType
+        30, // Int * NoneType
+        30, // Bool * NoneType
+        30, // String * NoneType
         30, // Float * NoneType
-        30, // Float * Range
-        30, // Float * Function
-        30, // Float * List
-        30, // Float * Dict
-        30, // Float * Tuple
-        30, // Float * MapIter
-        30, // Float * FilterIter
-        30, // NoneType * Unknown
-        30, // NoneType * Int
-        30, // NoneType * Bool
-        30, // NoneType * String
-        30, // NoneType * Float
         30, // NoneType * NoneType
+        30, // Unknown * Range
+        30, // Int * Range
+        30, // Bool * Range
+        30, // String * Range
+        30, // Float * Range
         30, // NoneType * Range
-        30, // NoneType * Function
-        30, // NoneType * List
-        30, // NoneType * Dict
-        30, // NoneType * Tuple
-        30, // NoneType * MapIter
-        30, // NoneType * FilterIter
-        30, // Range * Unknown
-        30, // Range * Int
-        30, // Range * Bool
-        30, // Range * String
-        30, // Range * Float
-        30, // Range * NoneType
         30, // Range * Range
+        30, // Unknown * Function
+        30, // Int * Function
+        30, // Bool * Function
+        30, // String * Function
+        30, // Float * Function
+        30, // NoneType * Function
         30, // Range * Function
-        30, // Range * List
-        30, // Range * Dict
-        30, // Range * Tuple
-        30, // Range * MapIter
-        30, // Range * FilterIter
-        30, // Function * Unknown
-        30, // Function * Int
-        30, // Function * Bool
-        30, // Function * String
-        30, // Function * Float
-        30, // Function * NoneType
-        30, // Function * Range
         30, // Function * Function
+        30, // Unknown * List
+        30, // Int * List
+        30, // Bool * List
+        30, // String * List
+        30, // Float * List
+        30, // NoneType * List
+        30, // Range * List
         30, // Function * List
-        30, // Function * Dict
-        30, // Function * Tuple
-        30, // Function * MapIter
-        30, // Function * FilterIter
-        30, // List * Unknown
-        30, // List * Int
-        30, // List * Bool
-        30, // List * String
-        30, // List * Float
-        30, // List * NoneType
-        30, // List * Range
-        30, // List * Function
         30, // List * List
+        30, // Unknown * Dict
+        30, // Int * Dict
+        30, // Bool * Dict
+        30, // String * Dict
+        30, // Float * Dict
+        30, // NoneType * Dict
+        30, // Range * Dict
+        30, // Function * Dict
         30, // List * Dict
-        30, // List * Tuple
-        30, // List * MapIter
-        30, // List * FilterIter
-        30, // Dict * Unknown
-        30, // Dict * Int
-        30, // Dict * Bool
-        30, // Dict * String
-        30, // Dict * Float
-        30, // Dict * NoneType
-        30, // Dict * Range
-        30, // Dict * Function
-        30, // Dict * List
         30, // Dict * Dict
+        30, // Unknown * Tuple
+        30, // Int * Tuple
+        30, // Bool * Tuple
+        30, // String * Tuple
+        30, // Float * Tuple
+        30, // NoneType * Tuple
+        30, // Range * Tuple
+        30, // Function * Tuple
+        30, // List * Tuple
         30, // Dict * Tuple
-        30, // Dict * MapIter
-        30, // Dict * FilterIter
-        30, // Tuple * Unknown
-        30, // Tuple * Int
-        30, // Tuple * Bool
-        30, // Tuple * String
-        30, // Tuple * Float
-        30, // Tuple * NoneType
-        30, // Tuple * Range
-        30, // Tuple * Function
-        30, // Tuple * List
-        30, // Tuple * Dict
         30, // Tuple * Tuple
+        30, // Unknown * MapIter
+        30, // Int * MapIter
+        30, // Bool * MapIter
+        30, // String * MapIter
+        30, // Float * MapIter
+        30, // NoneType * MapIter
+        30, // Range * MapIter
+        30, // Function * MapIter
+        30, // List * MapIter
+        30, // Dict * MapIter
         30, // Tuple * MapIter
-        30, // Tuple * FilterIter
-        30, // MapIter * Unknown
-        30, // MapIter * Int
-        30, // MapIter * Bool
-        30, // MapIter * String
-        30, // MapIter * Float
-        30, // MapIter * NoneType
-        30, // MapIter * Range
-        30, // MapIter * Function
-        30, // MapIter * List
-        30, // MapIter * Dict
-        30, // MapIter * Tuple
         30, // MapIter * MapIter
+        30, // Unknown * FilterIter
+        30, // Int * FilterIter
+        30, // Bool * FilterIter
+        30, // String * FilterIter
+        30, // Float * FilterIter
+        30, // NoneType * FilterIter
+        30, // Range * FilterIter
+        30, // Function * FilterIter
+        30, // List * FilterIter
+        30, // Dict * FilterIter
+        30, // Tuple * FilterIter
         30, // MapIter * FilterIter
-        30, // FilterIter * Unknown
-        30, // FilterIter * Int
-        30, // FilterIter * Bool
-        30, // FilterIter * String
-        30, // FilterIter * Float
-        30, // FilterIter * NoneType
-        30, // FilterIter * Range
-        30, // FilterIter * Function
-        30, // FilterIter * List
-        30, // FilterIter * Dict
-        30, // FilterIter * Tuple
-        30, // FilterIter * MapIter
         30, // FilterIter * FilterIter
     ],
     // `/` takes two numbers, Unknown for either, and the result is Float; else 33
     [
         4, // Unknown / Unknown
         4, // Unknown / Int
-        33, // Unknown / Bool
-        33, // Unknown / String
-        4, // Unknown / Float
-        33, // Unknown / NoneType
-        33, // Unknown / Range
-        33, // Unknown / Function
-        33, // Unknown / List
-        33, // Unknown / Dict
-        33, // Unknown / Tuple
-        33, // Unknown / MapIter
-        33, // Unknown / FilterIter
-        4, // Int / Unknown
         4, // Int / Int
+        33, // Unknown / Bool
         33, // Int / Bool
-        33, // Int / String
-        4, // Int / Float
-        33, // Int / NoneType
-        33, // Int / Range
-        33, // Int / Function
-        33, // Int / List
-        33, // Int / Dict
-        33, // Int / Tuple
-        33, // Int / MapIter
-        33, // Int / FilterIter
-        33, // Bool / Unknown
-        33, // Bool / Int
         33, // Bool / Bool
+        33, // Unknown / String
+        33, // Int / String
         33, // Bool / String
-        33, // Bool / Float
-        33, // Bool / NoneType
-        33, // Bool / Range
-        33, // Bool / Function
-        33, // Bool / List
-        33, // Bool / Dict
-        33, // Bool / Tuple
-        33, // Bool / MapIter
-        33, // Bool / FilterIter
-        33, // String / Unknown
-        33, // String / Int
-        33, // String / Bool
         33, // String / String
+        4, // Unknown / Float
+        4, // Int / Float
+        33, // Bool / Float
         33, // String / Float
-        33, // String / NoneType
-        33, // String / Range
-        33, // String / Function
-        33, // String / List
-        33, // String / Dict
-        33, // String / Tuple
-        33, // String / MapIter
-        33, // String / FilterIter
-        4, // Float / Unknown
-        4, // Float / Int
-        33, // Float / Bool
-        33, // Float / String
         4, // Float / Float
+        33, // Unknown / NoneType
+        33, // Int / NoneType
+        33, // Bool / NoneType
+        33, // String / NoneType
         33, // Float / NoneType
-        33, // Float / Range
-        33, // Float / Function
-        33, // Float / List
-        33, // Float / Dict
-        33, // Float / Tuple
-        33, // Float / MapIter
-        33, // Float / FilterIter
-        33, // NoneType / Unknown
-        33, // NoneType / Int
-        33, // NoneType / Bool
-        33, // NoneType / String
-        33, // NoneType / Float
         33, // NoneType / NoneType
+        33, // Unknown / Range
+        33, // Int / Range
+        33, // Bool / Range
+        33, // String / Range
+        33, // Float / Range
         33, // NoneType / Range
-        33, // NoneType / Function
-        33, // NoneType / List
-        33, // NoneType / Dict
-        33, // NoneType / Tuple
-        33, // NoneType / MapIter
-        33, // NoneType / FilterIter
-        33, // Range / Unknown
-        33, // Range / Int
-        33, // Range / Bool
-        33, // Range / String
-        33, // Range / Float
-        33, // Range / NoneType
         33, // Range / Range
+        33, // Unknown / Function
+        33, // Int / Function
+        33, // Bool / Function
+        33, // String / Function
+        33, // Float / Function
+        33, // NoneType / Function
         33, // Range / Function
-        33, // Range / List
-        33, // Range / Dict
-        33, // Range / Tuple
-        33, // Range / MapIter
-        33, // Range / FilterIter
-        33, // Function / Unknown
-        33, // Function / Int
-        33, // Function / Bool
-        33, // Function / String
-        33, // Function / Float
-        33, // Function / NoneType
-        33, // Function / Range
         33, // Function / Function
+        33, // Unknown / List
+        33, // Int / List
+        33, // Bool / List
+        33, // String / List
+        33, // Float / List
+        33, // NoneType / List
+        33, // Range / List
         33, // Function / List
-        33, // Function / Dict
-        33, // Function / Tuple
-        33, // Function / MapIter
-        33, // Function / FilterIter
-        33, // List / Unknown
-        33, // List / Int
-        33, // List / Bool
-        33, // List / String
-        33, // List / Float
-        33, // List / NoneType
-        33, // List / Range
-        33, // List / Function
         33, // List / List
+        33, // Unknown / Dict
+        33, // Int / Dict
+        33, // Bool / Dict
+        33, // String / Dict
+        33, // Float / Dict
+        33, // NoneType / Dict
+        33, // Range / Dict
+        33, // Function / Dict
         33, // List / Dict
-        33, // List / Tuple
-        33, // List / MapIter
-        33, // List / FilterIter
-        33, // Dict / Unknown
-        33, // Dict / Int
-        33, // Dict / Bool
-        33, // Dict / String
-        33, // Dict / Float
-        33, // Dict / NoneType
-        33, // Dict / Range
-        33, // Dict / Function
-        33, // Dict / List
         33, // Dict / Dict
+        33, // Unknown / Tuple
+        33, // Int / Tuple
+        33, // Bool / Tuple
+        33, // String / Tuple
+        33, // Float / Tuple
+        33, // NoneType / Tuple
+        33, // Range / Tuple
+        33, // Function / Tuple
+        33, // List / Tuple
         33, // Dict / Tuple
-        33, // Dict / MapIter
-        33, // Dict / FilterIter
-        33, // Tuple / Unknown
-        33, // Tuple / Int
-        33, // Tuple / Bool
-        33, // Tuple / String
-        33, // Tuple / Float
-        33, // Tuple / NoneType
-        33, // Tuple / Range
-        33, // Tuple / Function
-        33, // Tuple / List
-        33, // Tuple / Dict
         33, // Tuple / Tuple
+        33, // Unknown / MapIter
+        33, // Int / MapIter
+        33, // Bool / MapIter
+        33, // String / MapIter
+        33, // Float / MapIter
+        33, // NoneType / MapIter
+        33, // Range / MapIter
+        33, // Function / MapIter
+        33, // List / MapIter
+        33, // Dict / MapIter
         33, // Tuple / MapIter
-        33, // Tuple / FilterIter
-        33, // MapIter / Unknown
-        33, // MapIter / Int
-        33, // MapIter / Bool
-        33, // MapIter / String
-        33, // MapIter / Float
-        33, // MapIter / NoneType
-        33, // MapIter / Range
-        33, // MapIter / Function
-        33, // MapIter / List
-        33, // MapIter / Dict
-        33, // MapIter / Tuple
         33, // MapIter / MapIter
+        33, // Unknown / FilterIter
+        33, // Int / FilterIter
+        33, // Bool / FilterIter
+        33, // String / FilterIter
+        33, // Float / FilterIter
+        33, // NoneType / FilterIter
+        33, // Range / FilterIter
+        33, // Function / FilterIter
+        33, // List / FilterIter
+        33, // Dict / FilterIter
+        33, // Tuple / FilterIter
         33, // MapIter / FilterIter
-        33, // FilterIter / Unknown
-        33, // FilterIter / Int
-        33, // FilterIter / Bool
-        33, // FilterIter / String
-        33, // FilterIter / Float
-        33, // FilterIter / NoneType
-        33, // FilterIter / Range
-        33, // FilterIter / Function
-        33, // FilterIter / List
-        33, // FilterIter / Dict
-        33, // FilterIter / Tuple
-        33, // FilterIter / MapIter
         33, // FilterIter / FilterIter
     ],
     // `//` takes two numbers, Unknown for either; else 33
     [
         0, // Unknown // Unknown
         1, // Unknown // Int
-        33, // Unknown // Bool
-        33, // Unknown // String
-        4, // Unknown // Float
-        33, // Unknown // NoneType
-        33, // Unknown // Range
-        33, // Unknown // Function
-        33, // Unknown // List
-        33, // Unknown // Dict
-        33, // Unknown // Tuple
-        33, // Unknown // MapIter
-        33, // Unknown // FilterIter
-        1, // Int // Unknown
         1, // Int // Int
+        33, // Unknown // Bool
         33, // Int // Bool
-        33, // Int // String
-        4, // Int // Float
-        33, // Int // NoneType
-        33, // Int // Range
-        33, // Int // Function
-        33, // Int // List
-        33, // Int // Dict
-        33, // Int // Tuple
-        33, // Int // MapIter
-        33, // Int // FilterIter
-        33, // Bool // Unknown
-        33, // Bool // Int
         33, // Bool // Bool
+        33, // Unknown // String
+        33, // Int // String
         33, // Bool // String
-        33, // Bool // Float
-        33, // Bool // NoneType
-        33, // Bool // Range
-        33, // Bool // Function
-        33, // Bool // List
-        33, // Bool // Dict
-        33, // Bool // Tuple
-        33, // Bool // MapIter
-        33, // Bool // FilterIter
-        33, // String // Unknown
-        33, // String // Int
-        33, // String // Bool
         33, // String // String
+        4, // Unknown // Float
+        4, // Int // Float
+        33, // Bool // Float
         33, // String // Float
-        33, // String // NoneType
-        33, // String // Range
-        33, // String // Function
-        33, // String // List
-        33, // String // Dict
-        33, // String // Tuple
-        33, // String // MapIter
-        33, // String // FilterIter
-        4, // Float // Unknown
-        4, // Float // Int
-        33, // Float // Bool
-        33, // Float // String
         4, // Float // Float
+        33, // Unknown // NoneType
+        33, // Int // NoneType
+        33, // Bool // NoneType
+        33, // String // NoneType
         33, // Float // NoneType
-        33, // Float // Range
-        33, // Float // Function
-        33, // Float // List
-        33, // Float // Dict
-        33, // Float // Tuple
-        33, // Float // MapIter
-        33, // Float // FilterIter
-        33, // NoneType // Unknown
-        33, // NoneType // Int
-        33, // NoneType // Bool
-        33, // NoneType // String
-        33, // NoneType // Float
         33, // NoneType // NoneType
+        33, // Unknown // Range
+        33, // Int // Range
+        33, // Bool // Range
+        33, // String // Range
+        33, // Float // Range
         33, // NoneType // Range
-        33, // NoneType // Function
-        33, // NoneType // List
-        33, // NoneType // Dict
-        33, // NoneType // Tuple
-        33, // NoneType // MapIter
-        33, // NoneType // FilterIter
-        33, // Range // Unknown
-        33, // Range // Int
-        33, // Range // Bool
-        33, // Range // String
-        33, // Range // Float
-        33, // Range // NoneType
         33, // Range // Range
+        33, // Unknown // Function
+        33, // Int // Function
+        33, // Bool // Function
+        33, // String // Function
+        33, // Float // Function
+        33, // NoneType // Function
         33, // Range // Function
-        33, // Range // List
-        33, // Range // Dict
-        33, // Range // Tuple
-        33, // Range // MapIter
-        33, // Range // FilterIter
-        33, // Function // Unknown
-        33, // Function // Int
-        33, // Function // Bool
-        33, // Function // String
-        33, // Function // Float
-        33, // Function // NoneType
-        33, // Function // Range
         33, // Function // Function
+        33, // Unknown // List
+        33, // Int // List
+        33, // Bool // List
+        33, // String // List
+        33, // Float // List
+        33, // NoneType // List
+        33, // Range // List
         33, // Function // List
-        33, // Function // Dict
-        33, // Function // Tuple
-        33, // Function // MapIter
-        33, // Function // FilterIter
-        33, // List // Unknown
-        33, // List // Int
-        33, // List // Bool
-        33, // List // String
-        33, // List // Float
-        33, // List // NoneType
-        33, // List // Range
-        33, // List // Function
         33, // List // List
+        33, // Unknown // Dict
+        33, // Int // Dict
+        33, // Bool // Dict
+        33, // String // Dict
+        33, // Float // Dict
+        33, // NoneType // Dict
+        33, // Range // Dict
+        33, // Function // Dict
         33, // List // Dict
-        33, // List // Tuple
-        33, // List // MapIter
-        33, // List // FilterIter
-        33, // Dict // Unknown
-        33, // Dict // Int
-        33, // Dict // Bool
-        33, // Dict // String
-        33, // Dict // Float
-        33, // Dict // NoneType
-        33, // Dict // Range
-        33, // Dict // Function
-        33, // Dict // List
         33, // Dict // Dict
+        33, // Unknown // Tuple
+        33, // Int // Tuple
+        33, // Bool // Tuple
+        33, // String // Tuple
+        33, // Float // Tuple
+        33, // NoneType // Tuple
+        33, // Range // Tuple
+        33, // Function // Tuple
+        33, // List // Tuple
         33, // Dict // Tuple
-        33, // Dict // MapIter
-        33, // Dict // FilterIter
-        33, // Tuple // Unknown
-        33, // Tuple // Int
-        33, // Tuple // Bool
-        33, // Tuple // String
-        33, // Tuple // Float
-        33, // Tuple // NoneType
-        33, // Tuple // Range
-        33, // Tuple // Function
-        33, // Tuple // List
-        33, // Tuple // Dict
         33, // Tuple // Tuple
+        33, // Unknown // MapIter
+        33, // Int // MapIter
+        33, // Bool // MapIter
+        33, // String // MapIter
+        33, // Float // MapIter
+        33, // NoneType // MapIter
+        33, // Range // MapIter
+        33, // Function // MapIter
+        33, // List // MapIter
+        33, // Dict // MapIter
         33, // Tuple // MapIter
-        33, // Tuple // FilterIter
-        33, // MapIter // Unknown
-        33, // MapIter // Int
-        33, // MapIter // Bool
-        33, // MapIter // String
-        33, // MapIter // Float
-        33, // MapIter // NoneType
-        33, // MapIter // Range
-        33, // MapIter // Function
-        33, // MapIter // List
-        33, // MapIter // Dict
-        33, // MapIter // Tuple
         33, // MapIter // MapIter
+        33, // Unknown // FilterIter
+        33, // Int // FilterIter
+        33, // Bool // FilterIter
+        33, // String // FilterIter
+        33, // Float // FilterIter
+        33, // NoneType // FilterIter
+        33, // Range // FilterIter
+        33, // Function // FilterIter
+        33, // List // FilterIter
+        33, // Dict // FilterIter
+        33, // Tuple // FilterIter
         33, // MapIter // FilterIter
-        33, // FilterIter // Unknown
-        33, // FilterIter // Int
-        33, // FilterIter // Bool
-        33, // FilterIter // String
-        33, // FilterIter // Float
-        33, // FilterIter // NoneType
-        33, // FilterIter // Range
-        33, // FilterIter // Function
-        33, // FilterIter // List
-        33, // FilterIter // Dict
-        33, // FilterIter // Tuple
-        33, // FilterIter // MapIter
         33, // FilterIter // FilterIter
     ],
     // `%` takes two numbers, Unknown for either; else 33
     [
         0, // Unknown % Unknown
         1, // Unknown % Int
-        33, // Unknown % Bool
-        33, // Unknown % String
-        4, // Unknown % Float
-        33, // Unknown % NoneType
-        33, // Unknown % Range
-        33, // Unknown % Function
-        33, // Unknown % List
-        33, // Unknown % Dict
-        33, // Unknown % Tuple
-        33, // Unknown % MapIter
-        33, // Unknown % FilterIter
-        1, // Int % Unknown
         1, // Int % Int
+        33, // Unknown % Bool
         33, // Int % Bool
-        33, // Int % String
-        4, // Int % Float
-        33, // Int % NoneType
-        33, // Int % Range
-        33, // Int % Function
-        33, // Int % List
-        33, // Int % Dict
-        33, // Int % Tuple
-        33, // Int % MapIter
-        33, // Int % FilterIter
-        33, // Bool % Unknown
-        33, // Bool % Int
         33, // Bool % Bool
+        33, // Unknown % String
+        33, // Int % String
         33, // Bool % String
-        33, // Bool % Float
-        33, // Bool % NoneType
-        33, // Bool % Range
-        33, // Bool % Function
-        33, // Bool % List
-        33, // Bool % Dict
-        33, // Bool % Tuple
-        33, // Bool % MapIter
-        33, // Bool % FilterIter
-        33, // String % Unknown
-        33, // String % Int
-        33, // String % Bool
         33, // String % String
+        4, // Unknown % Float
+        4, // Int % Float
+        33, // Bool % Float
         33, // String % Float
-        33, // String % NoneType
-        33, // String % Range
-        33, // String % Function
-        33, // String % List
-        33, // String % Dict
-        33, // String % Tuple
-        33, // String % MapIter
-        33, // String % FilterIter
-        4, // Float % Unknown
-        4, // Float % Int
-        33, // Float % Bool
-        33, // Float % String
         4, // Float % Float
+        33, // Unknown % NoneType
+        33, // Int % NoneType
+        33, // Bool % NoneType
+        33, // String % NoneType
         33, // Float % NoneType
-        33, // Float % Range
-        33, // Float % Function
-        33, // Float % List
-        33, // Float % Dict
-        33, // Float % Tuple
-        33, // Float % MapIter
-        33, // Float % FilterIter
-        33, // NoneType % Unknown
-        33, // NoneType % Int
-        33, // NoneType % Bool
-        33, // NoneType % String
-        33, // NoneType % Float
         33, // NoneType % NoneType
+        33, // Unknown % Range
+        33, // Int % Range
+        33, // Bool % Range
+        33, // String % Range
+        33, // Float % Range
         33, // NoneType % Range
-        33, // NoneType % Function
-        33, // NoneType % List
-        33, // NoneType % Dict
-        33, // NoneType % Tuple
-        33, // NoneType % MapIter
-        33, // NoneType % FilterIter
-        33, // Range % Unknown
-        33, // Range % Int
-        33, // Range % Bool
-        33, // Range % String
-        33, // Range % Float
-        33, // Range % NoneType
         33, // Range % Range
+        33, // Unknown % Function
+        33, // Int % Function
+        33, // Bool % Function
+        33, // String % Function
+        33, // Float % Function
+        33, // NoneType % Function
         33, // Range % Function
-        33, // Range % List
-        33, // Range % Dict
-        33, // Range % Tuple
-        33, // Range % MapIter
-        33, // Range % FilterIter
-        33, // Function % Unknown
-        33, // Function % Int
-        33, // Function % Bool
-        33, // Function % String
-        33, // Function % Float
-        33, // Function % NoneType
-        33, // Function % Range
         33, // Function % Function
+        33, // Unknown % List
+        33, // Int % List
+        33, // Bool % List
+        33, // String % List
+        33, // Float % List
+        33, // NoneType % List
+        33, // Range % List
         33, // Function % List
-        33, // Function % Dict
-        33, // Function % Tuple
-        33, // Function % MapIter
-        33, // Function % FilterIter
-        33, // List % Unknown
-        33, // List % Int
-        33, // List % Bool
-        33, // List % String
-        33, // List % Float
-        33, // List % NoneType
-        33, // List % Range
-        33, // List % Function
         33, // List % List
+        33, // Unknown % Dict
+        33, // Int % Dict
+        33, // Bool % Dict
+        33, // String % Dict
+        33, // Float % Dict
+        33, // NoneType % Dict
+        33, // Range % Dict
+        33, // Function % Dict
         33, // List % Dict
-        33, // List % Tuple
-        33, // List % MapIter
-        33, // List % FilterIter
-        33, // Dict % Unknown
-        33, // Dict % Int
-        33, // Dict % Bool
-        33, // Dict % String
-        33, // Dict % Float
-        33, // Dict % NoneType
-        33, // Dict % Range
-        33, // Dict % Function
-        33, // Dict % List
         33, // Dict % Dict
+        33, // Unknown % Tuple
+        33, // Int % Tuple
+        33, // Bool % Tuple
+        33, // String % Tuple
+        33, // Float % Tuple
+        33, // NoneType % Tuple
+        33, // Range % Tuple
+        33, // Function % Tuple
+        33, // List % Tuple
         33, // Dict % Tuple
-        33, // Dict % MapIter
-        33, // Dict % FilterIter
-        33, // Tuple % Unknown
-        33, // Tuple % Int
-        33, // Tuple % Bool
-        33, // Tuple % String
-        33, // Tuple % Float
-        33, // Tuple % NoneType
-        33, // Tuple % Range
-        33, // Tuple % Function
-        33, // Tuple % List
-        33, // Tuple % Dict
         33, // Tuple % Tuple
+        33, // Unknown % MapIter
+        33, // Int % MapIter
+        33, // Bool % MapIter
+        33, // String % MapIter
+        33, // Float % MapIter
+        33, // NoneType % MapIter
+        33, // Range % MapIter
+        33, // Function % MapIter
+        33, // List % MapIter
+        33, // Dict % MapIter
         33, // Tuple % MapIter
-        33, // Tuple % FilterIter
-        33, // MapIter % Unknown
-        33, // MapIter % Int
-        33, // MapIter % Bool
-        33, // MapIter % String
-        33, // MapIter % Float
-        33, // MapIter % NoneType
-        33, // MapIter % Range
-        33, // MapIter % Function
-        33, // MapIter % List
-        33, // MapIter % Dict
-        33, // MapIter % Tuple
         33, // MapIter % MapIter
+        33, // Unknown % FilterIter
+        33, // Int % FilterIter
+        33, // Bool % FilterIter
+        33, // String % FilterIter
+        33, // Float % FilterIter
+        33, // NoneType % FilterIter
+        33, // Range % FilterIter
+        33, // Function % FilterIter
+        33, // List % FilterIter
+        33, // Dict % FilterIter
+        33, // Tuple % FilterIter
         33, // MapIter % FilterIter
-        33, // FilterIter % Unknown
-        33, // FilterIter % Int
-        33, // FilterIter % Bool
-        33, // FilterIter % String
-        33, // FilterIter % Float
-        33, // FilterIter % NoneType
-        33, // FilterIter % Range
-        33, // FilterIter % Function
-        33, // FilterIter % List
-        33, // FilterIter % Dict
-        33, // FilterIter % Tuple
-        33, // FilterIter % MapIter
         33, // FilterIter % FilterIter
     ],
     // `==` takes Unknown and anything, Int and Float, one plain kind; 8 for one structured kind; else 32
     [
         2, // Unknown == Unknown
         2, // Unknown == Int
-        2, // Unknown == Bool
-        2, // Unknown == String
-        2, // Unknown == Float
-        2, // Unknown == NoneType
-        2, // Unknown == Range
-        2, // Unknown == Function
-        2, // Unknown == List
-        2, // Unknown == Dict
-        2, // Unknown == Tuple
-        2, // Unknown == MapIter
-        2, // Unknown == FilterIter
-        2, // Int == Unknown
         2, // Int == Int
+        2, // Unknown == Bool
         32, // Int == Bool
-        32, // Int == String
-        2, // Int == Float
-        32, // Int == NoneType
-        32, // Int == Range
-        32, // Int == Function
-        32, // Int == List
-        32, // Int == Dict
-        32, // Int == Tuple
-        32, // Int == MapIter
-        32, // Int == FilterIter
-        2, // Bool == Unknown
-        32, // Bool == Int
         2, // Bool == Bool
+        2, // Unknown == String
+        32, // Int == String
         32, // Bool == String
-        32, // Bool == Float
-        32, // Bool == NoneType
-        32, // Bool == Range
-        32, // Bool == Function
-        32, // Bool == List
-        32, // Bool == Dict
-        32, // Bool == Tuple
-        32, // Bool == MapIter
-        32, // Bool == FilterIter
-        2, // String == Unknown
-        32, // String == Int
-        32, // String == Bool
         2, // String == String
+        2, // Unknown == Float
+        2, // Int == Float
+        32, // Bool == Float
         32, // String == Float
-        32, // String == NoneType
-        32, // String == Range
-        32, // String == Function
-        32, // String == List
-        32, // String == Dict
-        32, // String == Tuple
-        32, // String == MapIter
-        32, // String == FilterIter
-        2, // Float == Unknown
-        2, // Float == Int
-        32, // Float == Bool
-        32, // Float == String
         2, // Float == Float
+        2, // Unknown == NoneType
+        32, // Int == NoneType
+        32, // Bool == NoneType
+        32, // String == NoneType
         32, // Float == NoneType
-        32, // Float == Range
-        32, // Float == Function
-        32, // Float == List
-        32, // Float == Dict
-        32, // Float == Tuple
-        32, // Float == MapIter
-        32, // Float == FilterIter
-        2, // NoneType == Unknown
-        32, // NoneType == Int
-        32, // NoneType == Bool
-        32, // NoneType == String
-        32, // NoneType == Float
         2, // NoneType == NoneType
+        2, // Unknown == Range
+        32, // Int == Range
+        32, // Bool == Range
+        32, // String == Range
+        32, // Float == Range
         32, // NoneType == Range
-        32, // NoneType == Function
-        32, // NoneType == List
-        32, // NoneType == Dict
-        32, // NoneType == Tuple
-        32, // NoneType == MapIter
-        32, // NoneType == FilterIter
-        2, // Range == Unknown
-        32, // Range == Int
-        32, // Range == Bool
-        32, // Range == String
-        32, // Range == Float
-        32, // Range == NoneType
         2, // Range == Range
+        2, // Unknown == Function
+        32, // Int == Function
+        32, // Bool == Function
+        32, // String == Function
+        32, // Float == Function
+        32, // NoneType == Function
         32, // Range == Function
-        32, // Range == List
-        32, // Range == Dict
-        32, // Range == Tuple
-        32, // Range == MapIter
-        32, // Range == FilterIter
-        2, // Function == Unknown
-        32, // Function == Int
-        32, // Function == Bool
-        32, // Function == String
-        32, // Function == Float
-        32, // Function == NoneType
-        32, // Function == Range
         2, // Function == Function
+        2, // Unknown == List
+        32, // Int == List
+        32, // Bool == List
+        32, // String == List
+        32, // Float == List
+        32, // NoneType == List
+        32, // Range == List
         32, // Function == List
-        32, // Function == Dict
-        32, // Function == Tuple
-        32, // Function == MapIter
-        32, // Function == FilterIter
-        2, // List == Unknown
-        32, // List == Int
-        32, // List == Bool
-        32, // List == String
-        32, // List == Float
-        32, // List == NoneType
-        32, // List == Range
-        32, // List == Function
         8, // List == List
+        2, // Unknown == Dict
+        32, // Int == Dict
+        32, // Bool == Dict
+        32, // String == Dict
+        32, // Float == Dict
+        32, // NoneType == Dict
+        32, // Range == Dict
+        32, // Function == Dict
         32, // List == Dict
-        32, // List == Tuple
-        32, // List == MapIter
-        32, // List == FilterIter
-        2, // Dict == Unknown
-        32, // Dict == Int
-        32, // Dict == Bool
-        32, // Dict == String
-        32, // Dict == Float
-        32, // Dict == NoneType
-        32, // Dict == Range
-        32, // Dict == Function
-        32, // Dict == List
         8, // Dict == Dict
+        2, // Unknown == Tuple
+        32, // Int == Tuple
+        32, // Bool == Tuple
+        32, // String == Tuple
+        32, // Float == Tuple
+        32, // NoneType == Tuple
+        32, // Range == Tuple
+        32, // Function == Tuple
+        32, // List == Tuple
         32, // Dict == Tuple
-        32, // Dict == MapIter
-        32, // Dict == FilterIter
-        2, // Tuple == Unknown
-        32, // Tuple == Int
-        32, // Tuple == Bool
-        32, // Tuple == String
-        32, // Tuple == Float
-        32, // Tuple == NoneType
-        32, // Tuple == Range
-        32, // Tuple == Function
-        32, // Tuple == List
-        32, // Tuple == Dict
         8, // Tuple == Tuple
+        2, // Unknown == MapIter
+        32, // Int == MapIter
+        32, // Bool == MapIter
+        32, // String == MapIter
+        32, // Float == MapIter
+        32, // NoneType == MapIter
+        32, // Range == MapIter
+        32, // Function == MapIter
+        32, // List == MapIter
+        32, // Dict == MapIter
         32, // Tuple == MapIter
-        32, // Tuple == FilterIter
-        2, // MapIter == Unknown
-        32, // MapIter == Int
-        32, // MapIter == Bool
-        32, // MapIter == String
-        32, // MapIter == Float
-        32, // MapIter == NoneType
-        32, // MapIter == Range
-        32, // MapIter == Function
-        32, // MapIter == List
-        32, // MapIter == Dict
-        32, // MapIter == Tuple
         8, // MapIter == MapIter
+        2, // Unknown == FilterIter
+        32, // Int == FilterIter
+        32, // Bool == FilterIter
+        32, // String == FilterIter
+        32, // Float == FilterIter
+        32, // NoneType == FilterIter
+        32, // Range == FilterIter
+        32, // Function == FilterIter
+        32, // List == FilterIter
+        32, // Dict == FilterIter
+        32, // Tuple == FilterIter
         32, // MapIter == FilterIter
-        2, // FilterIter == Unknown
-        32, // FilterIter == Int
-        32, // FilterIter == Bool
-        32, // FilterIter == String
-        32, // FilterIter == Float
-        32, // FilterIter == NoneType
-        32, // FilterIter == Range
-        32, // FilterIter == Function
-        32, // FilterIter == List
-        32, // FilterIter == Dict
-        32, // FilterIter == Tuple
-        32, // FilterIter == MapIter
         8, // FilterIter == FilterIter
     ],
     // `!=` takes Unknown and anything, Int and Float, one plain kind; 8 for one structured kind; else 32
     [
         2, // Unknown != Unknown
         2, // Unknown != Int
-        2, // Unknown != Bool
-        2, // Unknown != String
-        2, // Unknown != Float
-        2, // Unknown != NoneType
-        2, // Unknown != Range
-        2, // Unknown != Function
-        2, // Unknown != List
-        2, // Unknown != Dict
-        2, // Unknown != Tuple
-        2, // Unknown != MapIter
-        2, // Unknown != FilterIter
-        2, // Int != Unknown
         2, // Int != Int
+        2, // Unknown != Bool
         32, // Int != Bool
-        32, // Int != String
-        2, // Int != Float
-        32, // Int != NoneType
-        32, // Int != Range
-        32, // Int != Function
-        32, // Int != List
-        32, // Int != Dict
-        32, // Int != Tuple
-        32, // Int != MapIter
-        32, // Int != FilterIter
-        2, // Bool != Unknown
-        32, // Bool != Int
         2, // Bool != Bool
+        2, // Unknown != String
+        32, // Int != String
         32, // Bool != String
-        32, // Bool != Float
-        32, // Bool != NoneType
-        32, // Bool != Range
-        32, // Bool != Function
-        32, // Bool != List
-        32, // Bool != Dict
-        32, // Bool != Tuple
-        32, // Bool != MapIter
-        32, // Bool != FilterIter
-        2, // String != Unknown
-        32, // String != Int
-        32, // String != Bool
         2, // String != String
+        2, // Unknown != Float
+        2, // Int != Float
+        32, // Bool != Float
         32, // String != Float
-        32, // String != NoneType
-        32, // String != Range
-        32, // String != Function
-        32, // String != List
-        32, // String != Dict
-        32, // String != Tuple
-        32, // String != MapIter
-        32, // String != FilterIter
-        2, // Float != Unknown
-        2, // Float != Int
-        32, // Float != Bool
-        32, // Float != String
         2, // Float != Float
+        2, // Unknown != NoneType
+        32, // Int != NoneType
+        32, // Bool != NoneType
+        32, // String != NoneType
         32, // Float != NoneType
-        32, // Float != Range
-        32, // Float != Function
-        32, // Float != List
-        32, // Float != Dict
-        32, // Float != Tuple
-        32, // Float != MapIter
-        32, // Float != FilterIter
-        2, // NoneType != Unknown
-        32, // NoneType != Int
-        32, // NoneType != Bool
-        32, // NoneType != String
-        32, // NoneType != Float
         2, // NoneType != NoneType
+        2, // Unknown != Range
+        32, // Int != Range
+        32, // Bool != Range
+        32, // String != Range
+        32, // Float != Range
         32, // NoneType != Range
-        32, // NoneType != Function
-        32, // NoneType != List
-        32, // NoneType != Dict
-        32, // NoneType != Tuple
-        32, // NoneType != MapIter
-        32, // NoneType != FilterIter
-        2, // Range != Unknown
-        32, // Range != Int
-        32, // Range != Bool
-        32, // Range != String
-        32, // Range != Float
-        32, // Range != NoneType
         2, // Range != Range
+        2, // Unknown != Function
+        32, // Int != Function
+        32, // Bool != Function
+        32, // String != Function
+        32, // Float != Function
+        32, // NoneType != Function
         32, // Range != Function
-        32, // Range != List
-        32, // Range != Dict
-        32, // Range != Tuple
-        32, // Range != MapIter
-        32, // Range != FilterIter
-        2, // Function != Unknown
-        32, // Function != Int
-        32, // Function != Bool
-        32, // Function != String
-        32, // Function != Float
-        32, // Function != NoneType
-        32, // Function != Range
         2, // Function != Function
+        2, // Unknown != List
+        32, // Int != List
+        32, // Bool != List
+        32, // String != List
+        32, // Float != List
+        32, // NoneType != List
+        32, // Range != List
         32, // Function != List
-        32, // Function != Dict
-        32, // Function != Tuple
-        32, // Function != MapIter
-        32, // Function != FilterIter
-        2, // List != Unknown
-        32, // List != Int
-        32, // List != Bool
-        32, // List != String
-        32, // List != Float
-        32, // List != NoneType
-        32, // List != Range
-        32, // List != Function
         8, // List != List
+        2, // Unknown != Dict
+        32, // Int != Dict
+        32, // Bool != Dict
+        32, // String != Dict
+        32, // Float != Dict
+        32, // NoneType != Dict
+        32, // Range != Dict
+        32, // Function != Dict
         32, // List != Dict
-        32, // List != Tuple
-        32, // List != MapIter
-        32, // List != FilterIter
-        2, // Dict != Unknown
-        32, // Dict != Int
-        32, // Dict != Bool
-        32, // Dict != String
-        32, // Dict != Float
-        32, // Dict != NoneType
-        32, // Dict != Range
-        32, // Dict != Function
-        32, // Dict != List
         8, // Dict != Dict
+        2, // Unknown != Tuple
+        32, // Int != Tuple
+        32, // Bool != Tuple
+        32, // String != Tuple
+        32, // Float != Tuple
+        32, // NoneType != Tuple
+        32, // Range != Tuple
+        32, // Function != Tuple
+        32, // List != Tuple
         32, // Dict != Tuple
-        32, // Dict != MapIter
-        32, // Dict != FilterIter
-        2, // Tuple != Unknown
-        32, // Tuple != Int
-        32, // Tuple != Bool
-        32, // Tuple != String
-        32, // Tuple != Float
-        32, // Tuple != NoneType
-        32, // Tuple != Range
-        32, // Tuple != Function
-        32, // Tuple != List
-        32, // Tuple != Dict
         8, // Tuple != Tuple
+        2, // Unknown != MapIter
+        32, // Int != MapIter
+        32, // Bool != MapIter
+        32, // String != MapIter
+        32, // Float != MapIter
+        32, // NoneType != MapIter
+        32, // Range != MapIter
+        32, // Function != MapIter
+        32, // List != MapIter
+        32, // Dict != MapIter
         32, // Tuple != MapIter
-        32, // Tuple != FilterIter
-        2, // MapIter != Unknown
-        32, // MapIter != Int
-        32, // MapIter != Bool
-        32, // MapIter != String
-        32, // MapIter != Float
-        32, // MapIter != NoneType
-        32, // MapIter != Range
-        32, // MapIter != Function
-        32, // MapIter != List
-        32, // MapIter != Dict
-        32, // MapIter != Tuple
         8, // MapIter != MapIter
+        2, // Unknown != FilterIter
+        32, // Int != FilterIter
+        32, // Bool != FilterIter
+        32, // String != FilterIter
+        32, // Float != FilterIter
+        32, // NoneType != FilterIter
+        32, // Range != FilterIter
+        32, // Function != FilterIter
+        32, // List != FilterIter
+        32, // Dict != FilterIter
+        32, // Tuple != FilterIter
         32, // MapIter != FilterIter
-        2, // FilterIter != Unknown
-        32, // FilterIter != Int
-        32, // FilterIter != Bool
-        32, // FilterIter != String
-        32, // FilterIter != Float
-        32, // FilterIter != NoneType
-        32, // FilterIter != Range
-        32, // FilterIter != Function
-        32, // FilterIter != List
-        32, // FilterIter != Dict
-        32, // FilterIter != Tuple
-        32, // FilterIter != MapIter
         8, // FilterIter != FilterIter
     ],
     // `<` takes what + takes; else 31
     [
         2, // Unknown < Unknown
         2, // Unknown < Int
-        31, // Unknown < Bool
-        2, // Unknown < String
-        2, // Unknown < Float
-        31, // Unknown < NoneType
-        31, // Unknown < Range
-        31, // Unknown < Function
-        31, // Unknown < List
-        31, // Unknown < Dict
-        31, // Unknown < Tuple
-        31, // Unknown < MapIter
-        31, // Unknown < FilterIter
-        2, // Int < Unknown
         2, // Int < Int
+        31, // Unknown < Bool
         31, // Int < Bool
-        31, // Int < String
-        2, // Int < Float
-        31, // Int < NoneType
-        31, // Int < Range
-        31, // Int < Function
-        31, // Int < List
-        31, // Int < Dict
-        31, // Int < Tuple
-        31, // Int < MapIter
-        31, // Int < FilterIter
-        31, // Bool < Unknown
-        31, // Bool < Int
         31, // Bool < Bool
+        2, // Unknown < String
+        31, // Int < String
         31, // Bool < String
-        31, // Bool < Float
-        31, // Bool < NoneType
-        31, // Bool < Range
-        31, // Bool < Function
-        31, // Bool < List
-        31, // Bool < Dict
-        31, // Bool < Tuple
-        31, // Bool < MapIter
-        31, // Bool < FilterIter
-        2, // String < Unknown
-        31, // String < Int
-        31, // String < Bool
         2, // String < String
+        2, // Unknown < Float
+        2, // Int < Float
+        31, // Bool < Float
         31, // String < Float
-        31, // String < NoneType
-        31, // String < Range
-        31, // String < Function
-        31, // String < List
-        31, // String < Dict
-        31, // String < Tuple
-        31, // String < MapIter
-        31, // String < FilterIter
-        2, // Float < Unknown
-        2, // Float < Int
-        31, // Float < Bool
-        31, // Float < String
         2, // Float < Float
+        31, // Unknown < NoneType
+        31, // Int < NoneType
+        31, // Bool < NoneType
+        31, // String < NoneType
         31, // Float < NoneType
-        31, // Float < Range
-        31, // Float < Function
-        31, // Float < List
-        31, // Float < Dict
-        31, // Float < Tuple
-        31, // Float < MapIter
-        31, // Float < FilterIter
-        31, // NoneType < Unknown
-        31, // NoneType < Int
-        31, // NoneType < Bool
-        31, // NoneType < String
-        31, // NoneType < Float
         31, // NoneType < NoneType
+        31, // Unknown < Range
+        31, // Int < Range
+        31, // Bool < Range
+        31, // String < Range
+        31, // Float < Range
         31, // NoneType < Range
-        31, // NoneType < Function
-        31, // NoneType < List
-        31, // NoneType < Dict
-        31, // NoneType < Tuple
-        31, // NoneType < MapIter
-        31, // NoneType < FilterIter
-        31, // Range < Unknown
-        31, // Range < Int
-        31, // Range < Bool
-        31, // Range < String
-        31, // Range < Float
-        31, // Range < NoneType
         31, // Range < Range
+        31, // Unknown < Function
+        31, // Int < Function
+        31, // Bool < Function
+        31, // String < Function
+        31, // Float < Function
+        31, // NoneType < Function
         31, // Range < Function
-        31, // Range < List
-        31, // Range < Dict
-        31, // Range < Tuple
-        31, // Range < MapIter
-        31, // Range < FilterIter
-        31, // Function < Unknown
-        31, // Function < Int
-        31, // Function < Bool
-        31, // Function < String
-        31, // Function < Float
-        31, // Function < NoneType
-        31, // Function < Range
         31, // Function < Function
+        31, // Unknown < List
+        31, // Int < List
+        31, // Bool < List
+        31, // String < List
+        31, // Float < List
+        31, // NoneType < List
+        31, // Range < List
         31, // Function < List
-        31, // Function < Dict
-        31, // Function < Tuple
-        31, // Function < MapIter
-        31, // Function < FilterIter
-        31, // List < Unknown
-        31, // List < Int
-        31, // List < Bool
-        31, // List < String
-        31, // List < Float
-        31, // List < NoneType
-        31, // List < Range
-        31, // List < Function
         31, // List < List
+        31, // Unknown < Dict
+        31, // Int < Dict
+        31, // Bool < Dict
+        31, // String < Dict
+        31, // Float < Dict
+        31, // NoneType < Dict
+        31, // Range < Dict
+        31, // Function < Dict
         31, // List < Dict
-        31, // List < Tuple
-        31, // List < MapIter
-        31, // List < FilterIter
-        31, // Dict < Unknown
-        31, // Dict < Int
-        31, // Dict < Bool
-        31, // Dict < String
-        31, // Dict < Float
-        31, // Dict < NoneType
-        31, // Dict < Range
-        31, // Dict < Function
-        31, // Dict < List
         31, // Dict < Dict
+        31, // Unknown < Tuple
+        31, // Int < Tuple
+        31, // Bool < Tuple
+        31, // String < Tuple
+        31, // Float < Tuple
+        31, // NoneType < Tuple
+        31, // Range < Tuple
+        31, // Function < Tuple
+        31, // List < Tuple
         31, // Dict < Tuple
-        31, // Dict < MapIter
-        31, // Dict < FilterIter
-        31, // Tuple < Unknown
-        31, // Tuple < Int
-        31, // Tuple < Bool
-        31, // Tuple < String
-        31, // Tuple < Float
-        31, // Tuple < NoneType
-        31, // Tuple < Range
-        31, // Tuple < Function
-        31, // Tuple < List
-        31, // Tuple < Dict
         31, // Tuple < Tuple
+        31, // Unknown < MapIter
+        31, // Int < MapIter
+        31, // Bool < MapIter
+        31, // String < MapIter
+        31, // Float < MapIter
+        31, // NoneType < MapIter
+        31, // Range < MapIter
+        31, // Function < MapIter
+        31, // List < MapIter
+        31, // Dict < MapIter
         31, // Tuple < MapIter
-        31, // Tuple < FilterIter
-        31, // MapIter < Unknown
-        31, // MapIter < Int
-        31, // MapIter < Bool
-        31, // MapIter < String
-        31, // MapIter < Float
-        31, // MapIter < NoneType
-        31, // MapIter < Range
-        31, // MapIter < Function
-        31, // MapIter < List
-        31, // MapIter < Dict
-        31, // MapIter < Tuple
         31, // MapIter < MapIter
+        31, // Unknown < FilterIter
+        31, // Int < FilterIter
+        31, // Bool < FilterIter
+        31, // String < FilterIter
+        31, // Float < FilterIter
+        31, // NoneType < FilterIter
+        31, // Range < FilterIter
+        31, // Function < FilterIter
+        31, // List < FilterIter
+        31, // Dict < FilterIter
+        31, // Tuple < FilterIter
         31, // MapIter < FilterIter
-        31, // FilterIter < Unknown
-        31, // FilterIter < Int
-        31, // FilterIter < Bool
-        31, // FilterIter < String
-        31, // FilterIter < Float
-        31, // FilterIter < NoneType
-        31, // FilterIter < Range
-        31, // FilterIter < Function
-        31, // FilterIter < List
-        31, // FilterIter < Dict
-        31, // FilterIter < Tuple
-        31, // FilterIter < MapIter
         31, // FilterIter < FilterIter
     ],
     // `<=` takes what + takes; else 31
     [
         2, // Unknown <= Unknown
         2, // Unknown <= Int
-        31, // Unknown <= Bool
-        2, // Unknown <= String
-        2, // Unknown <= Float
-        31, // Unknown <= NoneType
-        31, // Unknown <= Range
-        31, // Unknown <= Function
-        31, // Unknown <= List
-        31, // Unknown <= Dict
-        31, // Unknown <= Tuple
-        31, // Unknown <= MapIter
-        31, // Unknown <= FilterIter
-        2, // Int <= Unknown
         2, // Int <= Int
+        31, // Unknown <= Bool
         31, // Int <= Bool
-        31, // Int <= String
-        2, // Int <= Float
-        31, // Int <= NoneType
-        31, // Int <= Range
-        31, // Int <= Function
-        31, // Int <= List
-        31, // Int <= Dict
-        31, // Int <= Tuple
-        31, // Int <= MapIter
-        31, // Int <= FilterIter
-        31, // Bool <= Unknown
-        31, // Bool <= Int
         31, // Bool <= Bool
+        2, // Unknown <= String
+        31, // Int <= String
         31, // Bool <= String
-        31, // Bool <= Float
-        31, // Bool <= NoneType
-        31, // Bool <= Range
-        31, // Bool <= Function
-        31, // Bool <= List
-        31, // Bool <= Dict
-        31, // Bool <= Tuple
-        31, // Bool <= MapIter
-        31, // Bool <= FilterIter
-        2, // String <= Unknown
-        31, // String <= Int
-        31, // String <= Bool
         2, // String <= String
+        2, // Unknown <= Float
+        2, // Int <= Float
+        31, // Bool <= Float
         31, // String <= Float
-        31, // String <= NoneType
-        31, // String <= Range
-        31, // String <= Function
-        31, // String <= List
-        31, // String <= Dict
-        31, // String <= Tuple
-        31, // String <= MapIter
-        31, // String <= FilterIter
-        2, // Float <= Unknown
-        2, // Float <= Int
-        31, // Float <= Bool
-        31, // Float <= String
         2, // Float <= Float
+        31, // Unknown <= NoneType
+        31, // Int <= NoneType
+        31, // Bool <= NoneType
+        31, // String <= NoneType
         31, // Float <= NoneType
-        31, // Float <= Range
-        31, // Float <= Function
-        31, // Float <= List
-        31, // Float <= Dict
-        31, // Float <= Tuple
-        31, // Float <= MapIter
-        31, // Float <= FilterIter
-        31, // NoneType <= Unknown
-        31, // NoneType <= Int
-        31, // NoneType <= Bool
-        31, // NoneType <= String
-        31, // NoneType <= Float
         31, // NoneType <= NoneType
+        31, // Unknown <= Range
+        31, // Int <= Range
+        31, // Bool <= Range
+        31, // String <= Range
+        31, // Float <= Range
         31, // NoneType <= Range
-        31, // NoneType <= Function
-        31, // NoneType <= List
-        31, // NoneType <= Dict
-        31, // NoneType <= Tuple
-        31, // NoneType <= MapIter
-        31, // NoneType <= FilterIter
-        31, // Range <= Unknown
-        31, // Range <= Int
-        31, // Range <= Bool
-        31, // Range <= String
-        31, // Range <= Float
-        31, // Range <= NoneType
         31, // Range <= Range
+        31, // Unknown <= Function
+        31, // Int <= Function
+        31, // Bool <= Function
+        31, // String <= Function
+        31, // Float <= Function
+        31, // NoneType <= Function
         31, // Range <= Function
-        31, // Range <= List
-        31, // Range <= Dict
-        31, // Range <= Tuple
-        31, // Range <= MapIter
-        31, // Range <= FilterIter
-        31, // Function <= Unknown
-        31, // Function <= Int
-        31, // Function <= Bool
-        31, // Function <= String
-        31, // Function <= Float
-        31, // Function <= NoneType
-        31, // Function <= Range
         31, // Function <= Function
+        31, // Unknown <= List
+        31, // Int <= List
+        31, // Bool <= List
+        31, // String <= List
+        31, // Float <= List
+        31, // NoneType <= List
+        31, // Range <= List
         31, // Function <= List
-        31, // Function <= Dict
-        31, // Function <= Tuple
-        31, // Function <= MapIter
-        31, // Function <= FilterIter
-        31, // List <= Unknown
-        31, // List <= Int
-        31, // List <= Bool
-        31, // List <= String
-        31, // List <= Float
-        31, // List <= NoneType
-        31, // List <= Range
-        31, // List <= Function
         31, // List <= List
+        31, // Unknown <= Dict
+        31, // Int <= Dict
+        31, // Bool <= Dict
+        31, // String <= Dict
+        31, // Float <= Dict
+        31, // NoneType <= Dict
+        31, // Range <= Dict
+        31, // Function <= Dict
         31, // List <= Dict
-        31, // List <= Tuple
-        31, // List <= MapIter
-        31, // List <= FilterIter
-        31, // Dict <= Unknown
-        31, // Dict <= Int
-        31, // Dict <= Bool
-        31, // Dict <= String
-        31, // Dict <= Float
-        31, // Dict <= NoneType
-        31, // Dict <= Range
-        31, // Dict <= Function
-        31, // Dict <= List
         31, // Dict <= Dict
+        31, // Unknown <= Tuple
+        31, // Int <= Tuple
+        31, // Bool <= Tuple
+        31, // String <= Tuple
+        31, // Float <= Tuple
+        31, // NoneType <= Tuple
+        31, // Range <= Tuple
+        31, // Function <= Tuple
+        31, // List <= Tuple
         31, // Dict <= Tuple
-        31, // Dict <= MapIter
-        31, // Dict <= FilterIter
-        31, // Tuple <= Unknown
-        31, // Tuple <= Int
-        31, // Tuple <= Bool
-        31, // Tuple <= String
-        31, // Tuple <= Float
-        31, // Tuple <= NoneType
-        31, // Tuple <= Range
-        31, // Tuple <= Function
-        31, // Tuple <= List
-        31, // Tuple <= Dict
         31, // Tuple <= Tuple
+        31, // Unknown <= MapIter
+        31, // Int <= MapIter
+        31, // Bool <= MapIter
+        31, // String <= MapIter
+        31, // Float <= MapIter
+        31, // NoneType <= MapIter
+        31, // Range <= MapIter
+        31, // Function <= MapIter
+        31, // List <= MapIter
+        31, // Dict <= MapIter
         31, // Tuple <= MapIter
-        31, // Tuple <= FilterIter
-        31, // MapIter <= Unknown
-        31, // MapIter <= Int
-        31, // MapIter <= Bool
-        31, // MapIter <= String
-        31, // MapIter <= Float
-        31, // MapIter <= NoneType
-        31, // MapIter <= Range
-        31, // MapIter <= Function
-        31, // MapIter <= List
-        31, // MapIter <= Dict
-        31, // MapIter <= Tuple
         31, // MapIter <= MapIter
+        31, // Unknown <= FilterIter
+        31, // Int <= FilterIter
+        31, // Bool <= FilterIter
+        31, // String <= FilterIter
+        31, // Float <= FilterIter
+        31, // NoneType <= FilterIter
+        31, // Range <= FilterIter
+        31, // Function <= FilterIter
+        31, // List <= FilterIter
+        31, // Dict <= FilterIter
+        31, // Tuple <= FilterIter
         31, // MapIter <= FilterIter
-        31, // FilterIter <= Unknown
-        31, // FilterIter <= Int
-        31, // FilterIter <= Bool
-        31, // FilterIter <= String
-        31, // FilterIter <= Float
-        31, // FilterIter <= NoneType
-        31, // FilterIter <= Range
-        31, // FilterIter <= Function
-        31, // FilterIter <= List
-        31, // FilterIter <= Dict
-        31, // FilterIter <= Tuple
-        31, // FilterIter <= MapIter
         31, // FilterIter <= FilterIter
     ],
     // `>` takes what + takes; else 31
     [
         2, // Unknown > Unknown
         2, // Unknown > Int
-        31, // Unknown > Bool
-        2, // Unknown > String
-        2, // Unknown > Float
-        31, // Unknown > NoneType
-        31, // Unknown > Range
-        31, // Unknown > Function
-        31, // Unknown > List
-        31, // Unknown > Dict
-        31, // Unknown > Tuple
-        31, // Unknown > MapIter
-        31, // Unknown > FilterIter
-        2, // Int > Unknown
         2, // Int > Int
+        31, // Unknown > Bool
         31, // Int > Bool
-        31, // Int > String
-        2, // Int > Float
-        31, // Int > NoneType
-        31, // Int > Range
-        31, // Int > Function
-        31, // Int > List
-        31, // Int > Dict
-        31, // Int > Tuple
-        31, // Int > MapIter
-        31, // Int > FilterIter
-        31, // Bool > Unknown
-        31, // Bool > Int
         31, // Bool > Bool
+        2, // Unknown > String
+        31, // Int > String
         31, // Bool > String
-        31, // Bool > Float
-        31, // Bool > NoneType
-        31, // Bool > Range
-        31, // Bool > Function
-        31, // Bool > List
-        31, // Bool > Dict
-        31, // Bool > Tuple
-        31, // Bool > MapIter
-        31, // Bool > FilterIter
-        2, // String > Unknown
-        31, // String > Int
-        31, // String > Bool
         2, // String > String
+        2, // Unknown > Float
+        2, // Int > Float
+        31, // Bool > Float
         31, // String > Float
-        31, // String > NoneType
-        31, // String > Range
-        31, // String > Function
-        31, // String > List
-        31, // String > Dict
-        31, // String > Tuple
-        31, // String > MapIter
-        31, // String > FilterIter
-        2, // Float > Unknown
-        2, // Float > Int
-        31, // Float > Bool
-        31, // Float > String
         2, // Float > Float
+        31, // Unknown > NoneType
+        31, // Int > NoneType
+        31, // Bool > NoneType
+        31, // String > NoneType
         31, // Float > NoneType
-        31, // Float > Range
-        31, // Float > Function
-        31, // Float > List
-        31, // Float > Dict
-        31, // Float > Tuple
-        31, // Float > MapIter
-        31, // Float > FilterIter
-        31, // NoneType > Unknown
-        31, // NoneType > Int
-        31, // NoneType > Bool
-        31, // NoneType > String
-        31, // NoneType > Float
         31, // NoneType > NoneType
+        31, // Unknown > Range
+        31, // Int > Range
+        31, // Bool > Range
+        31, // String > Range
+        31, // Float > Range
         31, // NoneType > Range
-        31, // NoneType > Function
-        31, // NoneType > List
-        31, // NoneType > Dict
-        31, // NoneType > Tuple
-        31, // NoneType > MapIter
-        31, // NoneType > FilterIter
-        31, // Range > Unknown
-        31, // Range > Int
-        31, // Range > Bool
-        31, // Range > String
-        31, // Range > Float
-        31, // Range > NoneType
         31, // Range > Range
+        31, // Unknown > Function
+        31, // Int > Function
+        31, // Bool > Function
+        31, // String > Function
+        31, // Float > Function
+        31, // NoneType > Function
         31, // Range > Function
-        31, // Range > List
-        31, // Range > Dict
-        31, // Range > Tuple
-        31, // Range > MapIter
-        31, // Range > FilterIter
-        31, // Function > Unknown
-        31, // Function > Int
-        31, // Function > Bool
-        31, // Function > String
-        31, // Function > Float
-        31, // Function > NoneType
-        31, // Function > Range
         31, // Function > Function
+        31, // Unknown > List
+        31, // Int > List
+        31, // Bool > List
+        31, // String > List
+        31, // Float > List
+        31, // NoneType > List
+        31, // Range > List
         31, // Function > List
-        31, // Function > Dict
-        31, // Function > Tuple
-        31, // Function > MapIter
-        31, // Function > FilterIter
-        31, // List > Unknown
-        31, // List > Int
-        31, // List > Bool
-        31, // List > String
-        31, // List > Float
-        31, // List > NoneType
-        31, // List > Range
-        31, // List > Function
         31, // List > List
+        31, // Unknown > Dict
+        31, // Int > Dict
+        31, // Bool > Dict
+        31, // String > Dict
+        31, // Float > Dict
+        31, // NoneType > Dict
+        31, // Range > Dict
+        31, // Function > Dict
         31, // List > Dict
-        31, // List > Tuple
-        31, // List > MapIter
-        31, // List > FilterIter
-        31, // Dict > Unknown
-        31, // Dict > Int
-        31, // Dict > Bool
-        31, // Dict > String
-        31, // Dict > Float
-        31, // Dict > NoneType
-        31, // Dict > Range
-        31, // Dict > Function
-        31, // Dict > List
         31, // Dict > Dict
+        31, // Unknown > Tuple
+        31, // Int > Tuple
+        31, // Bool > Tuple
+        31, // String > Tuple
+        31, // Float > Tuple
+        31, // NoneType > Tuple
+        31, // Range > Tuple
+        31, // Function > Tuple
+        31, // List > Tuple
         31, // Dict > Tuple
-        31, // Dict > MapIter
-        31, // Dict > FilterIter
-        31, // Tuple > Unknown
-        31, // Tuple > Int
-        31, // Tuple > Bool
-        31, // Tuple > String
-        31, // Tuple > Float
-        31, // Tuple > NoneType
-        31, // Tuple > Range
-        31, // Tuple > Function
-        31, // Tuple > List
-        31, // Tuple > Dict
         31, // Tuple > Tuple
+        31, // Unknown > MapIter
+        31, // Int > MapIter
+        31, // Bool > MapIter
+        31, // String > MapIter
+        31, // Float > MapIter
+        31, // NoneType > MapIter
+        31, // Range > MapIter
+        31, // Function > MapIter
+        31, // List > MapIter
+        31, // Dict > MapIter
         31, // Tuple > MapIter
-        31, // Tuple > FilterIter
-        31, // MapIter > Unknown
-        31, // MapIter > Int
-        31, // MapIter > Bool
-        31, // MapIter > String
-        31, // MapIter > Float
-        31, // MapIter > NoneType
-        31, // MapIter > Range
-        31, // MapIter > Function
-        31, // MapIter > List
-        31, // MapIter > Dict
-        31, // MapIter > Tuple
         31, // MapIter > MapIter
+        31, // Unknown > FilterIter
+        31, // Int > FilterIter
+        31, // Bool > FilterIter
+        31, // String > FilterIter
+        31, // Float > FilterIter
+        31, // NoneType > FilterIter
+        31, // Range > FilterIter
+        31, // Function > FilterIter
+        31, // List > FilterIter
+        31, // Dict > FilterIter
+        31, // Tuple > FilterIter
         31, // MapIter > FilterIter
-        31, // FilterIter > Unknown
-        31, // FilterIter > Int
-        31, // FilterIter > Bool
-        31, // FilterIter > String
-        31, // FilterIter > Float
-        31, // FilterIter > NoneType
-        31, // FilterIter > Range
-        31, // FilterIter > Function
-        31, // FilterIter > List
-        31, // FilterIter > Dict
-        31, // FilterIter > Tuple
-        31, // FilterIter > MapIter
         31, // FilterIter > FilterIter
     ],
     // `>=` takes what + takes; else 31
     [
         2, // Unknown >= Unknown
         2, // Unknown >= Int
-        31, // Unknown >= Bool
-        2, // Unknown >= String
-        2, // Unknown >= Float
-        31, // Unknown >= NoneType
-        31, // Unknown >= Range
-        31, // Unknown >= Function
-        31, // Unknown >= List
-        31, // Unknown >= Dict
-        31, // Unknown >= Tuple
-        31, // Unknown >= MapIter
-        31, // Unknown >= FilterIter
-        2, // Int >= Unknown
         2, // Int >= Int
+        31, // Unknown >= Bool
         31, // Int >= Bool
-        31, // Int >= String
-        2, // Int >= Float
-        31, // Int >= NoneType
-        31, // Int >= Range
-        31, // Int >= Function
-        31, // Int >= List
-        31, // Int >= Dict
-        31, // Int >= Tuple
-        31, // Int >= MapIter
-        31, // Int >= FilterIter
-        31, // Bool >= Unknown
-        31, // Bool >= Int
         31, // Bool >= Bool
+        2, // Unknown >= String
+        31, // Int >= String
         31, // Bool >= String
-        31, // Bool >= Float
-        31, // Bool >= NoneType
-        31, // Bool >= Range
-        31, // Bool >= Function
-        31, // Bool >= List
-        31, // Bool >= Dict
-        31, // Bool >= Tuple
-        31, // Bool >= MapIter
-        31, // Bool >= FilterIter
-        2, // String >= Unknown
-        31, // String >= Int
-        31, // String >= Bool
         2, // String >= String
+        2, // Unknown >= Float
+        2, // Int >= Float
+        31, // Bool >= Float
         31, // String >= Float
-        31, // String >= NoneType
-        31, // String >= Range
-        31, // String >= Function
-        31, // String >= List
-        31, // String >= Dict
-        31, // String >= Tuple
-        31, // String >= MapIter
-        31, // String >= FilterIter
-        2, // Float >= Unknown
-        2, // Float >= Int
-        31, // Float >= Bool
-        31, // Float >= String
         2, // Float >= Float
+        31, // Unknown >= NoneType
+        31, // Int >= NoneType
+        31, // Bool >= NoneType
+        31, // String >= NoneType
         31, // Float >= NoneType
-        31, // Float >= Range
-        31, // Float >= Function
-        31, // Float >= List
-        31, // Float >= Dict
-        31, // Float >= Tuple
-        31, // Float >= MapIter
-        31, // Float >= FilterIter
-        31, // NoneType >= Unknown
-        31, // NoneType >= Int
-        31, // NoneType >= Bool
-        31, // NoneType >= String
-        31, // NoneType >= Float
         31, // NoneType >= NoneType
+        31, // Unknown >= Range
+        31, // Int >= Range
+        31, // Bool >= Range
+        31, // String >= Range
+        31, // Float >= Range
         31, // NoneType >= Range
-        31, // NoneType >= Function
-        31, // NoneType >= List
-        31, // NoneType >= Dict
-        31, // NoneType >= Tuple
-        31, // NoneType >= MapIter
-        31, // NoneType >= FilterIter
-        31, // Range >= Unknown
-        31, // Range >= Int
-        31, // Range >= Bool
-        31, // Range >= String
-        31, // Range >= Float
-        31, // Range >= NoneType
         31, // Range >= Range
+        31, // Unknown >= Function
+        31, // Int >= Function
+        31, // Bool >= Function
+        31, // String >= Function
+        31, // Float >= Function
+        31, // NoneType >= Function
         31, // Range >= Function
-        31, // Range >= List
-        31, // Range >= Dict
-        31, // Range >= Tuple
-        31, // Range >= MapIter
-        31, // Range >= FilterIter
-        31, // Function >= Unknown
-        31, // Function >= Int
-        31, // Function >= Bool
-        31, // Function >= String
-        31, // Function >= Float
-        31, // Function >= NoneType
-        31, // Function >= Range
         31, // Function >= Function
+        31, // Unknown >= List
+        31, // Int >= List
+        31, // Bool >= List
+        31, // String >= List
+        31, // Float >= List
+        31, // NoneType >= List
+        31, // Range >= List
         31, // Function >= List
-        31, // Function >= Dict
-        31, // Function >= Tuple
-        31, // Function >= MapIter
-        31, // Function >= FilterIter
-        31, // List >= Unknown
-        31, // List >= Int
-        31, // List >= Bool
-        31, // List >= String
-        31, // List >= Float
-        31, // List >= NoneType
-        31, // List >= Range
-        31, // List >= Function
         31, // List >= List
+        31, // Unknown >= Dict
+        31, // Int >= Dict
+        31, // Bool >= Dict
+        31, // String >= Dict
+        31, // Float >= Dict
+        31, // NoneType >= Dict
+        31, // Range >= Dict
+        31, // Function >= Dict
         31, // List >= Dict
-        31, // List >= Tuple
-        31, // List >= MapIter
-        31, // List >= FilterIter
-        31, // Dict >= Unknown
-        31, // Dict >= Int
-        31, // Dict >= Bool
-        31, // Dict >= String
-        31, // Dict >= Float
-        31, // Dict >= NoneType
-        31, // Dict >= Range
-        31, // Dict >= Function
-        31, // Dict >= List
         31, // Dict >= Dict
+        31, // Unknown >= Tuple
+        31, // Int >= Tuple
+        31, // Bool >= Tuple
+        31, // String >= Tuple
+        31, // Float >= Tuple
+        31, // NoneType >= Tuple
+        31, // Range >= Tuple
+        31, // Function >= Tuple
+        31, // List >= Tuple
         31, // Dict >= Tuple
-        31, // Dict >= MapIter
-        31, // Dict >= FilterIter
-        31, // Tuple >= Unknown
-        31, // Tuple >= Int
-        31, // Tuple >= Bool
-        31, // Tuple >= String
-        31, // Tuple >= Float
-        31, // Tuple >= NoneType
-        31, // Tuple >= Range
-        31, // Tuple >= Function
-        31, // Tuple >= List
-        31, // Tuple >= Dict
         31, // Tuple >= Tuple
+        31, // Unknown >= MapIter
+        31, // Int >= MapIter
+        31, // Bool >= MapIter
+        31, // String >= MapIter
+        31, // Float >= MapIter
+        31, // NoneType >= MapIter
+        31, // Range >= MapIter
+        31, // Function >= MapIter
+        31, // List >= MapIter
+        31, // Dict >= MapIter
         31, // Tuple >= MapIter
-        31, // Tuple >= FilterIter
-        31, // MapIter >= Unknown
-        31, // MapIter >= Int
-        31, // MapIter >= Bool
-        31, // MapIter >= String
-        31, // MapIter >= Float
-        31, // MapIter >= NoneType
-        31, // MapIter >= Range
-        31, // MapIter >= Function
-        31, // MapIter >= List
-        31, // MapIter >= Dict
-        31, // MapIter >= Tuple
         31, // MapIter >= MapIter
+        31, // Unknown >= FilterIter
+        31, // Int >= FilterIter
+        31, // Bool >= FilterIter
+        31, // String >= FilterIter
+        31, // Float >= FilterIter
+        31, // NoneType >= FilterIter
+        31, // Range >= FilterIter
+        31, // Function >= FilterIter
+        31, // List >= FilterIter
+        31, // Dict >= FilterIter
+        31, // Tuple >= FilterIter
         31, // MapIter >= FilterIter
-        31, // FilterIter >= Unknown
-        31, // FilterIter >= Int
-        31, // FilterIter >= Bool
-        31, // FilterIter >= String
-        31, // FilterIter >= Float
-        31, // FilterIter >= NoneType
-        31, // FilterIter >= Range
-        31, // FilterIter >= Function
-        31, // FilterIter >= List
-        31, // FilterIter >= Dict
-        31, // FilterIter >= Tuple
-        31, // FilterIter >= MapIter
         31, // FilterIter >= FilterIter
     ],
     // `and` takes anything
     [
         2, // Unknown and Unknown
         2, // Unknown and Int
-        2, // Unknown and Bool
-        2, // Unknown and String
-        2, // Unknown and Float
-        2, // Unknown and NoneType
-        2, // Unknown and Range
-        2, // Unknown and Function
-        2, // Unknown and List
-        2, // Unknown and Dict
-        2, // Unknown and Tuple
-        2, // Unknown and MapIter
-        2, // Unknown and FilterIter
-        2, // Int and Unknown
         2, // Int and Int
+        2, // Unknown and Bool
         2, // Int and Bool
-        2, // Int and String
-        2, // Int and Float
-        2, // Int and NoneType
-        2, // Int and Range
-        2, // Int and Function
-        2, // Int and List
-        2, // Int and Dict
-        2, // Int and Tuple
-        2, // Int and MapIter
-        2, // Int and FilterIter
-        2, // Bool and Unknown
-        2, // Bool and Int
         2, // Bool and Bool
+        2, // Unknown and String
+        2, // Int and String
         2, // Bool and String
-        2, // Bool and Float
-        2, // Bool and NoneType
-        2, // Bool and Range
-        2, // Bool and Function
-        2, // Bool and List
-        2, // Bool and Dict
-        2, // Bool and Tuple
-        2, // Bool and MapIter
-        2, // Bool and FilterIter
-        2, // String and Unknown
-        2, // String and Int
-        2, // String and Bool
         2, // String and String
+        2, // Unknown and Float
+        2, // Int and Float
+        2, // Bool and Float
         2, // String and Float
-        2, // String and NoneType
-        2, // String and Range
-        2, // String and Function
-        2, // String and List
-        2, // String and Dict
-        2, // String and Tuple
-        2, // String and MapIter
-        2, // String and FilterIter
-        2, // Float and Unknown
-        2, // Float and Int
-        2, // Float and Bool
-        2, // Float and String
         2, // Float and Float
+        2, // Unknown and NoneType
+        2, // Int and NoneType
+        2, // Bool and NoneType
+        2, // String and NoneType
         2, // Float and NoneType
-        2, // Float and Range
-        2, // Float and Function
-        2, // Float and List
-        2, // Float and Dict
-        2, // Float and Tuple
-        2, // Float and MapIter
-        2, // Float and FilterIter
-        2, // NoneType and Unknown
-        2, // NoneType and Int
-        2, // NoneType and Bool
-        2, // NoneType and String
-        2, // NoneType and Float
         2, // NoneType and NoneType
+        2, // Unknown and Range
+        2, // Int and Range
+        2, // Bool and Range
+        2, // String and Range
+        2, // Float and Range
         2, // NoneType and Range
-        2, // NoneType and Function
-        2, // NoneType and List
-        2, // NoneType and Dict
-        2, // NoneType and Tuple
-        2, // NoneType and MapIter
-        2, // NoneType and FilterIter
-        2, // Range and Unknown
-        2, // Range and Int
-        2, // Range and Bool
-        2, // Range and String
-        2, // Range and Float
-        2, // Range and NoneType
         2, // Range and Range
+        2, // Unknown and Function
+        2, // Int and Function
+        2, // Bool and Function
+        2, // String and Function
+        2, // Float and Function
+        2, // NoneType and Function
         2, // Range and Function
-        2, // Range and List
-        2, // Range and Dict
-        2, // Range and Tuple
-        2, // Range and MapIter
-        2, // Range and FilterIter
-        2, // Function and Unknown
-        2, // Function and Int
-        2, // Function and Bool
-        2, // Function and String
-        2, // Function and Float
-        2, // Function and NoneType
-        2, // Function and Range
         2, // Function and Function
+        2, // Unknown and List
+        2, // Int and List
+        2, // Bool and List
+        2, // String and List
+        2, // Float and List
+        2, // NoneType and List
+        2, // Range and List
         2, // Function and List
-        2, // Function and Dict
-        2, // Function and Tuple
-        2, // Function and MapIter
-        2, // Function and FilterIter
-        2, // List and Unknown
-        2, // List and Int
-        2, // List and Bool
-        2, // List and String
-        2, // List and Float
-        2, // List and NoneType
-        2, // List and Range
-        2, // List and Function
         2, // List and List
+        2, // Unknown and Dict
+        2, // Int and Dict
+        2, // Bool and Dict
+        2, // String and Dict
+        2, // Float and Dict
+        2, // NoneType and Dict
+        2, // Range and Dict
+        2, // Function and Dict
         2, // List and Dict
-        2, // List and Tuple
-        2, // List and MapIter
-        2, // List and FilterIter
-        2, // Dict and Unknown
-        2, // Dict and Int
-        2, // Dict and Bool
-        2, // Dict and String
-        2, // Dict and Float
-        2, // Dict and NoneType
-        2, // Dict and Range
-        2, // Dict and Function
-        2, // Dict and List
         2, // Dict and Dict
+        2, // Unknown and Tuple
+        2, // Int and Tuple
+        2, // Bool and Tuple
+        2, // String and Tuple
+        2, // Float and Tuple
+        2, // NoneType and Tuple
+        2, // Range and Tuple
+        2, // Function and Tuple
+        2, // List and Tuple
         2, // Dict and Tuple
-        2, // Dict and MapIter
-        2, // Dict and FilterIter
-        2, // Tuple and Unknown
-        2, // Tuple and Int
-        2, // Tuple and Bool
-        2, // Tuple and String
-        2, // Tuple and Float
-        2, // Tuple and NoneType
-        2, // Tuple and Range
-        2, // Tuple and Function
-        2, // Tuple and List
-        2, // Tuple and Dict
         2, // Tuple and Tuple
+        2, // Unknown and MapIter
+        2, // Int and MapIter
+        2, // Bool and MapIter
+        2, // String and MapIter
+        2, // Float and MapIter
+        2, // NoneType and MapIter
+        2, // Range and MapIter
+        2, // Function and MapIter
+        2, // List and MapIter
+        2, // Dict and MapIter
         2, // Tuple and MapIter
-        2, // Tuple and FilterIter
-        2, // MapIter and Unknown
-        2, // MapIter and Int
-        2, // MapIter and Bool
-        2, // MapIter and String
-        2, // MapIter and Float
-        2, // MapIter and NoneType
-        2, // MapIter and Range
-        2, // MapIter and Function
-        2, // MapIter and List
-        2, // MapIter and Dict
-        2, // MapIter and Tuple
         2, // MapIter and MapIter
+        2, // Unknown and FilterIter
+        2, // Int and FilterIter
+        2, // Bool and FilterIter
+        2, // String and FilterIter
+        2, // Float and FilterIter
+        2, // NoneType and FilterIter
+        2, // Range and FilterIter
+        2, // Function and FilterIter
+        2, // List and FilterIter
+        2, // Dict and FilterIter
+        2, // Tuple and FilterIter
         2, // MapIter and FilterIter
-        2, // FilterIter and Unknown
-        2, // FilterIter and Int
-        2, // FilterIter and Bool
-        2, // FilterIter and String
-        2, // FilterIter and Float
-        2, // FilterIter and NoneType
-        2, // FilterIter and Range
-        2, // FilterIter and Function
-        2, // FilterIter and List
-        2, // FilterIter and Dict
-        2, // FilterIter and Tuple
-        2, // FilterIter and MapIter
         2, // FilterIter and FilterIter
     ],
     // `or` takes anything
     [
         2, // Unknown or Unknown
         2, // Unknown or Int
-        2, // Unknown or Bool
-        2, // Unknown or String
-        2, // Unknown or Float
-        2, // Unknown or NoneType
-        2, // Unknown or Range
-        2, // Unknown or Function
-        2, // Unknown or List
-        2, // Unknown or Dict
-        2, // Unknown or Tuple
-        2, // Unknown or MapIter
-        2, // Unknown or FilterIter
-        2, // Int or Unknown
         2, // Int or Int
+        2, // Unknown or Bool
         2, // Int or Bool
-        2, // Int or String
-        2, // Int or Float
-        2, // Int or NoneType
-        2, // Int or Range
-        2, // Int or Function
-        2, // Int or List
-        2, // Int or Dict
-        2, // Int or Tuple
-        2, // Int or MapIter
-        2, // Int or FilterIter
-        2, // Bool or Unknown
-        2, // Bool or Int
         2, // Bool or Bool
+        2, // Unknown or String
+        2, // Int or String
         2, // Bool or String
-        2, // Bool or Float
-        2, // Bool or NoneType
-        2, // Bool or Range
-        2, // Bool or Function
-        2, // Bool or List
-        2, // Bool or Dict
-        2, // Bool or Tuple
-        2, // Bool or MapIter
-        2, // Bool or FilterIter
-        2, // String or Unknown
-        2, // String or Int
-        2, // String or Bool
         2, // String or String
+        2, // Unknown or Float
+        2, // Int or Float
+        2, // Bool or Float
         2, // String or Float
-        2, // String or NoneType
-        2, // String or Range
-        2, // String or Function
-        2, // String or List
-        2, // String or Dict
-        2, // String or Tuple
-        2, // String or MapIter
-        2, // String or FilterIter
-        2, // Float or Unknown
-        2, // Float or Int
-        2, // Float or Bool
-        2, // Float or String
         2, // Float or Float
+        2, // Unknown or NoneType
+        2, // Int or NoneType
+        2, // Bool or NoneType
+        2, // String or NoneType
         2, // Float or NoneType
-        2, // Float or Range
-        2, // Float or Function
-        2, // Float or List
-        2, // Float or Dict
-        2, // Float or Tuple
-        2, // Float or MapIter
-        2, // Float or FilterIter
-        2, // NoneType or Unknown
-        2, // NoneType or Int
-        2, // NoneType or Bool
-        2, // NoneType or String
-        2, // NoneType or Float
         2, // NoneType or NoneType
+        2, // Unknown or Range
+        2, // Int or Range
+        2, // Bool or Range
+        2, // String or Range
+        2, // Float or Range
         2, // NoneType or Range
-        2, // NoneType or Function
-        2, // NoneType or List
-        2, // NoneType or Dict
-        2, // NoneType or Tuple
-        2, // NoneType or MapIter
-        2, // NoneType or FilterIter
-        2, // Range or Unknown
-        2, // Range or Int
-        2, // Range or Bool
-        2, // Range or String
-        2, // Range or Float
-        2, // Range or NoneType
         2, // Range or Range
+        2, // Unknown or Function
+        2, // Int or Function
+        2, // Bool or Function
+        2, // String or Function
+        2, // Float or Function
+        2, // NoneType or Function
         2, // Range or Function
-        2, // Range or List
-        2, // Range or Dict
-        2, // Range or Tuple
-        2, // Range or MapIter
-        2, // Range or FilterIter
-        2, // Function or Unknown
-        2, // Function or Int
-        2, // Function or Bool
-        2, // Function or String
-        2, // Function or Float
-        2, // Function or NoneType
-        2, // Function or Range
         2, // Function or Function
+        2, // Unknown or List
+        2, // Int or List
+        2, // Bool or List
+        2, // String or List
+        2, // Float or List
+        2, // NoneType or List
+        2, // Range or List
         2, // Function or List
-        2, // Function or Dict
-        2, // Function or Tuple
-        2, // Function or MapIter
-        2, // Function or FilterIter
-        2, // List or Unknown
-        2, // List or Int
-        2, // List or Bool
-        2, // List or String
-        2, // List or Float
-        2, // List or NoneType
-        2, // List or Range
-        2, // List or Function
         2, // List or List
+        2, // Unknown or Dict
+        2, // Int or Dict
+        2, // Bool or Dict
+        2, // String or Dict
+        2, // Float or Dict
+        2, // NoneType or Dict
+        2, // Range or Dict
+        2, // Function or Dict
         2, // List or Dict
-        2, // List or Tuple
-        2, // List or MapIter
-        2, // List or FilterIter
-        2, // Dict or Unknown
-        2, // Dict or Int
-        2, // Dict or Bool
-        2, // Dict or String
-        2, // Dict or Float
-        2, // Dict or NoneType
-        2, // Dict or Range
-        2, // Dict or Function
-        2, // Dict or List
         2, // Dict or Dict
+        2, // Unknown or Tuple
+        2, // Int or Tuple
+        2, // Bool or Tuple
+        2, // String or Tuple
+        2, // Float or Tuple
+        2, // NoneType or Tuple
+        2, // Range or Tuple
+        2, // Function or Tuple
+        2, // List or Tuple
         2, // Dict or Tuple
-        2, // Dict or MapIter
-        2, // Dict or FilterIter
-        2, // Tuple or Unknown
-        2, // Tuple or Int
-        2, // Tuple or Bool
-        2, // Tuple or String
-        2, // Tuple or Float
-        2, // Tuple or NoneType
-        2, // Tuple or Range
-        2, // Tuple or Function
-        2, // Tuple or List
-        2, // Tuple or Dict
         2, // Tuple or Tuple
+        2, // Unknown or MapIter
+        2, // Int or MapIter
+        2, // Bool or MapIter
+        2, // String or MapIter
+        2, // Float or MapIter
+        2, // NoneType or MapIter
+        2, // Range or MapIter
+        2, // Function or MapIter
+        2, // List or MapIter
+        2, // Dict or MapIter
         2, // Tuple or MapIter
-        2, // Tuple or FilterIter
-        2, // MapIter or Unknown
-        2, // MapIter or Int
-        2, // MapIter or Bool
-        2, // MapIter or String
-        2, // MapIter or Float
-        2, // MapIter or NoneType
-        2, // MapIter or Range
-        2, // MapIter or Function
-        2, // MapIter or List
-        2, // MapIter or Dict
-        2, // MapIter or Tuple
         2, // MapIter or MapIter
+        2, // Unknown or FilterIter
+        2, // Int or FilterIter
+        2, // Bool or FilterIter
+        2, // String or FilterIter
+        2, // Float or FilterIter
+        2, // NoneType or FilterIter
+        2, // Range or FilterIter
+        2, // Function or FilterIter
+        2, // List or FilterIter
+        2, // Dict or FilterIter
+        2, // Tuple or FilterIter
         2, // MapIter or FilterIter
-        2, // FilterIter or Unknown
-        2, // FilterIter or Int
-        2, // FilterIter or Bool
-        2, // FilterIter or String
-        2, // FilterIter or Float
-        2, // FilterIter or NoneType
-        2, // FilterIter or Range
-        2, // FilterIter or Function
-        2, // FilterIter or List
-        2, // FilterIter or Dict
-        2, // FilterIter or Tuple
-        2, // FilterIter or MapIter
         2, // FilterIter or FilterIter
     ],
 ];

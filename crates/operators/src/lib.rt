@@ -1,15 +1,15 @@
 // What an operator answers, by the kinds of its operands.
 ghost use mathlib.Core.Path.{_≡_};
 ghost use Prim.Native.Nat.{_<_};
-ghost use lib.ListN.{getD};
+ghost use lib.ListN.{length, getD};
 ghost use Rattle.meaning.specs.Operators.{operatorAnswer, unaryAnswer};
 ghost use Rattle.meaning.specs.Decode.{binaryOf, unaryOf};
+ghost use Rattle.operators.specs.Fold.{pairs, PlaceOf};
 
 pub mod codes;
 mod constants;
 
 use constants::ANSWERS;
-use constants::KINDS;
 use constants::Row;
 use constants::UNARY_ANSWERS;
 use constants::UnaryRow;
@@ -18,13 +18,30 @@ use words::wide8;
 // An answer below this is a plain type's number, and one above it a code. This one says: compare the whole types.
 pub const COMPARE: u32 = 8;
 
-// A row has so many answers for each kind of the left operand.
-const WIDTH: u32 = KINDS as u32;
+// How many pairs of kinds in order there are below a kind: so many answers stand before its own in a row.
+fn pairs_below(kind: u32) -> u32
+    requires { ⌜ kind < 13 ⌝ }
+    ensures { λ r. ⌜ r ≡ length (pairs kind) ⌝ }
+{
+    kind * (kind + 1) / 2
+}
+
+// Where a row has the answer for two kinds; src/constants.rt says how it is read. Here alone operands change round:
+// the caller's stay as they are, and a message names the left one first.
+fn place_of(left: u32, right: u32) -> usize
+    requires { ⌜ (left < 13) × (right < 13) ⌝ }
+    ensures { λ r. ⌜ PlaceOf left right r ⌝ }
+{
+    if right < left {
+        return (pairs_below(left) + right) as usize;
+    }
+    (pairs_below(right) + left) as usize
+}
 
 // An entry of one operator's row. The row is copied at a number that the code names, so that a use builds that row on
 // the stack and not the whole table.
 fn entry(row: Row, at: usize) -> u32
-    requires { ⌜ at < 169 ⌝ }
+    requires { ⌜ at < 91 ⌝ }
     ensures { λ r. ⌜ r ≡ getD row at 0 ⌝ }
 {
     wide8(row[at])
@@ -44,7 +61,7 @@ pub fn answer_of(op: u32, left: u32, right: u32) -> u32
     ensures { λ r. ⌜ r ≡ operatorAnswer (binaryOf op) left right ⌝ }
 {
     let table = ANSWERS;
-    let at = (left * WIDTH + right) as usize;
+    let at = place_of(left, right);
     match op {
         0 => entry(table[0], at),
         1 => entry(table[1], at),

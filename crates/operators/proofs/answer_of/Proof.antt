@@ -1,5 +1,4 @@
--- The answers stand by name in answers/answer_of.txt: the place lies in the row, and what stands there is the
--- definition's answer: the rule of proofs/Rules.antt.
+-- The answers stand by name in answers/answer_of.txt.
 use mathlib.Core.Path.{_∙_}
 use borrow.Author.Needs.{needs}
 use Rattle.operators.proofs.Lists.{answers}
@@ -7,14 +6,8 @@ use Rattle.operators.proofs.Rules.{last, rule}
 use Rattle.operators.proofs.answer_of.Statement.{statement}
 use Rattle.operators.proofs.answer_of.Tie as tie
 
-mul-at : tie.Need-mul-at
-mul-at c = search needs
-
-add-at : tie.Need-add-at
-add-at c = search needs
-
-cast-at : tie.Need-cast-at
-cast-at c = search needs
+place-of-requires : tie.Need-place-of-requires
+place-of-requires c κs = search needs
 
 array-copy-out-entry : tie.Need-array-copy-out-entry
 array-copy-out-entry c = search needs
@@ -103,80 +96,78 @@ entry-requires-14 c κs = search needs
 returns : tie.Need-returns
 unfolding answers
 returns c =
-    c .entry .ensures ∙ rule 0 (c .before .before .match .keys1) (c .before .before .before .pre)
+    c .entry .ensures ∙ rule 0 (c .before .before .match .keys1) (c .before .before .before .before .pre) (c .before .before .before .place-of .ensures)
 
 returns-2 : tie.Need-returns-2
 unfolding answers
 returns-2 c =
-    c .entry2 .ensures ∙ rule 1 (c .before .before .match .keys2) (c .before .before .before .pre)
+    c .entry2 .ensures ∙ rule 1 (c .before .before .match .keys2) (c .before .before .before .before .pre) (c .before .before .before .place-of .ensures)
 
 returns-3 : tie.Need-returns-3
 unfolding answers
 returns-3 c =
-    c .entry3 .ensures ∙ rule 2 (c .before .before .match .keys3) (c .before .before .before .pre)
+    c .entry3 .ensures ∙ rule 2 (c .before .before .match .keys3) (c .before .before .before .before .pre) (c .before .before .before .place-of .ensures)
 
 returns-4 : tie.Need-returns-4
 unfolding answers
 returns-4 c =
-    c .entry4 .ensures ∙ rule 3 (c .before .before .match .keys4) (c .before .before .before .pre)
+    c .entry4 .ensures ∙ rule 3 (c .before .before .match .keys4) (c .before .before .before .before .pre) (c .before .before .before .place-of .ensures)
 
 returns-5 : tie.Need-returns-5
 unfolding answers
 returns-5 c =
-    c .entry5 .ensures ∙ rule 4 (c .before .before .match .keys5) (c .before .before .before .pre)
+    c .entry5 .ensures ∙ rule 4 (c .before .before .match .keys5) (c .before .before .before .before .pre) (c .before .before .before .place-of .ensures)
 
 returns-6 : tie.Need-returns-6
 unfolding answers
 returns-6 c =
-    c .entry6 .ensures ∙ rule 5 (c .before .before .match .keys6) (c .before .before .before .pre)
+    c .entry6 .ensures ∙ rule 5 (c .before .before .match .keys6) (c .before .before .before .before .pre) (c .before .before .before .place-of .ensures)
 
 returns-7 : tie.Need-returns-7
 unfolding answers
 returns-7 c =
-    c .entry7 .ensures ∙ rule 6 (c .before .before .match .keys7) (c .before .before .before .pre)
+    c .entry7 .ensures ∙ rule 6 (c .before .before .match .keys7) (c .before .before .before .before .pre) (c .before .before .before .place-of .ensures)
 
 returns-8 : tie.Need-returns-8
 unfolding answers
 returns-8 c =
-    c .entry8 .ensures ∙ rule 7 (c .before .before .match .keys8) (c .before .before .before .pre)
+    c .entry8 .ensures ∙ rule 7 (c .before .before .match .keys8) (c .before .before .before .before .pre) (c .before .before .before .place-of .ensures)
 
 returns-9 : tie.Need-returns-9
 unfolding answers
 returns-9 c =
-    c .entry9 .ensures ∙ rule 8 (c .before .before .match .keys9) (c .before .before .before .pre)
+    c .entry9 .ensures ∙ rule 8 (c .before .before .match .keys9) (c .before .before .before .before .pre) (c .before .before .before .place-of .ensures)
 
 returns-10 : tie.Need-returns-10
 unfolding answers
 returns-10 c =
-    c .entry10 .ensures ∙ rule 9 (c .before .before .match .keys10) (c .before .before .before .pre)
+    c .entry10 .ensures ∙ rule 9 (c .before .before .match .keys10) (c .before .before .before .before .pre) (c .before .before .before .place-of .ensures)
 
 returns-11 : tie.Need-returns-11
 unfolding answers
 returns-11 c =
-    c .entry11 .ensures ∙ rule 10 (c .before .before .match .keys11) (c .before .before .before .pre)
+    c .entry11 .ensures ∙ rule 10 (c .before .before .match .keys11) (c .before .before .before .before .pre) (c .before .before .before .place-of .ensures)
 
 returns-12 : tie.Need-returns-12
 unfolding answers
 returns-12 c =
-    c .entry12 .ensures ∙ rule 11 (c .before .before .match .keys12) (c .before .before .before .pre)
+    c .entry12 .ensures ∙ rule 11 (c .before .before .match .keys12) (c .before .before .before .before .pre) (c .before .before .before .place-of .ensures)
 
 returns-13 : tie.Need-returns-13
 unfolding answers
 returns-13 c =
-    c .entry13 .ensures ∙ rule 12 (c .before .before .match .keys13) (c .before .before .before .pre)
+    c .entry13 .ensures ∙ rule 12 (c .before .before .match .keys13) (c .before .before .before .before .pre) (c .before .before .before .place-of .ensures)
 
 returns-14 : tie.Need-returns-14
 unfolding answers
 returns-14 c =
-    c .entry14 .ensures ∙ rule 13 (last 13 (c .before .before .before .pre .0) (c .before .before .match .rest)) (c .before .before .before .pre)
+    c .entry14 .ensures ∙ rule 13 (last 13 (c .before .before .before .before .pre .0) (c .before .before .match .rest)) (c .before .before .before .before .pre) (c .before .before .before .place-of .ensures)
 
 pub answer-of-spec : {M : Type 1} → statement M
 answer-of-spec =
     tie.close
     (tie.spec
-    mul-at
-    add-at
-    cast-at
+    place-of-requires
     array-copy-out-entry
     entry-requires
     array-copy-out-entry-2
