@@ -313,6 +313,8 @@ mistakes! {
     EqualityWantsPlain "equality-wants-plain" "== takes no structured types";
     RightBeforeLeft "right-before-left" "the right side is checked first";
     NegateBool "negate-bool" "- of Bool is Int";
+    FoldedUnordered "folded-unordered" "a folded row is read with the kinds as they stand";
+    FoldedShort "folded-short" "a folded row is read as if no kind stood beside itself";
 
     // ---- displays and indexing
     ListGoesOn "list-goes-on" "a List looks at elements behind a mismatch";
@@ -372,6 +374,7 @@ mistakes! {
     SwappedAssign "swapped-assign" "25 names the old type first";
     SwappedReturn "swapped-return" "22 names the new type first";
     SwappedOperands "swapped-operands" "29 to 33 name the right type first";
+    OrderedOperands "ordered-operands" "29 to 33 name the lower kind first";
     SwappedUnpack "swapped-unpack" "26 names the number of targets first";
     SwappedKey "swapped-key" "47 names the index first";
     RangeDescribed "range-described" "p to q is written as such where p is q";

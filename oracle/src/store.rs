@@ -84,6 +84,7 @@ pub fn stored_list(seed: u64) -> List {
     retired_faults(&mut list);
     drawn(&mut list, seed, DRAWN_RETIRED);
     add_converted(&mut list);
+    operations(&mut list);
     let mut seen: HashSet<Vec<u8>> = HashSet::new();
     list.retain(|(_, image)| seen.insert(image.clone()));
     list
@@ -169,12 +170,13 @@ fn first_spans(list: &mut List) {
     }
 }
 
+/// An operand of each kind, in the order of kinds.
+const OF_EACH_KIND: [usize; 13] = [0, 1, 2, 3, 4, 5, 6, 7, 8, 10, 12, 15, 16];
+
 /// Every operator on every pair of kinds, and everything that takes one operand on every operand.
 fn tables(list: &mut List) {
-    // One of each kind.
-    let kinds = [0, 1, 2, 3, 4, 5, 6, 7, 8, 10, 12, 15, 16];
-    for (i, left) in kinds.iter().enumerate() {
-        for (j, right) in kinds.iter().enumerate() {
+    for (i, left) in OF_EACH_KIND.iter().enumerate() {
+        for (j, right) in OF_EACH_KIND.iter().enumerate() {
             let program = calls::operator_program(*left, *right);
             list.push((format!("operators: {} and {}", left, right), program.image()));
             // Of each code's operators one in turn, for its message.
@@ -200,6 +202,19 @@ fn tables(list: &mut List) {
         for other in [INT, STRING].iter() {
             let program = calls::element_program(which, *other);
             list.push((format!("element of operand {}, assigned {}", which, other), program.image()));
+        }
+    }
+}
+
+/// Each operator on each pair of kinds by itself, both ways round: what it gives, or how it is refused, and which operand the
+/// message names first.
+fn operations(list: &mut List) {
+    for op in 0..14 {
+        for left in OF_EACH_KIND.iter() {
+            for right in OF_EACH_KIND.iter() {
+                let program = calls::operation_kept(op, *left, *right);
+                list.push((format!("operator {} kept: {} and {}", op, left, right), program.image()));
+            }
         }
     }
 }

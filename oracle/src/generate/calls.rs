@@ -160,6 +160,17 @@ pub fn operation(op: u32, left: usize, right: usize) -> Program {
     program
 }
 
+/// One operator on one pair of operands, into a name: the sheet has the type that it gives, or the refusal's message the types of
+/// its operands.
+pub fn operation_kept(op: u32, left: usize, right: usize) -> Program {
+    let mut program = Program::new();
+    let names = operand_names(&mut program);
+    let x = program.name("x");
+    program.body = vec![assign(variable(x), binary(op, operand(left, names), operand(right, names)))];
+    program.prune();
+    program
+}
+
 /// Everything that takes one operand, each into a name of its own; `which` past the last wraps round.
 pub fn operand_program(which: usize) -> Program {
     let mut program = Program::new();

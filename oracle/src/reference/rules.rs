@@ -97,7 +97,14 @@ impl Walk<'_> {
             op => op,
         };
         let as_number = |t: Ty| if t == BOOL && mind.slips(BoolIsNumber) { INT } else { t };
-        let (l, r) = (as_number(left), as_number(right));
+        let (l, r) = match (self.types.kind(left), self.types.kind(right)) {
+            (a, b) if mind.slips(FoldedUnordered) && a > b => stand_ins(folded_pair(b * (b + 1) / 2 + a)),
+            (a, b) if mind.slips(FoldedShort) && a != b => {
+                let (low, high) = (a.min(b), a.max(b));
+                stand_ins(folded_pair(high * (high - 1) / 2 + low))
+            }
+            _ => (as_number(left), as_number(right)),
+        };
         let found = match op {
             0 if mind.slips(UnknownPlusAnything) && (l == UNKNOWN || r == UNKNOWN) => sum(l, r).or(Some(UNKNOWN)),
             0 if mind.slips(ListsAdd) && l == r && self.types.kind(l) == LIST => Some(l),
@@ -140,7 +147,9 @@ impl Walk<'_> {
             Some(t) => Ok(t),
             None => {
                 let place = if mind.slips(BinaryAtLeft) { left_node } else { node };
-                refuse(code, place, self.pair(left, right, SwappedOperands))
+                let lower_right = self.types.kind(right) < self.types.kind(left);
+                let swapped = if lower_right && mind.slips(OrderedOperands) { OrderedOperands } else { SwappedOperands };
+                refuse(code, place, self.pair(left, right, swapped))
             }
         }
     }
@@ -429,6 +438,23 @@ fn number(a: Ty, b: Ty) -> Option<Ty> {
         (FLOAT, FLOAT) | (FLOAT, INT) | (INT, FLOAT) | (FLOAT, UNKNOWN) | (UNKNOWN, FLOAT) => Some(FLOAT),
         (UNKNOWN, UNKNOWN) => Some(UNKNOWN),
         _ => None,
+    }
+}
+
+/// The two kinds whose answer stands at a place of a row that has each pair of kinds once, in order (document 02, Six).
+fn folded_pair(at: u32) -> (u32, u32) {
+    let before = |high: u32| high * (high + 1) / 2;
+    let high = (0..).find(|high| at < before(high + 1)).expect("places end somewhere");
+    (at - before(high), high)
+}
+
+/// Types of two kinds that differ, for mistakes that look at kinds which no operand has: structured ones stand for each
+/// other, since no rule but that of equal types takes them.
+fn stand_ins((a, b): (u32, u32)) -> (Ty, Ty) {
+    match (a < LIST, b < LIST) {
+        (true, true) => (a, b),
+        (true, false) => (a, if a == FUNCTION { RANGE } else { FUNCTION }),
+        _ => (FUNCTION, RANGE),
     }
 }
 
