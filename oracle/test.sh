@@ -315,7 +315,9 @@ for file in images.batch answers.txt strict-answers.txt notes.txt tight-images.b
     cmp "$scratch/$file" "$stored/$file" || fail "$stored/$file is not what seed $seed makes"
 done
 images_and_answers="$stored/images.batch $stored/answers.txt $stored/strict-answers.txt $stored/notes.txt $stored/tight-images.batch $stored/tight-answers.txt $stored/tight-notes.txt"
-[ "$(cat $images_and_answers | wc -c)" -lt 3800000 ] || fail "the stored lists are 3.8 MB or more"
+[ "$(cat $images_and_answers | wc -c)" -lt 4800000 ] || fail "the stored lists are 4.8 MB or more"
+[ "$(cut -f3 $stored/notes.txt | grep -c '^operator [0-9]* kept: ')" -eq 2366 ] ||
+    fail "an operator with a pair of kinds does not stand in $stored by itself"
 
 say "the stored answers are T's, and the reference's"
 $oracle judge --rules < $stored/images.batch | cmp - $stored/answers.txt || fail "T answers otherwise"

@@ -148,7 +148,8 @@ impl Walk<'_> {
             None => {
                 let place = if mind.slips(BinaryAtLeft) { left_node } else { node };
                 let lower_right = self.types.kind(right) < self.types.kind(left);
-                let swapped = if lower_right && mind.slips(OrderedOperands) { OrderedOperands } else { SwappedOperands };
+                let swapped =
+                    if lower_right && mind.slips(OrderedOperands) { OrderedOperands } else { SwappedOperands };
                 refuse(code, place, self.pair(left, right, swapped))
             }
         }
