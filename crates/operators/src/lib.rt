@@ -26,8 +26,8 @@ fn pairs_below(kind: u32) -> u32
     kind * (kind + 1) / 2
 }
 
-// Where a row has the answer for two kinds; src/constants.rt says how it is read. Here alone operands change round:
-// the caller's stay as they are, and a message names the left one first.
+// Where a row has the answer for two kinds (src/constants.rt says how a row is to be read). Here alone operands change
+// round: the caller's stay as they are, and its message names the left one first.
 fn place_of(left: u32, right: u32) -> usize
     requires { ⌜ (left < 13) × (right < 13) ⌝ }
     ensures { λ r. ⌜ PlaceOf left right r ⌝ }

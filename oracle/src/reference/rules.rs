@@ -449,8 +449,8 @@ fn folded_pair(at: u32) -> (u32, u32) {
     (at - before(high), high)
 }
 
-/// Types of two kinds that differ, for mistakes that look at kinds which no operand has: structured ones stand for each
-/// other, since no rule but that of equal types takes them.
+/// Types of the two kinds that a mistake looks at in place of the operands'. A structured one is stood in for by a plain type that no
+/// rule takes: equal types, which == would take, the operands have not, since their kinds differ.
 fn stand_ins((a, b): (u32, u32)) -> (Ty, Ty) {
     match (a < LIST, b < LIST) {
         (true, true) => (a, b),
