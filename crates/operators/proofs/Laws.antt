@@ -1,22 +1,21 @@
 -- What an answer means. Callers use these laws and never the text of the definitions.
 use mathlib.Core.Path.{_≡_, refl, _∙_}
-use mathlib.Core.Bool.{Bool, true}
+use mathlib.Core.Bool.{Bool}
 use mathlib.Core.Logic.{⊎-elim}
 use mathlib.Core.List.{[], _∷_}
-use mathlib.Core.Option.{none}
-use Prim.Native.Nat.{ℕ, _+_, _*_, _/_, _%_, _≤_, _<_}
+use Prim.Native.Nat.{ℕ, _≤_, _<_}
 use native.Mathlib.Omega.{arith}
 use borrow.Author.Tests.{eqb-true, lt-ltb, le-ltb, ne-eqb}
 use lib.Dec.{eqb}
-use Rattle.meaning.specs.Base.{if_then_else_, count, base-open}
+use Rattle.meaning.specs.Base.{if_then_else_, base-open}
 use Rattle.meaning.specs.Types.{Ty, unknown, int, bool, string, float, nonetype, range, function, list, dict, tuple, mapIter, filterIter, same, kind, plain, types-open}
 use Rattle.meaning.specs.Tree.{BinaryOp, add, subtract, multiply, divide, floorDivide, modulo, equal, notEqual, less, lessEqual, greater, greaterEqual, andOp, orOp}
-use Rattle.meaning.specs.Image.{firstNot, image-open}
+use Rattle.meaning.specs.Image.{image-open}
 use Rattle.meaning.specs.Decode.{binaryOf, unaryOf}
 use Rattle.meaning.specs.Message.{aType, refusal}
 use Rattle.meaning.specs.Operators.{ok, refused, when, operatorAnswer, unaryAnswer, answered, binaryRule, unaryRule, operators-open}
-use Rattle.meaning.proofs.Choices.{all-pass}
 use Rattle.meaning.proofs.Operators.{answer-range, unary-range}
+use Rattle.operators.proofs.AllKinds.{OfAll, of-each}
 
 -- ---- kinds
 
@@ -87,21 +86,13 @@ unary-means {k} {x} n op t p e =
       code = λ h. ⊎-elim (λ u. absurd (omega arith)) (λ u. (omega arith, omega arith)) (unary-range (unaryOf op) k .says);
     }
 
--- ---- pairs of kinds
-
--- what holds of all pairs of kinds by one computation holds of each
-pub all-kinds : (p : ℕ → ℕ → Bool) → firstNot (λ k x. p (k / 13) (k % 13)) 0 (count 0 169) ≡ none → (a b : ℕ) → a < 13 → b < 13 → p a b ≡ true
-unfolding count
-all-kinds p e a b ha hb =
-    let e0 : (a * 13 + b) / 13 ≡ a = omega arith in
-    let e1 : (a * 13 + b) % 13 ≡ b = omega arith in
-    rw (e0, e1) at (all-pass (λ k (x : ℕ). p (k / 13) (k % 13)) (count 0 169) 0 e (a * 13 + b) (omega arith))
+-- ---- operands changed round
 
 -- the answer for two kinds, and for those kinds changed round
 turned : BinaryOp → ℕ → ℕ → Bool
 turned o a b = eqb (operatorAnswer o a b) (operatorAnswer o b a)
 
-all-turned : (o : BinaryOp) → firstNot (λ k (x : ℕ). turned o (k / 13) (k % 13)) 0 (count 0 169) ≡ none
+all-turned : (o : BinaryOp) → OfAll (turned o)
 unfolding turned base-open types-open image-open operators-open
 all-turned add = refl
 all-turned subtract = refl
@@ -120,4 +111,4 @@ all-turned orOp = refl
 
 pub symmetric : (o : BinaryOp) (a b : ℕ) → a < 13 → b < 13 → operatorAnswer o a b ≡ operatorAnswer o b a
 unfolding turned
-symmetric o a b ha hb = eqb-true _ _ (all-kinds (turned o) (all-turned o) a b ha hb)
+symmetric o a b ha hb = eqb-true _ _ (of-each (turned o) (all-turned o) a b ha hb)

@@ -2,7 +2,7 @@
 use mathlib.Core.Path.{_≡_, refl}
 use mathlib.Core.Bool.{Bool}
 use mathlib.Core.Option.{none}
-use Prim.Native.Nat.{ℕ, _+_, _*_, _/_, _%_, _≤_, _<_}
+use Prim.Native.Nat.{ℕ, _+_, _*_, _/_, _≤_, _<_}
 use borrow.Author.Tests.{eqb-true, ltb-true, lt-ltb, le-ltb}
 use lib.Dec.{eqb, ltb}
 use lib.ListN.{length, getD}
@@ -10,7 +10,7 @@ use Rattle.meaning.specs.Base.{_and_, if_then_else_, count, base-open}
 use Rattle.meaning.specs.Image.{firstNot, image-open}
 use Rattle.meaning.proofs.Choices.{all-pass, and-left, and-right}
 use Rattle.operators.specs.Fold.{inOrder, pairs, PlaceOf}
-use Rattle.operators.proofs.Laws.{all-kinds}
+use Rattle.operators.proofs.AllKinds.{OfAll, of-each}
 
 -- ---- how many pairs there are below a kind
 
@@ -40,7 +40,7 @@ stands a b =
     let q = getD (pairs 13) (placed p) (0, 0) in
     ltb (placed p) 91 and (eqb (q .0) (p .0) and eqb (q .1) (p .1))
 
-all-stand : firstNot (λ k (x : ℕ). stands (k / 13) (k % 13)) 0 (count 0 169) ≡ none
+all-stand : OfAll stands
 unfolding stands placed inOrder pairs base-open image-open
 all-stand = refl
 
@@ -50,7 +50,7 @@ both e f = rw (e, f)
 in-place : (a b : ℕ) → a < 13 → b < 13 → PlaceOf a b (placed (inOrder a b))
 unfolding stands
 in-place a b ha hb =
-    let h = all-kinds stands all-stand a b ha hb in
+    let h = of-each stands all-stand a b ha hb in
     let g = and-right _ _ h in
     (ltb-true _ 91 (and-left _ _ h), both (eqb-true _ _ (and-left _ _ g)) (eqb-true _ _ (and-right _ _ g)))
 

@@ -15,6 +15,6 @@ unfoldable pub pairs : ℕ → List (ℕ × ℕ)
 pairs zero = []
 pairs (suc n) = pairs n ++ map (λ low. (low, n)) (count 0 (suc n))
 
--- at is where a row has the answer for kinds a and b, whichever of them stands left
+-- at is where a row, of 91 answers, has the one for kinds a and b, whichever of them stands left
 abbrev pub PlaceOf : ℕ → ℕ → ℕ → Type 0
 PlaceOf a b at = (at < 91) × (getD (pairs 13) at (0, 0) ≡ inOrder a b)

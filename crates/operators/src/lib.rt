@@ -18,6 +18,9 @@ use words::wide8;
 // An answer below this is a plain type's number, and one above it a code. This one says: compare the whole types.
 pub const COMPARE: u32 = 8;
 
+// The row of the last operator, `or`.
+const OR: usize = 13;
+
 // How many pairs of kinds in order there are below a kind: so many answers stand before its own in a row.
 fn pairs_below(kind: u32) -> u32
     requires { ⌜ kind < 13 ⌝ }
@@ -76,7 +79,7 @@ pub fn answer_of(op: u32, left: u32, right: u32) -> u32
         10 => entry(table[10], at),
         11 => entry(table[11], at),
         12 => entry(table[12], at),
-        _ => entry(table[13], at),
+        _ => entry(table[OR], at),
     }
 }
 
