@@ -2,6 +2,7 @@
 // converted, over files. What is asked and what is said stands in `verbs`; here files are read and the answers written.
 // All of it is proved safe and ending, and no more, since no contract can say what is read or written. The status goes
 // to descriptor 3 as one digit, since `main` returns nothing.
+#![tactic(auto)]
 ghost use Rattle.std.specs.Prelude.{◌≡◌, ◌≤◌, length};
 ghost use Rattle.cablebirch.specs.Files.{length_read};
 

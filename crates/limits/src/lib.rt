@@ -1,5 +1,6 @@
 // The limits of document 01 for code, each once, by the names that `meaning/specs/Limits` has for the definitions. A
 // contract names those: that the two are the same numbers is a part of every proof that meets both.
+#![tactic(auto)]
 
 // "All numbers are u32": the bytes of one.
 const WORD: usize = 4;

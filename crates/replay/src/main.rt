@@ -3,6 +3,7 @@
 // agree. `replay` prints the line of each image of a batch on standard input, `replay strict` the same in strict,
 // `replay tight` in the rooms of the tight list, and `replay sheets` the line of each sheet. Behind document 01's
 // printed line an image's has what that does not tell: the checksum of the sheet, and of 25 and 23 the second span.
+#![tactic(auto)]
 ghost use Rattle.std.specs.Prelude.{◌≡◌, ◌+◌, ◌*◌, ◌%◌, ◌^◌, ◌<◌, ◌≤◌, min, true, length};
 ghost use Rattle.line.specs.Printing.{Fronted};
 ghost use Rattle.words.specs.Words.{Wrote};

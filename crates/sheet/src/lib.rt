@@ -1,4 +1,5 @@
 // The type sheet: its writer, its reader, and the list of names that both speak of.
+#![tactic(auto)]
 pub mod header;
 pub mod list;
 mod reader;

@@ -1,5 +1,6 @@
 // Reads a program image on standard input and prints the one line of its answer. The word behind the program's name is
 // the setting: none or `plain`, or `strict`; anything else gets code 13.
+#![tactic(auto)]
 ghost use Rattle.std.specs.Prelude.{◌≤◌, length};
 ghost use Rattle.typecheck.specs.Words.{Told, line_room, Shows};
 

@@ -1,5 +1,7 @@
 // Bytes and words: widened, read, written, compared, copied, the texts of names, and numbers in decimal. Everything
 // stands in a slice that the caller lends.
+#![tactic(auto)]
+
 ghost use Rattle.std.specs.Prelude.{◌≡◌, [], ◌∷◌, ◌+◌, ◌<◌, ◌≤◌, length, take, drop};
 ghost use Rattle.meaning.specs.Base.{word, words, same_text, before as comesBefore, decimal, all};
 ghost use Rattle.meaning.specs.Image.{printable, text_stands};
