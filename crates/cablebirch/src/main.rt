@@ -23,7 +23,7 @@ fn say(text: &[u8]) {
 
 // A file was read, and so many bytes of it stand at the front of the buffer; or it was not, by the error of the system;
 // or it grew behind the end that was read.
-#[derive(Drop)]
+#[derive(Clone, Copy)]
 pub enum Got {
     Read(usize),
     Failed(i32),

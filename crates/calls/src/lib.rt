@@ -11,7 +11,7 @@ use types;
 use words::same;
 
 // What T's match on a builtin's name does with the arguments of its call.
-#[derive(Drop)]
+#[derive(Clone, Copy)]
 pub enum Rule {
     Each(usize), // every argument is checked, and the type is this plain one
     First(usize), // the first is checked, and the type is this plain one
@@ -63,7 +63,7 @@ pub fn builtin_of(text: &[u8]) -> Rule
 }
 
 // What becomes of a call of a name: its rule, or 37 or 38 where the count is refused.
-#[derive(Drop)]
+#[derive(Clone, Copy)]
 pub enum Plan {
     By(Rule),
     Refused(u32),

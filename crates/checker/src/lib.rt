@@ -36,7 +36,7 @@ pub const STRICT: u32 = 1;
 
 // A typing refusal: its code, 20 to 50, its node with its span, and the length of its message, 0 if that did not fit.
 // For 25 and 23, the second span is that of the node which first made the old type known; for every other code, 0,0.
-#[derive(Drop)]
+#[derive(Clone, Copy)]
 pub struct Refusal {
     pub code: u32,
     pub place: usize,
@@ -49,7 +49,7 @@ pub struct Refusal {
 
 // Code 0 with the sheet's length; 1 to 8, those of a name or a node with its number; 9 with the Def; 10; 13; 14 with
 // the first TreeSet; or a typing refusal.
-#[derive(Drop)]
+#[derive(Clone, Copy)]
 pub enum Answer {
     Accepted(usize),
     BadHead,
@@ -95,7 +95,7 @@ fn accept(
 // ---- a typing refusal
 
 // A span as the image has it.
-#[derive(Drop)]
+#[derive(Clone, Copy)]
 struct Span {
     begins: u32,
     ends: u32,
@@ -298,7 +298,7 @@ pub fn check(setting: u32, image: &[u8], sheet: &mut [u8], message: &mut [u8]) -
 // ---- the type sheet
 
 // What the reader says: code 0, or 12.
-#[derive(Drop)]
+#[derive(Clone, Copy)]
 pub enum Reading {
     Sheet,
     NoSheet,
@@ -318,7 +318,7 @@ pub fn read_sheet(sheet: &[u8]) -> Reading
 }
 
 // Code 0 with the sheet's length, 10, or 12.
-#[derive(Drop)]
+#[derive(Clone, Copy)]
 pub enum Rewriting {
     Written(usize),
     NoRoom,
@@ -347,7 +347,7 @@ pub fn write_sheet(sheet: &[u8], out: &mut [u8]) -> Rewriting
 
 // An answer in the scope's numbers.
 #[repr(C)]
-#[derive(Drop)]
+#[derive(Clone, Copy)]
 pub struct Reply {
     pub code: u32,
     pub span_start: u32,

@@ -12,7 +12,7 @@ use image::{Judged, areas, judge, kinds, node_at, put_kind};
 use words::put;
 
 // Code 0 with the image's length; the refusals 1 to 8; or 15.
-#[derive(Drop)]
+#[derive(Clone, Copy)]
 pub enum Conversion {
     Converted(usize),
     Faulty(Judged),

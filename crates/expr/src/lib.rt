@@ -22,7 +22,7 @@ use state::{Notes, Outcome, Stack, Typed, push, refuse};
 use types;
 
 // A call of a name: its node, the cursor at its first argument, and how many there are.
-#[derive(Drop)]
+#[derive(Clone, Copy)]
 pub struct NameCall {
     pub at: usize,
     pub first: Cursor,

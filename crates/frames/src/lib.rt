@@ -38,14 +38,14 @@ pub const NO_NAMES: Row = [NO_TYPE; MOST_NAMES];
 pub const EMPTY: Frames = [NO_NAMES; MOST_FRAMES];
 
 // "the node that first made it known: the Variable assigned, or the iterable for a loop name. Unknown has none".
-#[derive(Drop)]
+#[derive(Clone, Copy)]
 pub enum First {
     Nowhere,
     At(usize),
 }
 
 // A type's number, and its first node.
-#[derive(Drop)]
+#[derive(Clone, Copy)]
 pub struct Binding {
     pub ty: usize,
     pub first: First,
@@ -53,7 +53,7 @@ pub struct Binding {
 
 // What one frame holds for a name: nothing, or a type's number. The sheet tells an absent name from one of type
 // Unknown.
-#[derive(Drop)]
+#[derive(Clone, Copy)]
 pub enum Held {
     Absent,
     OfType(usize),
@@ -254,14 +254,14 @@ pub fn note_branch(
 }
 
 // The name whose types clash, and the first node "of the first type found".
-#[derive(Drop)]
+#[derive(Clone, Copy)]
 pub struct Disagreement {
     pub name: usize,
     pub first: First,
 }
 
 // How a merge ended: with every name, or at the first whose types clash, which is code 23.
-#[derive(Drop)]
+#[derive(Clone, Copy)]
 pub enum Merge {
     Whole,
     Clash(Disagreement),

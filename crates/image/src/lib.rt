@@ -59,14 +59,14 @@ const UNARY_OPERATORS: usize = 3;
 const BINARY_OPERATORS: usize = 14;
 
 // What a search over names or nodes found: the first that fails, or none.
-#[derive(Drop)]
+#[derive(Clone, Copy)]
 pub enum Found {
     At(usize),
     Nowhere,
 }
 
 // A well-formed image, or the refusals 1 to 8, those of a name or a node with its number.
-#[derive(Drop)]
+#[derive(Clone, Copy)]
 pub enum Judged {
     WellFormed,
     BadHead,
@@ -80,14 +80,14 @@ pub enum Judged {
 }
 
 // A refusal in document 01's numbers. A well-formed image has none: 0 and 0.
-#[derive(Drop)]
+#[derive(Clone, Copy)]
 pub struct Fault {
     pub code: u32,
     pub place: usize,
 }
 
 // The header's counts, and where the areas start.
-#[derive(Drop)]
+#[derive(Clone, Copy)]
 pub struct Layout {
     pub names: usize,
     pub nodes: usize,
@@ -98,7 +98,7 @@ pub struct Layout {
 }
 
 // A node record: `stop` is its end, `begins` and `ends` are its span.
-#[derive(Drop)]
+#[derive(Clone, Copy)]
 pub struct Node {
     pub kind: u32,
     pub arg: u32,
@@ -109,7 +109,7 @@ pub struct Node {
 }
 
 // A name record: its text starts at `start` of the text area.
-#[derive(Drop)]
+#[derive(Clone, Copy)]
 pub struct NameAt {
     pub start: u32,
     pub len: u32,
@@ -119,14 +119,14 @@ pub struct NameAt {
 }
 
 // A place in the node area: the node that it stands at, and where the area starts.
-#[derive(Drop)]
+#[derive(Clone, Copy)]
 pub struct Cursor {
     pub at: usize,
     pub nodes: usize,
 }
 
 // The node that a cursor stood at, and the cursor moved.
-#[derive(Drop)]
+#[derive(Clone, Copy)]
 pub struct Read {
     pub cursor: Cursor,
     pub node: Node,

@@ -105,7 +105,7 @@ pub fn write(
 // ---- the line of an image
 
 // How long the line is, and the answer's code, second span and sheet length, for whoever goes on with them.
-#[derive(Drop)]
+#[derive(Clone, Copy)]
 pub struct Printed {
     pub length: usize,
     pub code: u32,

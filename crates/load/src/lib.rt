@@ -24,7 +24,7 @@ use steady::Steadiness;
 use words::{same, text};
 
 // The script loads unseen, with the length of its sheet; someone must look at its sheet; or the check's refusal.
-#[derive(Drop)]
+#[derive(Clone, Copy)]
 pub enum Loading {
     Loads(usize),
     Look(usize),
@@ -59,7 +59,7 @@ pub fn load(
 
 // The case, 0 loads, 1 look and 2 refused, and the check's answer in the scope's numbers.
 #[repr(C)]
-#[derive(Drop)]
+#[derive(Clone, Copy)]
 pub struct Verdict {
     pub loading: u32,
     pub code: u32,
@@ -144,7 +144,7 @@ pub extern "C" fn cablebirch_load(
 
 // Code 0 with the length of the text, 10 or 12.
 #[repr(C)]
-#[derive(Drop)]
+#[derive(Clone, Copy)]
 pub struct Words {
     pub code: u32,
     pub length: usize,
@@ -189,7 +189,7 @@ pub extern "C" fn cablebirch_changes(old: &[u8], new: &[u8], out: &mut [u8]) -> 
 // Steady 1 and all else 0, for a program with no Def inside an If; steady 0 and code 0 with the first such Def and its
 // span; or steady 0 with the code 1 to 8 and its place, for bytes that are no image.
 #[repr(C)]
-#[derive(Drop)]
+#[derive(Clone, Copy)]
 pub struct Steady {
     pub steady: u32,
     pub code: u32,
@@ -244,7 +244,7 @@ pub extern "C" fn cablebirch_steady(image: &[u8]) -> Steady
 
 // Code 0 with the length of the image that was written; 1 to 8 with its place, for bytes that are no image; or 15.
 #[repr(C)]
-#[derive(Drop)]
+#[derive(Clone, Copy)]
 pub struct Converted {
     pub code: u32,
     pub place: usize,

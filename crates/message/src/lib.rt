@@ -31,7 +31,7 @@ use types::{Counts, kind_of, part_at, parts_of};
 use words::{decimal_length, put, put_decimal, text as part_of_text};
 
 // What a message names: a type, a part of the image, a number, two numbers with a dash, or any count of arguments.
-#[derive(Drop)]
+#[derive(Clone, Copy)]
 enum Piece {
     Nothing,
     OfType(usize),
@@ -43,7 +43,7 @@ enum Piece {
 
 // What a message names, in order, and how many they are; `types` is how many of the first types must be measured for
 // it.
-#[derive(Drop)]
+#[derive(Clone, Copy)]
 struct Pieces {
     first: Piece,
     second: Piece,

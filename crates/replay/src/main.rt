@@ -185,7 +185,7 @@ fn sheet_line(sheet: &[u8], out: &mut [u8]) -> usize
 }
 
 // What a batch holds, the setting and the rooms.
-#[derive(Drop)]
+#[derive(Clone, Copy)]
 pub enum Task {
     Images,
     Strict,
@@ -222,7 +222,7 @@ const HEAD: usize = 4;
 const BLOCK: usize = 4096;
 
 // Whether there is a record, whether it is whole, and how much of it stands in the buffer.
-#[derive(Drop)]
+#[derive(Clone, Copy)]
 struct Got {
     is_there: bool,
     is_whole: bool,
@@ -334,7 +334,7 @@ fn line_length(s: &[u8]) -> usize
 }
 
 // Whether the file goes on there, and the length of the line.
-#[derive(Drop)]
+#[derive(Clone, Copy)]
 struct Line {
     is_there: bool,
     length: usize,
@@ -404,7 +404,7 @@ fn tell(task: Task, number: u32, ours: &[u8], theirs: &[u8]) {
 }
 
 // What came of one entry of the list, and where the next answer begins.
-#[derive(Drop)]
+#[derive(Clone, Copy)]
 struct Step {
     goes_on: bool,
     agreed: bool,
@@ -442,7 +442,7 @@ fn replay_next(task: Task, records: i32, answers: i32, number: u32, at: u32, buf
     }
 }
 
-#[derive(Drop)]
+#[derive(Clone, Copy)]
 struct Tally {
     agreed: u32,
     differ: u32,

@@ -19,7 +19,7 @@ use types;
 use types::{Counts, Formed, Perhaps, common_of, element_of, form, kind_of, part_of, second_of};
 
 // A refusal as it is decided: its code and the two numbers that its message needs.
-#[derive(Drop)]
+#[derive(Clone, Copy)]
 pub struct Reason {
     pub code: u32,
     pub a: usize,
@@ -27,7 +27,7 @@ pub struct Reason {
 }
 
 // What T's `SemanticResult<Ty>` is here: the number of a type, or why there is none.
-#[derive(Drop)]
+#[derive(Clone, Copy)]
 pub enum Decision {
     Type(usize),
     Refused(Reason),
@@ -78,7 +78,7 @@ pub fn binary(table: &[u16], op: u32, left: usize, right: usize) -> Decision
 // ---- List and Dict
 
 // The element type after one more element, and whether the List ends with it.
-#[derive(Drop)]
+#[derive(Clone, Copy)]
 pub struct Step {
     pub stop: bool,
     pub number: usize,
@@ -120,7 +120,7 @@ fn joined_of(a: usize, b: usize) -> usize
 }
 
 // The key and value types after one more pair, and whether the Dict ends with them.
-#[derive(Drop)]
+#[derive(Clone, Copy)]
 pub struct Pair {
     pub stop: bool,
     pub key: usize,
@@ -299,7 +299,7 @@ fn iterator(table: &mut [u16], counts: Counts, filters: bool, element: usize) ->
 }
 
 // A decision, and the counts of the table that has its type.
-#[derive(Drop)]
+#[derive(Clone, Copy)]
 pub struct Streamed {
     pub decision: Decision,
     pub counts: Counts,

@@ -34,7 +34,7 @@ pub const TABLE_CELLS: usize = CELLS * (STRUCTURED + MOST_TYPES);
 type Numbers = [u16; MOST_TYPES];
 
 // Whether the bytes are a sheet; if so, the counts of the table that was read from them, and how many names.
-#[derive(Drop)]
+#[derive(Clone, Copy)]
 pub struct ReadSheet {
     pub stands: bool,
     pub counts: Counts,
@@ -42,14 +42,14 @@ pub struct ReadSheet {
 }
 
 // Whether the bytes may still be a sheet, and the counts of the table.
-#[derive(Drop)]
+#[derive(Clone, Copy)]
 struct Types {
     stands: bool,
     counts: Counts,
 }
 
 // The same after one type: its number, and how many elements were read.
-#[derive(Drop)]
+#[derive(Clone, Copy)]
 struct Typed {
     stands: bool,
     number: usize,

@@ -52,7 +52,7 @@ const FEW_OPEN: usize = OPEN_CELLS * FEW;
 const ALL_OPEN: usize = OPEN_CELLS * MOST_TYPES;
 
 // Whether the sheet fits, and its length: 0 if it does not fit.
-#[derive(Drop)]
+#[derive(Clone, Copy)]
 pub struct Written {
     pub fits: bool,
     pub length: usize,

@@ -27,7 +27,7 @@ use types::{FRESH, kind_of};
 use words::{before, put, same, text as part_of_text};
 
 // What comes back: code 0 with the length of the text, 10 if that does not fit, or 12 for what is no sheet.
-#[derive(Drop)]
+#[derive(Clone, Copy)]
 pub enum Telling {
     Told(usize),
     NoRoom,
@@ -222,7 +222,7 @@ fn has_turned(
 }
 
 // Which line comes next: of a name that came, of one that went, or of one that both sheets have.
-#[derive(Drop)]
+#[derive(Clone, Copy)]
 enum Next {
     Came,
     Went,
@@ -263,7 +263,7 @@ fn next_of(
 }
 
 // How many names of the old sheet and of the new one are told of, and where the text goes on.
-#[derive(Drop)]
+#[derive(Clone, Copy)]
 struct Place {
     old: usize,
     new: usize,

@@ -14,14 +14,14 @@ use words::{wide16, wide32};
 // ---- the walk's answers
 
 // T's `SemanticResult<Ty>`: a type's number. What an Err refuses is noted.
-#[derive(Drop)]
+#[derive(Clone, Copy)]
 pub enum Typed {
     Ok(usize),
     Err,
 }
 
 // T's `SemanticResult<()>`.
-#[derive(Drop)]
+#[derive(Clone, Copy)]
 pub enum Outcome {
     Ok,
     Err,

@@ -12,7 +12,7 @@ ghost use Rattle.steady.specs.Told.{meant};
 use image::{Judged, areas, judge, kinds, node_at};
 
 // A Def: its node, and its span as the image has it.
-#[derive(Drop)]
+#[derive(Clone, Copy)]
 pub struct Def {
     pub node: usize,
     pub begins: u32,
@@ -20,7 +20,7 @@ pub struct Def {
 }
 
 // No Def stands inside an If; one does, and this is the first; or the bytes are no well-formed image.
-#[derive(Drop)]
+#[derive(Clone, Copy)]
 pub enum Steadiness {
     Steady,
     DefInIf(Def),

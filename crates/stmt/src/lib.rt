@@ -51,7 +51,7 @@ const NOT_RETURNED: u32 = types::UNKNOWN as u32;
 
 // How a statement ended, in the words of `meaning/specs/Walk`: all well, a typing refusal, or a Def that needs a ninth
 // frame. The last ends the walk "even in a body whose errors are dropped". What was refused is noted.
-#[derive(Drop)]
+#[derive(Clone, Copy)]
 pub enum End {
     Done,
     Wrong,
@@ -609,7 +609,7 @@ fn first_place(code: u32, noted: u32) -> First
 
 // How the whole walk ended, and what was noted then: the code, node, first node and numbers of a refusal, the counts of
 // the table and the newest frame's row.
-#[derive(Drop)]
+#[derive(Clone, Copy)]
 pub struct Walked {
     pub end: End,
     pub code: u32,

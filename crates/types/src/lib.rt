@@ -82,21 +82,21 @@ const HASHES: usize = 4093;
 const SHIFT: usize = 8;
 
 // How many types and how many tuple elements a table has.
-#[derive(Drop)]
+#[derive(Clone, Copy)]
 pub struct Counts {
     pub types: usize,
     pub elements: usize,
 }
 
 // A type's number, and the counts of the table that has it.
-#[derive(Drop)]
+#[derive(Clone, Copy)]
 pub struct Formed {
     pub number: usize,
     pub counts: Counts,
 }
 
 // A type's number, or none.
-#[derive(Drop)]
+#[derive(Clone, Copy)]
 pub struct Perhaps {
     pub there: bool,
     pub number: usize,

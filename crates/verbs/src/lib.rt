@@ -29,7 +29,7 @@ use words::{put, same, text};
 
 // ---- the words
 
-#[derive(Drop)]
+#[derive(Clone, Copy)]
 pub enum Verb {
     Check,
     Sheet,
@@ -69,7 +69,7 @@ pub fn verb_told(word: &[u8]) -> Verb
 }
 
 // What a word behind the verb is.
-#[derive(Drop)]
+#[derive(Clone, Copy)]
 pub enum Kind {
     Strict,
     Known,
@@ -101,7 +101,7 @@ pub fn kind_of(word: &[u8]) -> Kind
 }
 
 // The numbers of the arguments that name files; no verb takes three.
-#[derive(Drop)]
+#[derive(Clone, Copy)]
 pub enum Files {
     None,
     One(usize),
@@ -122,7 +122,7 @@ fn with_file(files: Files, a: usize) -> Files
 
 // What the words behind the verb say so far: strict, whether known stays known, a file that is standard input, and the
 // files.
-#[derive(Drop)]
+#[derive(Clone, Copy)]
 pub struct Asked {
     pub strict: bool,
     pub known: bool,
@@ -174,7 +174,7 @@ pub fn with_word(w: Asked, a: usize, kind: Kind) -> Asked
 }
 
 // What is to be done: settings, and the numbers of the arguments that name the files.
-#[derive(Drop)]
+#[derive(Clone, Copy)]
 pub enum Command {
     CheckImage(u32, usize),
     CheckKnown(u32, usize),
@@ -282,7 +282,7 @@ pub fn command_of(verb: Verb, w: Asked) -> Command
 // ---- what is said
 
 // Accepted, equal or loaded; changed; refused; and what could not be done.
-#[derive(Drop)]
+#[derive(Clone, Copy)]
 pub enum Status {
     Fine,
     Changed,
@@ -311,7 +311,7 @@ fn status_of(code: u32) -> Status
 }
 
 // How many bytes for standard output stand at the front of the buffer that was lent.
-#[derive(Drop)]
+#[derive(Clone, Copy)]
 pub struct Done {
     pub length: usize,
     pub status: Status,
@@ -408,7 +408,7 @@ pub fn say_known(setting: u32, image: &[u8], out: &mut [u8]) -> Done
 }
 
 // How many bytes of the sheet go to standard output, and how many of a refusal's lines to standard error.
-#[derive(Drop)]
+#[derive(Clone, Copy)]
 pub struct Written {
     pub sheet: usize,
     pub line: usize,
@@ -439,7 +439,7 @@ pub fn write_sheet(setting: u32, image: &[u8], sheet: &mut [u8], out: &mut [u8])
 }
 
 // How many bytes of the converted image go to standard output, and how many of a refusal's line to standard error.
-#[derive(Drop)]
+#[derive(Clone, Copy)]
 pub struct Renewed {
     pub image: usize,
     pub line: usize,
