@@ -64,20 +64,5 @@ judged_sound bs r p =
 
 -- ---- a match that leaves `WellFormed` out
 
--- none of some positive numbers is 0
-pub not_zero : (k : ℕ) (ks : List ℕ) → all (leb 1) (k ∷ ks) ≡ true → OneOf (k ∷ ks) 0 → ⊥
-unfolding all
-not_zero k [] a h = omega (arith, leb-true 1 k (and_left _ _ a), h)
-not_zero k (l ∷ ks) a h = ⊎_elim (λ e. omega (arith, leb-true 1 k (and_left _ _ a), e)) (λ r. not_zero l ks (and_right _ _ a) r) h
-
--- the cases of a judgment but the first, by their places in the enum
-abbrev behind : List ℕ
-behind = 2 ∷ 3 ∷ 4 ∷ 5 ∷ 6 ∷ 7 ∷ 8 ∷ []
-
 abbrev pub NotFirst : Judged → Type 0
-NotFirst j = OneOf (1 ∷ behind) (tag_of the_type j)
-
--- each of them is another than WellFormed
-pub ill_formed : (j : Judged) → NotFirst j → j ≡ WellFormed → ⊥
-unfolding all ◌and◌
-ill_formed j h e = not_zero 1 behind refl (rw e at h)
+NotFirst j = j ≡ WellFormed → ⊥

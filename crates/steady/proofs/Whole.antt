@@ -14,7 +14,7 @@ use Rattle.meaning.specs.Known.{Steadiness as Meant}
 use Rattle.meaning.proofs.Faults.{Sound, sound}
 use Rattle.image.specs.Outcome.{fault_of}
 use Rattle.image.specs.declared.Judged.{Judged}
-use Rattle.image.proofs.Answers.{fault_injective, judged_sound, NotFirst, ill_formed}
+use Rattle.image.proofs.Answers.{fault_injective, judged_sound, NotFirst}
 use Rattle.steady.specs.declared.Def.{Def}
 use Rattle.steady.specs.declared.Steadiness.{Steadiness}
 use Rattle.steady.specs.declared.Steadiness.TheVariants.{Steady, DefInIf, Faulty}
@@ -41,7 +41,7 @@ unfolding if_some
 faulty_told bs j n e = by (fault_of j) refl
   where
     by : (o : Option Fault) → fault_of j ≡ o → if_some o (λ f. some (faulty f)) none ≡ some (steadiness bs)
-    by none h = absurd (ill_formed j n ((judged_sound bs j e).1 ((sound bs).0 (sym e ∙ h))))
+    by none h = absurd (n ((judged_sound bs j e).1 ((sound bs).0 (sym e ∙ h))))
     by (some f) h = ap some (sym (steadiness_faulty bs f (sym e ∙ h)))
 
 -- ---- no second outcome fits

@@ -1,0 +1,67 @@
+use Rattle.bound.proofs.Marking.{for_low, target_in, step_assign, step_for, step_block, step_branch, step_over}
+use Rattle.image.proofs.Here.{here, stop_in}
+use Rattle.meaning.proofs.Faults.{sizes}
+use mathlib.Core.Logic.{⊎_elim, inl, inr}
+use native.Mathlib.Omega.{arith}
+use Rattle.bound.proofs.mark_node.Goals as goal
+
+pub node_at-node-requires-clause-headed : goal.node_at-node-requires-clause-headed
+node_at-node-requires-clause-headed c =
+    c.requires.sound.headed
+
+pub node_at-node-requires-clause-nodes_value : goal.node_at-node-requires-clause-nodes_value
+node_at-node-requires-clause-nodes_value c =
+    c.requires.nodes_value
+
+pub overflow_add-i : goal.overflow_add-i
+overflow_add-i c =
+    omega (arith, (sizes c.requires.sound.headed).nodes)
+
+pub node_at-target-requires-clause-headed : goal.node_at-target-requires-clause-headed
+node_at-target-requires-clause-headed c =
+    c.requires.sound.headed
+
+pub node_at-target-requires-clause-nodes_value : goal.node_at-target-requires-clause-nodes_value
+node_at-target-requires-clause-nodes_value c =
+    (c.requires.nodes_value.0, (target_in (here _ c.requires.sound c.requires.nodes_value.1 c.node_at-node.ensures) c.in-5.is))
+
+pub overflow_add-i-in-5 : goal.overflow_add-i-in-5
+overflow_add-i-in-5 c =
+    omega (arith, (sizes c.requires.sound.headed).nodes)
+
+pub mark_target-requires-clause-sound : goal.mark_target-requires-clause-sound
+mark_target-requires-clause-sound c =
+    c.requires.sound
+
+pub mark_target-requires-clause-nodes_value : goal.mark_target-requires-clause-nodes_value
+mark_target-requires-clause-nodes_value c =
+    (c.requires.nodes_value.0, stop_in (here _ c.requires.sound (target_in (here _ c.requires.sound c.requires.nodes_value.1 c.node_at-node.ensures) c.in-5.is) c.node_at-target.ensures))
+
+pub bounds-marks-node : goal.bounds-marks-node
+bounds-marks-node c =
+    for_low (here _ c.requires.sound c.requires.nodes_value.1 c.node_at-node.ensures) c.in-10.is
+
+pub overflow_add-result : goal.overflow_add-result
+overflow_add-result c =
+    omega (arith, (sizes c.requires.sound.headed).nodes)
+
+pub overflow_add-result-in-8 : goal.overflow_add-result-in-8
+overflow_add-result-in-8 c =
+    omega (arith, (sizes c.requires.sound.headed).nodes)
+
+pub returns-in-5 : goal.returns-in-5
+returns-in-5 c =
+    step_assign (here _ c.requires.sound c.requires.nodes_value.1 c.node_at-node.ensures) _ c.in-5.is (here _ c.requires.sound (target_in (here _ c.requires.sound c.requires.nodes_value.1 c.node_at-node.ensures) c.in-5.is) c.node_at-target.ensures) c.mark_target.ensures
+
+pub returns-in-10 : goal.returns-in-10
+returns-in-10 c =
+    step_for (here _ c.requires.sound c.requires.nodes_value.1 c.node_at-node.ensures) _ c.in-10.is
+
+pub returns-in_default : goal.returns-in_default
+returns-in_default c =
+    step_over (here _ c.requires.sound c.requires.nodes_value.1 c.node_at-node.ensures) _ (omega arith) (omega arith) (omega arith)
+    (⊎_elim (λ w. inl w.taken) (λ w. inr (omega (arith, w.1.left))) c.in_default.branch)
+
+pub returns-in-8 : goal.returns-in-8
+returns-in-8 c =
+    ⊎_elim (λ w. step_block (here _ c.requires.sound c.requires.nodes_value.1 c.node_at-node.ensures) _ w.keys3) (λ w. step_branch (here _ c.requires.sound c.requires.nodes_value.1 c.node_at-node.ensures) _ (omega (arith, w.1.left)) (omega (arith, w.2.taken))) c.in-8-1.branch

@@ -1,0 +1,50 @@
+use mathlib.Core.Path.{refl, ◌∙◌, ap}
+use mathlib.Core.Logic.{⊎_elim}
+use Prim.Native.Nat.{◌-◌}
+use lib.ListN.{length}
+use Rattle.image.proofs.Records.{head_long, node_inside}
+use Rattle.image.proofs.Searches.{is_tree_set_lem, not_tree_set}
+use Rattle.words.proofs.Laws.{put_length}
+use Rattle.convert.proofs.Turning.{turned_none, turned_all, turned_other, turned_tree_set}
+use native.Mathlib.Omega.{arith}
+use Rattle.convert.proofs.write_converted.Goals as goal
+
+pub put-requires : goal.put-requires
+put-requires c =
+    omega (arith, c.requires.image_in_bounds)
+
+pub areas-l-requires : goal.areas-l-requires
+areas-l-requires c =
+    head_long c.requires.sound.headed
+
+pub loop-i-init : goal.loop-i-init
+loop-i-init c =
+    (omega arith, refl, rw c.put.ensures.buf_after (turned_none c.args.image.now c.args.out.now))
+
+pub node_at-node-requires-clause-headed : goal.node_at-node-requires-clause-headed
+node_at-node-requires-clause-headed c =
+    c.requires.sound.headed
+
+pub node_at-node-requires-clause-nodes_value : goal.node_at-node-requires-clause-nodes_value
+node_at-node-requires-clause-nodes_value c =
+    (c.areas-l.ensures.nodes, (omega (arith, c.areas-l.ensures.count)))
+
+pub put_kind-requires : goal.put_kind-requires
+put_kind-requires c =
+    omega (arith, c.areas-l.ensures.nodes, node_inside c.requires.sound.headed c.loop-i.i (omega (arith, c.areas-l.ensures.count)), c.loop-i.invariant.1, (ap length c.put.ensures.buf_after ∙ put_length c.args.out.now 0 c.args.image.now (omega (arith, c.requires.image_in_bounds))), c.requires.image_in_bounds)
+
+pub loop-i-preserved : goal.loop-i-preserved
+loop-i-preserved c =
+    ⊎_elim
+    (λ w. rw w.5 (
+      omega (arith, c.loop-i-test.true),
+      w.2.ensures.1 ∙ c.loop-i.invariant.1,
+      w.2.ensures.0
+          ∙ rw (c.areas-l.ensures.nodes, c.loop-i.invariant.2) (turned_tree_set c.args.image.now _ c.loop-i.i c.requires.sound.headed (omega (arith, c.areas-l.ensures.count)) (is_tree_set_lem _ _ c.node_at-node.ensures w.0.taken)),
+    ))
+    (λ w. rw w.1 (omega (arith, c.loop-i-test.true), c.loop-i.invariant.1, c.loop-i.invariant.2 ∙ turned_other c.args.image.now _ c.loop-i.i (not_tree_set _ _ c.node_at-node.ensures w.0.left)))
+    c.if-node-eq-TREE_SET.branch
+
+pub returns : goal.returns
+returns c =
+    turned_all c.args.image.now c.args.out.now _ c.loop-i.i (omega (arith, c.areas-l.ensures.count, c.loop-i.invariant.0)) (rw c.put.ensures.buf_after at c.loop-i.invariant.2)

@@ -1,0 +1,23 @@
+use Prim.Native.Nat.{◌-◌}
+use mathlib.Core.Path.{refl}
+use mathlib.Core.Logic.{⊎_elim}
+use Rattle.frames.proofs.Merging.{committing_first, committing_skip, committing_put, committing_clash, committing_end}
+use Rattle.frames.proofs.commit.Goals as goal
+
+pub loop-x-init : goal.loop-x-init
+loop-x-init c =
+    committing_first _ _ _ _ c.requires.1
+
+pub returns-then-clashes-x : goal.returns-then-clashes-x
+returns-then-clashes-x c =
+    committing_clash c.loop-x.invariant c.loop-x-test.true _ _ refl c.if-m-ne-ABSENT.true c.first_in.ensures.0 c.first_in.ensures.1 c.if-clashes-x.true
+
+pub loop-x-preserved : goal.loop-x-preserved
+loop-x-preserved c =
+    ⊎_elim (λ w. rw w.3 (committing_put c.loop-x.invariant c.loop-x-test.true _ refl w.0.taken w.2.left c.requires.0))
+    (λ w. rw w.1 (committing_skip c.loop-x.invariant c.loop-x-test.true w.0.left))
+    c.if-m-ne-ABSENT.branch
+
+pub returns : goal.returns
+returns c =
+    committing_end c.loop-x.invariant c.loop-x-test.false

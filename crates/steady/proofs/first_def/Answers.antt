@@ -1,0 +1,51 @@
+use Rattle.steady.proofs.Passing.{passing_first, passing_inner, passing_if, passing_def, passing_block, passing_loop, passing_over, passing_found, passing_end}
+use Rattle.image.proofs.Here.{here, stop_up}
+use Rattle.image.proofs.Records.{head_long}
+use mathlib.Core.Logic.{⊎_elim, inl, inr}
+use Prim.Native.Nat.{◌-◌}
+use native.Mathlib.Omega.{arith}
+use Rattle.steady.proofs.first_def.Goals as goal
+
+pub areas-l-requires : goal.areas-l-requires
+areas-l-requires c =
+    head_long c.requires.headed
+
+pub loop-i-init : goal.loop-i-init
+loop-i-init c =
+    passing_first c.requires
+
+pub node_at-node-requires-clause-headed : goal.node_at-node-requires-clause-headed
+node_at-node-requires-clause-headed c =
+    c.requires.headed
+
+pub node_at-node-requires-clause-nodes_value : goal.node_at-node-requires-clause-nodes_value
+node_at-node-requires-clause-nodes_value c =
+    (c.areas-l.ensures.nodes, omega (arith, c.areas-l.ensures.count))
+
+pub loop-i-preserved-in-8-1 : goal.loop-i-preserved-in-8-1
+loop-i-preserved-in-8-1 c =
+    ?
+
+pub returns-then-i-until : goal.returns-then-i-until
+returns-then-i-until c =
+    passing_found c.loop-i.invariant (here _ c.requires (omega (arith, c.areas-l.ensures.count)) c.node_at-node.ensures) c.in-11.is c.if-i-until.true
+
+pub loop-i-preserved-in-11-1 : goal.loop-i-preserved-in-11-1
+loop-i-preserved-in-11-1 c =
+    passing_def c.loop-i.invariant (here _ c.requires (omega (arith, c.areas-l.ensures.count)) c.node_at-node.ensures) c.in-11.is (omega (arith, c.if-i-until.false))
+
+pub loop-i-smaller-in_default-1 : goal.loop-i-smaller-in_default-1
+loop-i-smaller-in_default-1 c =
+    omega (arith, stop_up (here _ c.requires (omega (arith, c.areas-l.ensures.count)) c.node_at-node.ensures), c.areas-l.ensures.count)
+
+pub loop-i-preserved-in_default-1 : goal.loop-i-preserved-in_default-1
+loop-i-preserved-in_default-1 c =
+    ?
+
+pub loop-i-preserved : goal.loop-i-preserved
+loop-i-preserved c =
+    ?
+
+pub returns : goal.returns
+returns c =
+    passing_end c.loop-i.invariant (omega (arith, c.areas-l.ensures.count))
