@@ -1,8 +1,8 @@
 use Prim.Native.Nat.{◌-◌}
 use mathlib.Core.Path.{refl}
-use mathlib.Core.Logic.{⊎_elim}
 use Rattle.frames.proofs.Merging.{committing_first, committing_skip, committing_put, committing_clash, committing_end}
 use Rattle.frames.proofs.commit.Goals as goal
+use Rattle.frames.proofs.commit.Goals.{then-m-ne-ABSENT+else-clashes-x, else-m-ne-ABSENT}
 
 pub loop-x-init : goal.loop-x-init
 loop-x-init c =
@@ -14,9 +14,10 @@ returns-then-clashes-x c =
 
 pub loop-x-preserved : goal.loop-x-preserved
 loop-x-preserved c =
-    ⊎_elim (λ w. rw w.3 (committing_put c.loop-x.invariant c.loop-x-test.true _ refl w.0.taken w.2.left c.requires.0))
-    (λ w. rw w.1 (committing_skip c.loop-x.invariant c.loop-x-test.true w.0.left))
-    c.if-m-ne-ABSENT.branch
+    elim c.if-m-ne-ABSENT.branch [
+      | then-m-ne-ABSENT+else-clashes-x w ↦ rw w.frames-is (committing_put c.loop-x.invariant c.loop-x-test.true _ refl w.if-m-ne-ABSENT.true w.if-clashes-x.false c.requires.0)
+      | else-m-ne-ABSENT w ↦ rw w.frames-is (committing_skip c.loop-x.invariant c.loop-x-test.true w.if-m-ne-ABSENT.false)
+    ]
 
 pub returns : goal.returns
 returns c =
