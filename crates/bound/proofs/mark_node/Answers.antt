@@ -1,9 +1,10 @@
 use Rattle.bound.proofs.Marking.{for_low, target_in, step_assign, step_for, step_block, step_branch, step_over}
 use Rattle.image.proofs.Here.{here, stop_in}
 use Rattle.meaning.proofs.Faults.{sizes}
-use mathlib.Core.Logic.{⊎_elim, inl, inr}
+use mathlib.Core.Logic.{inl, inr}
 use native.Mathlib.Omega.{arith}
 use Rattle.bound.proofs.mark_node.Goals as goal
+use Rattle.bound.proofs.mark_node.Goals.{in_default-via-then-kind-lt8, in_default-via-else-kind-lt8+else-kind-lt10, in-12-1, in_default+else-kind-lt8+then-kind-lt10}
 
 pub node_at-node-requires-clause-headed : goal.node_at-node-requires-clause-headed
 node_at-node-requires-clause-headed c =
@@ -59,9 +60,16 @@ returns-in-10 c =
 
 pub returns-in_default : goal.returns-in_default
 returns-in_default c =
-    step_over (here _ c.requires.sound c.requires.nodes_value.1 c.node_at-node.ensures) _ (omega arith) (omega arith) (omega arith)
-    (⊎_elim (λ w. inl w.taken) (λ w. inr (omega (arith, w.1.left))) c.in_default.branch)
+    let h = here _ c.requires.sound c.requires.nodes_value.1 c.node_at-node.ensures in
+    elim c.in_default.branch [
+      | in_default-via-then-kind-lt8 w ↦ step_over h _ (λ q. omega arith) (λ q. omega arith) (λ q. omega arith) (inl (omega arith))
+      | in_default-via-else-kind-lt8+else-kind-lt10 w ↦ step_over h _ (λ q. omega arith) (λ q. omega arith) (λ q. omega arith) (inr (omega arith))
+    ]
 
 pub returns-in-8 : goal.returns-in-8
 returns-in-8 c =
-    ⊎_elim (λ w. step_block (here _ c.requires.sound c.requires.nodes_value.1 c.node_at-node.ensures) _ w.keys3) (λ w. step_branch (here _ c.requires.sound c.requires.nodes_value.1 c.node_at-node.ensures) _ (omega (arith, w.1.left)) (omega (arith, w.2.taken))) c.in-8-1.branch
+    let h = here _ c.requires.sound c.requires.nodes_value.1 c.node_at-node.ensures in
+    elim c.in-8-1.branch [
+      | in-12-1 w ↦ step_block h _ (omega arith)
+      | in_default+else-kind-lt8+then-kind-lt10 w ↦ step_branch h _ (omega arith) (omega arith)
+    ]

@@ -1,11 +1,11 @@
-use Rattle.image.proofs.Answers.{judged_sound, ill_formed}
+use Rattle.image.proofs.Answers.{judged_sound}
 use Rattle.convert.proofs.Outcomes.{faulty, short, done}
 use native.Mathlib.Omega.{arith}
 use Rattle.convert.proofs.convert.Goals as goal
 
 pub returns-in_default : goal.returns-in_default
 returns-in_default c =
-    faulty c.args.image.now c.args.out.now c.judge-j.result c.judge-j.ensures (ill_formed _ ?)
+    faulty c.args.image.now c.args.out.now c.judge-j.result c.judge-j.ensures c.in_default.not-WellFormed
 
 pub returns-then-out-image : goal.returns-then-out-image
 returns-then-out-image c =

@@ -1,6 +1,4 @@
 use mathlib.Core.Path.{refl, ◌∙◌, ap}
-use mathlib.Core.Logic.{⊎_elim}
-use Prim.Native.Nat.{◌-◌}
 use lib.ListN.{length}
 use Rattle.image.proofs.Records.{head_long, node_inside}
 use Rattle.image.proofs.Searches.{is_tree_set_lem, not_tree_set}
@@ -8,6 +6,7 @@ use Rattle.words.proofs.Laws.{put_length}
 use Rattle.convert.proofs.Turning.{turned_none, turned_all, turned_other, turned_tree_set}
 use native.Mathlib.Omega.{arith}
 use Rattle.convert.proofs.write_converted.Goals as goal
+use Rattle.convert.proofs.write_converted.Goals.{then-node-eq-TREE_SET, else-node-eq-TREE_SET}
 
 pub put-requires : goal.put-requires
 put-requires c =
@@ -35,15 +34,15 @@ put_kind-requires c =
 
 pub loop-i-preserved : goal.loop-i-preserved
 loop-i-preserved c =
-    ⊎_elim
-    (λ w. rw w.5 (
-      omega (arith, c.loop-i-test.true),
-      w.2.ensures.1 ∙ c.loop-i.invariant.1,
-      w.2.ensures.0
-          ∙ rw (c.areas-l.ensures.nodes, c.loop-i.invariant.2) (turned_tree_set c.args.image.now _ c.loop-i.i c.requires.sound.headed (omega (arith, c.areas-l.ensures.count)) (is_tree_set_lem _ _ c.node_at-node.ensures w.0.taken)),
-    ))
-    (λ w. rw w.1 (omega (arith, c.loop-i-test.true), c.loop-i.invariant.1, c.loop-i.invariant.2 ∙ turned_other c.args.image.now _ c.loop-i.i (not_tree_set _ _ c.node_at-node.ensures w.0.left)))
-    c.if-node-eq-TREE_SET.branch
+    elim c.if-node-eq-TREE_SET.branch [
+      | then-node-eq-TREE_SET w ↦ rw w.out-is (
+        omega (arith, c.loop-i-test.true),
+        w.put_kind.ensures.buf_len_unchanged ∙ c.loop-i.invariant.1,
+        w.put_kind.ensures.buf_after
+            ∙ rw (c.areas-l.ensures.nodes, c.loop-i.invariant.2) (turned_tree_set c.args.image.now _ c.loop-i.i c.requires.sound.headed (omega (arith, c.areas-l.ensures.count)) (is_tree_set_lem _ _ c.node_at-node.ensures w.if-node-eq-TREE_SET.true)),
+      )
+      | else-node-eq-TREE_SET w ↦ rw w.out-is (omega (arith, c.loop-i-test.true), c.loop-i.invariant.1, c.loop-i.invariant.2 ∙ turned_other c.args.image.now _ c.loop-i.i (not_tree_set _ _ c.node_at-node.ensures w.if-node-eq-TREE_SET.false))
+    ]
 
 pub returns : goal.returns
 returns c =

@@ -18,15 +18,10 @@ pub measured-requires-clause-format_value : goal.measured-requires-clause-format
 measured-requires-clause-format_value c =
     c.requires.format_value
 
-pub returns-then-room-measured-clause-value : goal.returns-then-room-measured-clause-value
-returns-then-room-measured-clause-value c =
+pub returns-then-room-measured : goal.returns-then-room-measured
+returns-then-room-measured c =
     let s = put_in c.args.image.now c.args.table.now c.args.pieces c.args.format.now in
-    (rw (too_long s c.measured.ensures c.if-room-measured.true) (refl, sym (overlaid_none c.args.out.now))).0
-
-pub returns-then-room-measured-clause-out_after : goal.returns-then-room-measured-clause-out_after
-returns-then-room-measured-clause-out_after c =
-    let s = put_in c.args.image.now c.args.table.now c.args.pieces c.args.format.now in
-    (rw (too_long s c.measured.ensures c.if-room-measured.true) (refl, sym (overlaid_none c.args.out.now))).1
+    rw (too_long s c.measured.ensures c.if-room-measured.true) (record { value = refl; out_after = sym (overlaid_none c.args.out.now) })
 
 pub fill_in-requires-clause-ready : goal.fill_in-requires-clause-ready
 fill_in-requires-clause-ready c =
@@ -40,12 +35,7 @@ pub fill_in-requires-clause-format_in_bounds : goal.fill_in-requires-clause-form
 fill_in-requires-clause-format_in_bounds c =
     fits_in (put_in c.args.image.now c.args.table.now c.args.pieces c.args.format.now) c.measured.ensures c.if-room-measured.false
 
-pub returns-clause-value : goal.returns-clause-value
-returns-clause-value c =
+pub returns : goal.returns
+returns c =
     let s = put_in c.args.image.now c.args.table.now c.args.pieces c.args.format.now in
-    (rw (← fitting_all s (fits_in s c.measured.ensures c.if-room-measured.false)) (c.fill_in.ensures.value, c.fill_in.ensures.out_after ∙ put_overlaid c.args.out.now s)).0
-
-pub returns-clause-out_after : goal.returns-clause-out_after
-returns-clause-out_after c =
-    let s = put_in c.args.image.now c.args.table.now c.args.pieces c.args.format.now in
-    (rw (← fitting_all s (fits_in s c.measured.ensures c.if-room-measured.false)) (c.fill_in.ensures.value, c.fill_in.ensures.out_after ∙ put_overlaid c.args.out.now s)).1
+    rw (← fitting_all s (fits_in s c.measured.ensures c.if-room-measured.false)) (record { value = c.fill_in.ensures.value; out_after = c.fill_in.ensures.out_after ∙ put_overlaid c.args.out.now s })

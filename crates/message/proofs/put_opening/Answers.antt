@@ -71,142 +71,72 @@ unfolding opening choose if◌then◌else◌ bytes
 put-requires-in-12 c =
     rw c.in-12.is at c.requires
 
-pub returns-in-0-clause-out_after : goal.returns-in-0-clause-out_after
+pub returns-in-0 : goal.returns-in-0
 unfolding opening choose if◌then◌else◌ bytes
-returns-in-0-clause-out_after c =
-    (rw c.in-0.is (c.put.ensures.buf_after, c.put.ensures.value)).0
+returns-in-0 c =
+    rw c.in-0.is (record { out_after = c.put.ensures.buf_after; value = c.put.ensures.value })
 
-pub returns-in-0-clause-value : goal.returns-in-0-clause-value
+pub returns-in-1 : goal.returns-in-1
 unfolding opening choose if◌then◌else◌ bytes
-returns-in-0-clause-value c =
-    (rw c.in-0.is (c.put.ensures.buf_after, c.put.ensures.value)).1
+returns-in-1 c =
+    rw c.in-1.is (record { out_after = c.put-in-1.ensures.buf_after; value = c.put-in-1.ensures.value })
 
-pub returns-in-1-clause-out_after : goal.returns-in-1-clause-out_after
+pub returns-in-2 : goal.returns-in-2
 unfolding opening choose if◌then◌else◌ bytes
-returns-in-1-clause-out_after c =
-    (rw c.in-1.is (c.put-in-1.ensures.buf_after, c.put-in-1.ensures.value)).0
+returns-in-2 c =
+    rw c.in-2.is (record { out_after = c.put-in-2.ensures.buf_after; value = c.put-in-2.ensures.value })
 
-pub returns-in-1-clause-value : goal.returns-in-1-clause-value
+pub returns-in-3 : goal.returns-in-3
 unfolding opening choose if◌then◌else◌ bytes
-returns-in-1-clause-value c =
-    (rw c.in-1.is (c.put-in-1.ensures.buf_after, c.put-in-1.ensures.value)).1
+returns-in-3 c =
+    rw c.in-3.is (record { out_after = c.put-in-3.ensures.buf_after; value = c.put-in-3.ensures.value })
 
-pub returns-in-2-clause-out_after : goal.returns-in-2-clause-out_after
+pub returns-in-4 : goal.returns-in-4
 unfolding opening choose if◌then◌else◌ bytes
-returns-in-2-clause-out_after c =
-    (rw c.in-2.is (c.put-in-2.ensures.buf_after, c.put-in-2.ensures.value)).0
+returns-in-4 c =
+    rw c.in-4.is (record { out_after = c.put-in-4.ensures.buf_after; value = c.put-in-4.ensures.value })
 
-pub returns-in-2-clause-value : goal.returns-in-2-clause-value
+pub returns-in-5 : goal.returns-in-5
 unfolding opening choose if◌then◌else◌ bytes
-returns-in-2-clause-value c =
-    (rw c.in-2.is (c.put-in-2.ensures.buf_after, c.put-in-2.ensures.value)).1
+returns-in-5 c =
+    rw c.in-5.is (record { out_after = c.put-in-5.ensures.buf_after; value = c.put-in-5.ensures.value })
 
-pub returns-in-3-clause-out_after : goal.returns-in-3-clause-out_after
+pub returns-in-6 : goal.returns-in-6
 unfolding opening choose if◌then◌else◌ bytes
-returns-in-3-clause-out_after c =
-    (rw c.in-3.is (c.put-in-3.ensures.buf_after, c.put-in-3.ensures.value)).0
+returns-in-6 c =
+    rw c.in-6.is (record { out_after = c.put-in-6.ensures.buf_after; value = c.put-in-6.ensures.value })
 
-pub returns-in-3-clause-value : goal.returns-in-3-clause-value
+pub returns-in-7 : goal.returns-in-7
 unfolding opening choose if◌then◌else◌ bytes
-returns-in-3-clause-value c =
-    (rw c.in-3.is (c.put-in-3.ensures.buf_after, c.put-in-3.ensures.value)).1
+returns-in-7 c =
+    rw c.in-7.is (record { out_after = c.put-in-7.ensures.buf_after; value = c.put-in-7.ensures.value })
 
-pub returns-in-4-clause-out_after : goal.returns-in-4-clause-out_after
+pub returns-in-8 : goal.returns-in-8
 unfolding opening choose if◌then◌else◌ bytes
-returns-in-4-clause-out_after c =
-    (rw c.in-4.is (c.put-in-4.ensures.buf_after, c.put-in-4.ensures.value)).0
+returns-in-8 c =
+    rw c.in-8.is (record { out_after = c.put-in-8.ensures.buf_after; value = c.put-in-8.ensures.value })
 
-pub returns-in-4-clause-value : goal.returns-in-4-clause-value
+pub returns-in-9 : goal.returns-in-9
 unfolding opening choose if◌then◌else◌ bytes
-returns-in-4-clause-value c =
-    (rw c.in-4.is (c.put-in-4.ensures.buf_after, c.put-in-4.ensures.value)).1
+returns-in-9 c =
+    rw c.in-9.is (record { out_after = c.put-in-9.ensures.buf_after; value = c.put-in-9.ensures.value })
 
-pub returns-in-5-clause-out_after : goal.returns-in-5-clause-out_after
+pub returns-in-10 : goal.returns-in-10
 unfolding opening choose if◌then◌else◌ bytes
-returns-in-5-clause-out_after c =
-    (rw c.in-5.is (c.put-in-5.ensures.buf_after, c.put-in-5.ensures.value)).0
+returns-in-10 c =
+    rw c.in-10.is (record { out_after = c.put-in-10.ensures.buf_after; value = c.put-in-10.ensures.value })
 
-pub returns-in-5-clause-value : goal.returns-in-5-clause-value
+pub returns-in-11 : goal.returns-in-11
 unfolding opening choose if◌then◌else◌ bytes
-returns-in-5-clause-value c =
-    (rw c.in-5.is (c.put-in-5.ensures.buf_after, c.put-in-5.ensures.value)).1
+returns-in-11 c =
+    rw c.in-11.is (record { out_after = c.put-in-11.ensures.buf_after; value = c.put-in-11.ensures.value })
 
-pub returns-in-6-clause-out_after : goal.returns-in-6-clause-out_after
+pub returns-in-12 : goal.returns-in-12
 unfolding opening choose if◌then◌else◌ bytes
-returns-in-6-clause-out_after c =
-    (rw c.in-6.is (c.put-in-6.ensures.buf_after, c.put-in-6.ensures.value)).0
+returns-in-12 c =
+    rw c.in-12.is (record { out_after = c.put-in-12.ensures.buf_after; value = c.put-in-12.ensures.value })
 
-pub returns-in-6-clause-value : goal.returns-in-6-clause-value
+pub returns-in_default : goal.returns-in_default
 unfolding opening choose if◌then◌else◌ bytes
-returns-in-6-clause-value c =
-    (rw c.in-6.is (c.put-in-6.ensures.buf_after, c.put-in-6.ensures.value)).1
-
-pub returns-in-7-clause-out_after : goal.returns-in-7-clause-out_after
-unfolding opening choose if◌then◌else◌ bytes
-returns-in-7-clause-out_after c =
-    (rw c.in-7.is (c.put-in-7.ensures.buf_after, c.put-in-7.ensures.value)).0
-
-pub returns-in-7-clause-value : goal.returns-in-7-clause-value
-unfolding opening choose if◌then◌else◌ bytes
-returns-in-7-clause-value c =
-    (rw c.in-7.is (c.put-in-7.ensures.buf_after, c.put-in-7.ensures.value)).1
-
-pub returns-in-8-clause-out_after : goal.returns-in-8-clause-out_after
-unfolding opening choose if◌then◌else◌ bytes
-returns-in-8-clause-out_after c =
-    (rw c.in-8.is (c.put-in-8.ensures.buf_after, c.put-in-8.ensures.value)).0
-
-pub returns-in-8-clause-value : goal.returns-in-8-clause-value
-unfolding opening choose if◌then◌else◌ bytes
-returns-in-8-clause-value c =
-    (rw c.in-8.is (c.put-in-8.ensures.buf_after, c.put-in-8.ensures.value)).1
-
-pub returns-in-9-clause-out_after : goal.returns-in-9-clause-out_after
-unfolding opening choose if◌then◌else◌ bytes
-returns-in-9-clause-out_after c =
-    (rw c.in-9.is (c.put-in-9.ensures.buf_after, c.put-in-9.ensures.value)).0
-
-pub returns-in-9-clause-value : goal.returns-in-9-clause-value
-unfolding opening choose if◌then◌else◌ bytes
-returns-in-9-clause-value c =
-    (rw c.in-9.is (c.put-in-9.ensures.buf_after, c.put-in-9.ensures.value)).1
-
-pub returns-in-10-clause-out_after : goal.returns-in-10-clause-out_after
-unfolding opening choose if◌then◌else◌ bytes
-returns-in-10-clause-out_after c =
-    (rw c.in-10.is (c.put-in-10.ensures.buf_after, c.put-in-10.ensures.value)).0
-
-pub returns-in-10-clause-value : goal.returns-in-10-clause-value
-unfolding opening choose if◌then◌else◌ bytes
-returns-in-10-clause-value c =
-    (rw c.in-10.is (c.put-in-10.ensures.buf_after, c.put-in-10.ensures.value)).1
-
-pub returns-in-11-clause-out_after : goal.returns-in-11-clause-out_after
-unfolding opening choose if◌then◌else◌ bytes
-returns-in-11-clause-out_after c =
-    (rw c.in-11.is (c.put-in-11.ensures.buf_after, c.put-in-11.ensures.value)).0
-
-pub returns-in-11-clause-value : goal.returns-in-11-clause-value
-unfolding opening choose if◌then◌else◌ bytes
-returns-in-11-clause-value c =
-    (rw c.in-11.is (c.put-in-11.ensures.buf_after, c.put-in-11.ensures.value)).1
-
-pub returns-in-12-clause-out_after : goal.returns-in-12-clause-out_after
-unfolding opening choose if◌then◌else◌ bytes
-returns-in-12-clause-out_after c =
-    (rw c.in-12.is (c.put-in-12.ensures.buf_after, c.put-in-12.ensures.value)).0
-
-pub returns-in-12-clause-value : goal.returns-in-12-clause-value
-unfolding opening choose if◌then◌else◌ bytes
-returns-in-12-clause-value c =
-    (rw c.in-12.is (c.put-in-12.ensures.buf_after, c.put-in-12.ensures.value)).1
-
-pub returns-in_default-clause-out_after : goal.returns-in_default-clause-out_after
-unfolding opening choose if◌then◌else◌ bytes
-returns-in_default-clause-out_after c =
-    (rw (ne_eqb c.args.kind 0 (omega arith), ne_eqb c.args.kind 1 (omega arith), ne_eqb c.args.kind 2 (omega arith), ne_eqb c.args.kind 3 (omega arith), ne_eqb c.args.kind 4 (omega arith), ne_eqb c.args.kind 5 (omega arith), ne_eqb c.args.kind 6 (omega arith), ne_eqb c.args.kind 7 (omega arith), ne_eqb c.args.kind 8 (omega arith), ne_eqb c.args.kind 9 (omega arith), ne_eqb c.args.kind 10 (omega arith), ne_eqb c.args.kind 11 (omega arith), ne_eqb c.args.kind 12 (omega arith), put_nil c.args.out.now c.args.at) (search rules)).0
-
-pub returns-in_default-clause-value : goal.returns-in_default-clause-value
-unfolding opening choose if◌then◌else◌ bytes
-returns-in_default-clause-value c =
-    (rw (ne_eqb c.args.kind 0 (omega arith), ne_eqb c.args.kind 1 (omega arith), ne_eqb c.args.kind 2 (omega arith), ne_eqb c.args.kind 3 (omega arith), ne_eqb c.args.kind 4 (omega arith), ne_eqb c.args.kind 5 (omega arith), ne_eqb c.args.kind 6 (omega arith), ne_eqb c.args.kind 7 (omega arith), ne_eqb c.args.kind 8 (omega arith), ne_eqb c.args.kind 9 (omega arith), ne_eqb c.args.kind 10 (omega arith), ne_eqb c.args.kind 11 (omega arith), ne_eqb c.args.kind 12 (omega arith), put_nil c.args.out.now c.args.at) (search rules)).1
+returns-in_default c =
+    rw (ne_eqb c.args.kind 0 (omega arith), ne_eqb c.args.kind 1 (omega arith), ne_eqb c.args.kind 2 (omega arith), ne_eqb c.args.kind 3 (omega arith), ne_eqb c.args.kind 4 (omega arith), ne_eqb c.args.kind 5 (omega arith), ne_eqb c.args.kind 6 (omega arith), ne_eqb c.args.kind 7 (omega arith), ne_eqb c.args.kind 8 (omega arith), ne_eqb c.args.kind 9 (omega arith), ne_eqb c.args.kind 10 (omega arith), ne_eqb c.args.kind 11 (omega arith), ne_eqb c.args.kind 12 (omega arith), put_nil c.args.out.now c.args.at) (search rules)

@@ -39,62 +39,32 @@ unfolding meant bytes
 put-requires-in-OfAny c =
     rw c.in-OfAny.is at c.requires.piece_in_bounds
 
-pub returns-in-Nothing-clause-out_after : goal.returns-in-Nothing-clause-out_after
+pub returns-in-Nothing : goal.returns-in-Nothing
 unfolding meant bytes
-returns-in-Nothing-clause-out_after c =
-    (rw (c.in-Nothing.is, put_nil c.args.out.now c.args.at) (search rules)).0
+returns-in-Nothing c =
+    rw (c.in-Nothing.is, put_nil c.args.out.now c.args.at) (search rules)
 
-pub returns-in-Nothing-clause-value : goal.returns-in-Nothing-clause-value
+pub returns-in-OfType : goal.returns-in-OfType
 unfolding meant bytes
-returns-in-Nothing-clause-value c =
-    (rw (c.in-Nothing.is, put_nil c.args.out.now c.args.at) (search rules)).1
+returns-in-OfType c =
+    rw c.in-OfType.is (record { out_after = c.put_type.ensures.out_after; value = c.put_type.ensures.value })
 
-pub returns-in-OfType-clause-out_after : goal.returns-in-OfType-clause-out_after
+pub returns-in-OfText : goal.returns-in-OfText
 unfolding meant bytes
-returns-in-OfType-clause-out_after c =
-    (rw c.in-OfType.is (c.put_type.ensures.out_after, c.put_type.ensures.value)).0
+returns-in-OfText c =
+    rw (c.in-OfText.is, ← c.text.ensures) (record { out_after = c.put.ensures.buf_after; value = c.put.ensures.value })
 
-pub returns-in-OfType-clause-value : goal.returns-in-OfType-clause-value
+pub returns-in-OfNumber : goal.returns-in-OfNumber
 unfolding meant bytes
-returns-in-OfType-clause-value c =
-    (rw c.in-OfType.is (c.put_type.ensures.out_after, c.put_type.ensures.value)).1
+returns-in-OfNumber c =
+    rw c.in-OfNumber.is (record { out_after = c.put_decimal.ensures.buf_after; value = c.put_decimal.ensures.value })
 
-pub returns-in-OfText-clause-out_after : goal.returns-in-OfText-clause-out_after
+pub returns-in-OfRange : goal.returns-in-OfRange
 unfolding meant bytes
-returns-in-OfText-clause-out_after c =
-    (rw (c.in-OfText.is, ← c.text.ensures) (c.put.ensures.buf_after, c.put.ensures.value)).0
+returns-in-OfRange c =
+    rw c.in-OfRange.is (record { out_after = c.put_range.ensures.out_after; value = c.put_range.ensures.value })
 
-pub returns-in-OfText-clause-value : goal.returns-in-OfText-clause-value
+pub returns-in-OfAny : goal.returns-in-OfAny
 unfolding meant bytes
-returns-in-OfText-clause-value c =
-    (rw (c.in-OfText.is, ← c.text.ensures) (c.put.ensures.buf_after, c.put.ensures.value)).1
-
-pub returns-in-OfNumber-clause-out_after : goal.returns-in-OfNumber-clause-out_after
-unfolding meant bytes
-returns-in-OfNumber-clause-out_after c =
-    (rw c.in-OfNumber.is (c.put_decimal.ensures.buf_after, c.put_decimal.ensures.value)).0
-
-pub returns-in-OfNumber-clause-value : goal.returns-in-OfNumber-clause-value
-unfolding meant bytes
-returns-in-OfNumber-clause-value c =
-    (rw c.in-OfNumber.is (c.put_decimal.ensures.buf_after, c.put_decimal.ensures.value)).1
-
-pub returns-in-OfRange-clause-out_after : goal.returns-in-OfRange-clause-out_after
-unfolding meant bytes
-returns-in-OfRange-clause-out_after c =
-    (rw c.in-OfRange.is (c.put_range.ensures.out_after, c.put_range.ensures.value)).0
-
-pub returns-in-OfRange-clause-value : goal.returns-in-OfRange-clause-value
-unfolding meant bytes
-returns-in-OfRange-clause-value c =
-    (rw c.in-OfRange.is (c.put_range.ensures.out_after, c.put_range.ensures.value)).1
-
-pub returns-in-OfAny-clause-out_after : goal.returns-in-OfAny-clause-out_after
-unfolding meant bytes
-returns-in-OfAny-clause-out_after c =
-    (rw c.in-OfAny.is (c.put-in-OfAny.ensures.buf_after, c.put-in-OfAny.ensures.value)).0
-
-pub returns-in-OfAny-clause-value : goal.returns-in-OfAny-clause-value
-unfolding meant bytes
-returns-in-OfAny-clause-value c =
-    (rw c.in-OfAny.is (c.put-in-OfAny.ensures.buf_after, c.put-in-OfAny.ensures.value)).1
+returns-in-OfAny c =
+    rw c.in-OfAny.is (record { out_after = c.put-in-OfAny.ensures.buf_after; value = c.put-in-OfAny.ensures.value })

@@ -18,10 +18,6 @@ pub deliver-requires-clause-format_value : goal.deliver-requires-clause-format_v
 deliver-requires-clause-format_value c =
     rw (format_read _ c.args.code (c.put_format-len.ensures.out_after, c.put_format-len.ensures.value) c.text.ensures) c.requires.code_value
 
-pub returns-clause-value : goal.returns-clause-value
-returns-clause-value c =
-    (rw (format_read _ c.args.code (c.put_format-len.ensures.out_after, c.put_format-len.ensures.value) c.text.ensures) at (c.deliver.ensures.value, c.deliver.ensures.out_after)).0
-
-pub returns-clause-out_after : goal.returns-clause-out_after
-returns-clause-out_after c =
-    (rw (format_read _ c.args.code (c.put_format-len.ensures.out_after, c.put_format-len.ensures.value) c.text.ensures) at (c.deliver.ensures.value, c.deliver.ensures.out_after)).1
+pub returns : goal.returns
+returns c =
+    rw (format_read _ c.args.code (c.put_format-len.ensures.out_after, c.put_format-len.ensures.value) c.text.ensures) at (c.deliver.ensures.value, c.deliver.ensures.out_after)

@@ -4,7 +4,7 @@ use Rattle.steady.proofs.steady.Goals as goal
 
 pub returns-in_default : goal.returns-in_default
 returns-in_default c =
-    faulty_told _ c.judge-j.result ? c.judge-j.ensures
+    faulty_told _ c.judge-j.result c.in_default.not-WellFormed c.judge-j.ensures
 
 pub first_def-requires : goal.first_def-requires
 first_def-requires c =

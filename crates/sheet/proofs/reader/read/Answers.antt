@@ -25,7 +25,7 @@ read_types-types-requires-clause-wf c =
 
 pub read_types-types-requires-clause-most_numbers_bound : goal.read_types-types-requires-clause-most_numbers_bound
 read_types-types-requires-clause-most_numbers_bound c =
-    (omega (arith, c.requires.0, capacity_as c.args.table.now c.begin_table.new.0 c.begin_table.auto.0), length-replicate {A = ℕ} most_types 0)
+    (omega (arith, c.requires.0, capacity_as c.args.table.now c.begin_table.new.table c.begin_table.auto.table), length-replicate {A = ℕ} most_types 0)
 
 pub returns-then-not-types : goal.returns-then-not-types
 returns-then-not-types c =

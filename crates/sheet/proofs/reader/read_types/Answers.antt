@@ -39,7 +39,7 @@ overflow_add-k c =
 
 pub loop-k-preserved : goal.loop-k-preserved
 loop-k-preserved c =
-    (loop_next c.loop-k.invariant.0 c.loop-k-test.true (c.read_type-r.ensures.yes (not-false _ c.if-not-r.false)), c.read_type-r.auto.1.1.1.1.0 ∙ c.loop-k.invariant.1)
+    (loop_next c.loop-k.invariant.0 c.loop-k-test.true (c.read_type-r.ensures.yes (not-false _ c.if-not-r.false)), c.read_type-r.auto.table ∙ c.loop-k.invariant.1)
 
 pub returns : goal.returns
 returns c =

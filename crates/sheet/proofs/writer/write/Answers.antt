@@ -44,16 +44,16 @@ overflow_add-total-3 c =
 
 pub overflow_add-total-4 : goal.overflow_add-total-4
 overflow_add-total-4 c =
-    omega (arith, few_types (walked c.requires blank c.begin.ensures c.meet_all.ensures), c.mark.ensures.value, c.elements_of-elements.ensures.upper_bound, c.requires.few, c.type_size.ensures.1)
+    omega (arith, few_types (walked c.requires blank c.begin.ensures c.meet_all.ensures), c.mark.ensures.value, c.elements_of-elements.ensures.upper_bound, c.requires.few, c.size_of-size.ensures.1)
 
 pub returns-then-out-total : goal.returns-then-out-total
 returns-then-out-total c =
-    wrote_not (walked c.requires blank c.begin.ensures c.meet_all.ensures) c.mark.ensures.value (c.elements_of-elements.ensures.value, c.elements_of-elements.ensures.upper_bound) c.type_size.ensures _ c.if-out-total.true
+    wrote_not (walked c.requires blank c.begin.ensures c.meet_all.ensures) c.mark.ensures.value (c.elements_of-elements.ensures.value, c.elements_of-elements.ensures.upper_bound) c.size_of-size.ensures _ c.if-out-total.true
 
 pub fill-requires : goal.fill-requires
 fill-requires c =
-    filling (walked c.requires blank c.begin.ensures c.meet_all.ensures) c.mark.ensures.value (c.elements_of-elements.ensures.value, c.elements_of-elements.ensures.upper_bound) c.type_size.ensures (omega (arith, c.if-out-total.false))
+    filling (walked c.requires blank c.begin.ensures c.meet_all.ensures) c.mark.ensures.value (c.elements_of-elements.ensures.value, c.elements_of-elements.ensures.upper_bound) c.size_of-size.ensures (omega (arith, c.if-out-total.false))
 
 pub returns : goal.returns
 returns c =
-    wrote_all (walked c.requires blank c.begin.ensures c.meet_all.ensures) c.mark.ensures.value (c.elements_of-elements.ensures.value, c.elements_of-elements.ensures.upper_bound) c.type_size.ensures _ _ (λ h. absurd (omega (arith, c.if-out-total.false))) c.fill.ensures
+    wrote_all (walked c.requires blank c.begin.ensures c.meet_all.ensures) c.mark.ensures.value (c.elements_of-elements.ensures.value, c.elements_of-elements.ensures.upper_bound) c.size_of-size.ensures _ _ (λ h. absurd (omega (arith, c.if-out-total.false))) c.fill.ensures
