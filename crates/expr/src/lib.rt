@@ -30,7 +30,7 @@ pub struct NameCall {
 }
 
 // The expression at the cursor.
-#[cycle(arguments_binary_call_child_dict_each_then_first_then_input_len_list_operands_range_stream_tc_expr_values)]
+#[cycle(tc_expr)]
 pub fn tc_expr(
     image: &[u8],
     here: Cursor,
@@ -69,7 +69,7 @@ pub fn tc_expr(
 }
 
 // The same for a child. Most nodes are Literals and Variables: these are decided without a call.
-#[cycle(arguments_binary_call_child_dict_each_then_first_then_input_len_list_operands_range_stream_tc_expr_values)]
+#[cycle(tc_expr)]
 fn child(
     image: &[u8],
     here: Cursor,
@@ -100,7 +100,7 @@ fn child(
 }
 
 // n expressions from the cursor on, their types on the stack from sp on.
-#[cycle(arguments_binary_call_child_dict_each_then_first_then_input_len_list_operands_range_stream_tc_expr_values)]
+#[cycle(tc_expr)]
 fn values(
     image: &[u8],
     from: Cursor,
@@ -137,7 +137,7 @@ fn values(
 }
 
 // A node whose children are all checked before its rule looks at them.
-#[cycle(arguments_binary_call_child_dict_each_then_first_then_input_len_list_operands_range_stream_tc_expr_values)]
+#[cycle(tc_expr)]
 fn operands(
     image: &[u8],
     here: Cursor,
@@ -167,7 +167,7 @@ fn operands(
 }
 
 // A Binary: its operands, and then its rule.
-#[cycle(arguments_binary_call_child_dict_each_then_first_then_input_len_list_operands_range_stream_tc_expr_values)]
+#[cycle(tc_expr)]
 fn binary(
     image: &[u8],
     here: Cursor,
@@ -202,7 +202,7 @@ fn binary(
 }
 
 // A List: "List stops at the first mismatch".
-#[cycle(arguments_binary_call_child_dict_each_then_first_then_input_len_list_operands_range_stream_tc_expr_values)]
+#[cycle(tc_expr)]
 fn list(
     image: &[u8],
     here: Cursor,
@@ -243,7 +243,7 @@ fn list(
 }
 
 // A Dict: "Dict stops only when key and value are both Unknown after a pair".
-#[cycle(arguments_binary_call_child_dict_each_then_first_then_input_len_list_operands_range_stream_tc_expr_values)]
+#[cycle(tc_expr)]
 fn dict(
     image: &[u8],
     here: Cursor,
@@ -294,7 +294,7 @@ fn dict(
 // ---- calls
 
 // A Call: a Variable that is called goes by its name's role and is not looked up; any other callee is checked first.
-#[cycle(arguments_binary_call_child_dict_each_then_first_then_input_len_list_operands_range_stream_tc_expr_values)]
+#[cycle(tc_expr)]
 fn call(
     image: &[u8],
     here: Cursor,
@@ -343,7 +343,7 @@ fn call(
 }
 
 // The arguments of a call, by its rule: what a rule does not look at is not checked.
-#[cycle(arguments_binary_call_child_dict_each_then_first_then_input_len_list_operands_range_stream_tc_expr_values)]
+#[cycle(tc_expr)]
 fn arguments(
     image: &[u8],
     call: NameCall,
@@ -378,7 +378,7 @@ fn arguments(
 }
 
 // Every argument is checked, and the type is `ty`.
-#[cycle(arguments_binary_call_child_dict_each_then_first_then_input_len_list_operands_range_stream_tc_expr_values)]
+#[cycle(tc_expr)]
 fn each_then(
     image: &[u8],
     call: NameCall,
@@ -408,7 +408,7 @@ fn each_then(
 }
 
 // The first argument is checked, and the type is `ty`.
-#[cycle(arguments_binary_call_child_dict_each_then_first_then_input_len_list_operands_range_stream_tc_expr_values)]
+#[cycle(tc_expr)]
 fn first_then(
     image: &[u8],
     call: NameCall,
@@ -436,7 +436,7 @@ fn first_then(
 }
 
 // `input`, whose prompt is a String if there is one.
-#[cycle(arguments_binary_call_child_dict_each_then_first_then_input_len_list_operands_range_stream_tc_expr_values)]
+#[cycle(tc_expr)]
 fn input(
     image: &[u8],
     call: NameCall,
@@ -466,7 +466,7 @@ fn input(
 }
 
 // `len`.
-#[cycle(arguments_binary_call_child_dict_each_then_first_then_input_len_list_operands_range_stream_tc_expr_values)]
+#[cycle(tc_expr)]
 fn len(
     image: &[u8],
     call: NameCall,
@@ -493,7 +493,7 @@ fn len(
 }
 
 // `range`: a wrong argument ends it before the next is looked at.
-#[cycle(arguments_binary_call_child_dict_each_then_first_then_input_len_list_operands_range_stream_tc_expr_values)]
+#[cycle(tc_expr)]
 fn range(
     image: &[u8],
     call: NameCall,
@@ -530,7 +530,7 @@ fn range(
 }
 
 // `map` and `filter`: the first argument is judged before the second is looked at.
-#[cycle(arguments_binary_call_child_dict_each_then_first_then_input_len_list_operands_range_stream_tc_expr_values)]
+#[cycle(tc_expr)]
 fn stream(
     image: &[u8],
     call: NameCall,

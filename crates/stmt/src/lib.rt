@@ -295,7 +295,7 @@ fn fewer(left: usize) -> usize
 }
 
 // The statement at the cursor, at most `depth` deep.
-#[cycle(block_choices_define_each_one_arm_repeat_tc_stmt)]
+#[cycle(tc_stmt)]
 fn tc_stmt(
     image: &[u8],
     here: Cursor,
@@ -330,7 +330,7 @@ fn tc_stmt(
 }
 
 // The Block at the cursor; its typing errors are dropped, or the first is returned.
-#[cycle(block_choices_define_each_one_arm_repeat_tc_stmt)]
+#[cycle(tc_stmt)]
 fn block(
     image: &[u8],
     here: Cursor,
@@ -373,7 +373,7 @@ fn block(
 
 // An If: its branches, each on a copy of the frames, and then the merge, which is refused at the first condition and
 // points at "the first type found" too.
-#[cycle(block_choices_define_each_one_arm_repeat_tc_stmt)]
+#[cycle(tc_stmt)]
 fn choices(
     image: &[u8],
     here: Cursor,
@@ -440,7 +440,7 @@ fn choices(
 }
 
 // A branch, of `left` nodes of an If: its condition, if it has one, and its Block, whose errors plain drops.
-#[cycle(block_choices_define_each_one_arm_repeat_tc_stmt)]
+#[cycle(tc_stmt)]
 fn one_arm(
     image: &[u8],
     here: Cursor,
@@ -477,7 +477,7 @@ fn one_arm(
 }
 
 // A Def: its body on a frame more, which a failure leaves.
-#[cycle(block_choices_define_each_one_arm_repeat_tc_stmt)]
+#[cycle(tc_stmt)]
 fn define(
     image: &[u8],
     here: Cursor,
@@ -520,7 +520,7 @@ fn define(
 
 // A For: its body on a copy of the frames, of which nothing stays; its errors are returned. The loop name is known
 // since the iterable.
-#[cycle(block_choices_define_each_one_arm_repeat_tc_stmt)]
+#[cycle(tc_stmt)]
 fn each(
     image: &[u8],
     here: Cursor,
@@ -561,7 +561,7 @@ fn each(
 }
 
 // A While: its body on a copy of the frames, of which nothing stays; plain drops its errors.
-#[cycle(block_choices_define_each_one_arm_repeat_tc_stmt)]
+#[cycle(tc_stmt)]
 fn repeat(
     image: &[u8],
     here: Cursor,

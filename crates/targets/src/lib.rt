@@ -136,7 +136,7 @@ fn single(
 }
 
 // Assigns a value of type `ty` to the target at the cursor.
-#[cycle(assign_each_tc_assign_target)]
+#[cycle(tc_assign_target)]
 pub fn tc_assign_target(
     image: &[u8],
     here: Cursor,
@@ -179,7 +179,7 @@ pub fn tc_assign_target(
 
 // "Tuple targets bind left to right, and those bound before an error stay bound": the n targets of the Tuple at the
 // cursor.
-#[cycle(assign_each_tc_assign_target)]
+#[cycle(tc_assign_target)]
 fn assign_each(
     image: &[u8],
     here: Cursor,

@@ -50,4 +50,4 @@ returns-in_default c =
 
 pub returns-in_default-2 : goal.returns-in_default-2
 returns-in_default-2 c =
-    plan_other _ _ _ c.name_at-name.ensures (let n = (omega arith) in omega arith)
+    plan_other _ _ _ c.name_at-name.ensures (omega arith)
