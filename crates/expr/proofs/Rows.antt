@@ -77,21 +77,21 @@ module _ {bs : List ℕ} (s : Sound bs) where
   -- what is left behind m of them
   pub row_drop : {i d : ℕ} (n m : ℕ) → m ≤ n → Row bs i n d → Row bs (past (nodes_of bs) m i) (n - m) d
   unfolding past
-  row_drop n zero h r = let e : n - 0 ≡ n = omega arith in rw e r
-  row_drop zero (suc m) h r = absurd (omega arith)
-  row_drop (suc n) (suc m) h r = let e : suc n - suc m ≡ n - m = omega arith in rw e (row_drop n m (omega arith) (next_suc r))
+  row_drop {i = i} {d = d} n zero h r = let e : n - 0 ≡ n = omega arith in rw e r
+  row_drop {i = i} {d = d} zero (suc m) h r = absurd (omega arith)
+  row_drop {i = i} {d = d} (suc n) (suc m) h r = let e : suc n - suc m ≡ n - m = omega arith in rw e (row_drop {i = stop_of (nodes_of bs) i} {d = d} n m (omega arith) (next_suc r))
 
   -- each node takes a place at least
   pub row_long : {i d : ℕ} (n : ℕ) → Row bs i n d → i + n ≤ past (nodes_of bs) n i
   unfolding past
-  row_long zero r = omega arith
-  row_long (suc n) r = omega (arith, row_long n (next_suc r), ends_after (here r))
+  row_long {i = i} {d = d} zero r = omega arith
+  row_long {i = i} {d = d} (suc n) r = omega (arith, row_long {i = stop_of (nodes_of bs) i} {d = d} n (next_suc r), ends_after (here r))
 
   pub past_past : (i n m : ℕ) → m ≤ n → past (nodes_of bs) (n - m) (past (nodes_of bs) m i) ≡ past (nodes_of bs) n i
   unfolding past
   past_past i n zero h = let e : n - 0 ≡ n = omega arith in rw e
   past_past i zero (suc m) h = absurd (omega arith)
-  past_past i (suc n) (suc m) h = let e : suc n - suc m ≡ n - m = omega arith in rw e (past_past _ n m (omega arith))
+  past_past i (suc n) (suc m) h = let e : suc n - suc m ≡ n - m = omega arith in rw e (past_past (stop_of (nodes_of bs) i) n m (omega arith))
 
   -- ---- a node's children
 

@@ -23,7 +23,7 @@ bounds-lens-i c =
 
 pub loop-i-preserved : goal.loop-i-preserved
 loop-i-preserved c =
-    (omega (arith, c.loop-i-test.true), sized_more c.loop-i.invariant.1 (omega (arith, c.requires.types_in_bounds, c.loop-i-test.true, c.loop-i.invariant.2)) c.type_size.ensures, simp length-set c.loop-i.invariant.2)
+    (omega (arith, c.loop-i-test.true), sized_more c.loop-i.invariant.1 (omega (arith, c.requires.types_in_bounds, c.loop-i-test.true, c.loop-i.invariant.2)) c.size_of.ensures, simp length-set c.loop-i.invariant.2)
 
 pub returns : goal.returns
 returns c =
