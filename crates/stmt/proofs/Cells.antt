@@ -149,11 +149,10 @@ pub end_shallow : {e : Answer} (ms : List ℕ) → e ≡ answer.Done → end_cod
 end_shallow ms o z = let w : ◌≡◌ {A = ℕ} 0 9 = rw o at z in absurd (omega arith)
 
 -- it was one of the other two
-pub end_other : (e : Answer) {ms : List ℕ} → Tells ms (e ≡ answer.Wrong) → (tag_of the_type e ≡ 1) ⊎ (tag_of the_type e ≡ 2) → end_code e ms ≡ 0 → ⊥
-end_other answer.Done k (inl p) z = absurd (omega arith)
-end_other answer.Done k (inr p) z = absurd (omega arith)
-end_other answer.Wrong k p z = k.coded refl z
-end_other answer.TooDeep k p z = absurd (omega arith)
+pub end_other : (e : Answer) {ms : List ℕ} → Tells ms (e ≡ answer.Wrong) → (e ≡ answer.Done → ⊥) → end_code e ms ≡ 0 → ⊥
+end_other answer.Done k n z = n refl
+end_other answer.Wrong k n z = k.coded refl z
+end_other answer.TooDeep k n z = absurd (omega arith)
 
 -- where the code is handed out
 handed : (e : Answer) (ms : List ℕ) → ended_as e (code_in ms) ≡ end_code e ms
