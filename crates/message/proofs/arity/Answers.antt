@@ -21,4 +21,4 @@ returns-in-3 c =
 
 pub returns-in_default : goal.returns-in_default
 returns-in_default c =
-    arity_none _ _ c.record_of-r.ensures (λ e. (omega arith) (inl e)) (omega arith) (omega arith) (λ e. (omega arith) (inr e))
+    arity_none _ _ c.record_of-r.ensures (λ e. c.in_default.in_default-own.rest.0.0.1 (inl e)) (omega arith) (omega arith) (λ e. c.in_default.in_default-own.rest.0.0.1 (inr e))

@@ -1,10 +1,10 @@
 use mathlib.Core.Path.{refl}
-use mathlib.Core.Logic.{⊎_elim}
 use native.Mathlib.Omega.{arith}
 use Rattle.meaning.specs.Base.{◌or◌, is_in, if◌then◌else◌}
 use Rattle.rules.specs.Outcome.{types_named}
 use Rattle.message.proofs.Telling.{chosen, form_as, first_below, both_below, one_given, two_given, given_two, given_none, says_nothing, says_number}
-use Rattle.message.proofs.Codes.{two_among, two_operands, one_among, one_operand, one_later, none_statement, none_condition, none_high, says_one, says_two, says_none, says_23, says_26, says_37, says_38}
+use Rattle.message.proofs.Codes.{Names, two_among, two_operands, one_among, one_operand, one_later, none_statement, none_condition, none_high, says_one, says_two, says_none, says_23, says_26, says_37, says_38}
+use Rattle.message.proofs.pieces_of.Goals.{in-24-1, in_default+else-code-lt29+else-code-lt34+then-code-lt36, in_default+else-code-lt29+else-code-lt34+else-code-lt36+else-code-lt37+then-code-lt51, in-22-1, in_default+else-code-lt29+then-code-lt34, in_default-via-then-code-lt29, in_default-via-else-code-lt29+else-code-lt34+else-code-lt36+then-code-lt37, in_default-via-else-code-lt29+else-code-lt34+else-code-lt36+else-code-lt37+else-code-lt51}
 use Rattle.message.proofs.pieces_of.Goals as goal
 
 pub named-requires-clause-headed : goal.named-requires-clause-headed
@@ -52,11 +52,20 @@ passed-requires-clause-b_bound c =
 
 pub one_type-requires : goal.one_type-requires
 one_type-requires c =
-    first_below c.requires.tells (⊎_elim (λ w. one_among w.keys5) (⊎_elim (λ w. one_operand w.2.left w.3.taken) (λ w. one_later w.4.left w.5.taken w.0.rest.0.0.0.1 w.0.rest.0.0.1 w.0.rest.1)) c.in-24-1.branch).types
+    let n : Names 1 c.args.code = elim c.in-24-1.branch [
+      | in-24-1 w ↦ one_among w.in-24-1.keys5
+      | in_default+else-code-lt29+else-code-lt34+then-code-lt36 w ↦ one_operand (omega arith) (omega arith)
+      | in_default+else-code-lt29+else-code-lt34+else-code-lt36+else-code-lt37+then-code-lt51 w ↦ one_later (omega arith) (omega arith) (omega arith) (omega arith) (omega arith)
+    ] in
+    first_below c.requires.tells n.types
 
 pub two_types-requires : goal.two_types-requires
 two_types-requires c =
-    both_below c.requires.tells (⊎_elim (λ w. two_among w.keys6) (λ w. two_operands w.1.left w.2.taken) c.in-22-1.branch).types
+    let n : Names 2 c.args.code = elim c.in-22-1.branch [
+      | in-22-1 w ↦ two_among w.in-22-1.keys6
+      | in_default+else-code-lt29+then-code-lt34 w ↦ two_operands (omega arith) (omega arith)
+    ] in
+    both_below c.requires.tells n.types
 
 pub returns-in-23 : goal.returns-in-23
 returns-in-23 c =
@@ -76,12 +85,26 @@ returns-in-38 c =
 
 pub returns-in_default : goal.returns-in_default
 returns-in_default c =
-    chosen (says_none _ _ _ _ (⊎_elim (λ w. none_statement w.taken (omega arith) (omega arith) (omega arith) (omega arith)) (⊎_elim (λ w. none_condition w.2.left w.3.taken) (λ w. none_high w.4.left)) c.in_default.branch) (omega arith) (omega arith) (omega arith) (omega arith)) ((given_none c.nothing.ensures (says_nothing _) (says_nothing _) (says_nothing _) refl).all _)
+    let n : Names 0 c.args.code = elim c.in_default.branch [
+      | in_default-via-then-code-lt29 w ↦ none_statement (omega arith) (omega arith) (omega arith) (omega arith) (omega arith)
+      | in_default-via-else-code-lt29+else-code-lt34+else-code-lt36+then-code-lt37 w ↦ none_condition (omega arith) (omega arith)
+      | in_default-via-else-code-lt29+else-code-lt34+else-code-lt36+else-code-lt37+else-code-lt51 w ↦ none_high (omega arith)
+    ] in
+    chosen (says_none _ _ _ _ n (omega arith) (omega arith) (omega arith) (omega arith)) ((given_none c.nothing.ensures (says_nothing _) (says_nothing _) (says_nothing _) refl).all _)
 
 pub returns-in-24 : goal.returns-in-24
 returns-in-24 c =
-    chosen (says_one _ _ _ _ (⊎_elim (λ w. one_among w.keys5) (⊎_elim (λ w. one_operand w.2.left w.3.taken) (λ w. one_later w.4.left w.5.taken w.0.rest.0.0.0.1 w.0.rest.0.0.1 w.0.rest.1)) c.in-24-1.branch)) (one_given c.requires.tells _ (⊎_elim (λ w. one_among w.keys5) (⊎_elim (λ w. one_operand w.2.left w.3.taken) (λ w. one_later w.4.left w.5.taken w.0.rest.0.0.0.1 w.0.rest.0.0.1 w.0.rest.1)) c.in-24-1.branch).types c.one_type.ensures)
+    let n : Names 1 c.args.code = elim c.in-24-1.branch [
+      | in-24-1 w ↦ one_among w.in-24-1.keys5
+      | in_default+else-code-lt29+else-code-lt34+then-code-lt36 w ↦ one_operand (omega arith) (omega arith)
+      | in_default+else-code-lt29+else-code-lt34+else-code-lt36+else-code-lt37+then-code-lt51 w ↦ one_later (omega arith) (omega arith) (omega arith) (omega arith) (omega arith)
+    ] in
+    chosen (says_one _ _ _ _ n) (one_given c.requires.tells _ n.types c.one_type.ensures)
 
 pub returns-in-22 : goal.returns-in-22
 returns-in-22 c =
-    chosen (says_two _ _ _ _ (⊎_elim (λ w. two_among w.keys6) (λ w. two_operands w.1.left w.2.taken) c.in-22-1.branch)) (two_given c.requires.tells _ (⊎_elim (λ w. two_among w.keys6) (λ w. two_operands w.1.left w.2.taken) c.in-22-1.branch).types c.two_types.ensures)
+    let n : Names 2 c.args.code = elim c.in-22-1.branch [
+      | in-22-1 w ↦ two_among w.in-22-1.keys6
+      | in_default+else-code-lt29+then-code-lt34 w ↦ two_operands (omega arith) (omega arith)
+    ] in
+    chosen (says_two _ _ _ _ n) (two_given c.requires.tells _ n.types c.two_types.ensures)

@@ -19,5 +19,7 @@ deliver-requires-clause-format_value c =
     rw (format_read _ c.args.code (c.put_format-len.ensures.out_after, c.put_format-len.ensures.value) c.text.ensures) c.requires.code_value
 
 pub returns : goal.returns
-returns c =
-    rw (format_read _ c.args.code (c.put_format-len.ensures.out_after, c.put_format-len.ensures.value) c.text.ensures) at (c.deliver.ensures.value, c.deliver.ensures.out_after)
+returns c = record {
+  value = rw (format_read _ c.args.code (c.put_format-len.ensures.out_after, c.put_format-len.ensures.value) c.text.ensures) at c.deliver.ensures.value;
+  out_after = rw (format_read _ c.args.code (c.put_format-len.ensures.out_after, c.put_format-len.ensures.value) c.text.ensures) at c.deliver.ensures.out_after;
+}

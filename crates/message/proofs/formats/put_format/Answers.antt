@@ -471,9 +471,9 @@ returns-in-50-clause-value c =
 pub returns-in_default-clause-out_after : goal.returns-in_default-clause-out_after
 unfolding Avoids
 returns-in_default-clause-out_after c =
-    (format_none _ c.args.code c.in_default.in_default-own.rest).0
+    (format_none c.args.out.now c.args.code c.in_default.in_default-own.rest).0
 
 pub returns-in_default-clause-value : goal.returns-in_default-clause-value
 unfolding Avoids
 returns-in_default-clause-value c =
-    (format_none _ c.args.code c.in_default.in_default-own.rest).1
+    (format_none c.args.out.now c.args.code c.in_default.in_default-own.rest).1
