@@ -4,8 +4,6 @@ use mathlib.Core.Bool.{true, false, false≢true}
 use mathlib.Core.List.{List, [], ◌∷◌}
 use Prim.Native.Nat.{ℕ, ◌≤◌}
 use native.Mathlib.Omega.{arith}
-use types.Run.{OneOf}
-use denote.Enum.Declared.{tag_of}
 use lib.ListN.{length, take}
 use Rattle.meaning.specs.Base.{◌and◌, all, same_text}
 use Rattle.meaning.specs.Answer.{Answer as Meant, answer}
@@ -17,23 +15,17 @@ use Rattle.meaning.proofs.Answers.{answered as bounds}
 use Rattle.checker.specs.Answers.{Numbers, sheet_numbers, numbers_of, Stands, Replies, Answers}
 use Rattle.checker.specs.declared.Answer.{Answer}
 use Rattle.checker.specs.declared.Answer.TheVariants.{Accepted, BadHead, BadCount, BadOffset, BadName, UnsafeName, BadNode, BadNesting, TooDeep, NinthFrame, ShortBuffer, NoSetting, Retired, Typing}
-use Rattle.checker.specs.contracts.Answer.{the_type}
-use Rattle.image.proofs.Answers.{not_zero}
 use Rattle.load.specs.Rule.{kind_of, numbers_told, Decides, Decided}
 use Rattle.load.specs.declared.Loading.{Loading}
 use Rattle.load.specs.declared.Loading.TheVariants.{Loads, Look, Refused}
 
--- the cases of an answer but the first, by their places in the enum
-abbrev behind : List ℕ
-behind = 2 ∷ 3 ∷ 4 ∷ 5 ∷ 6 ∷ 7 ∷ 8 ∷ 9 ∷ 10 ∷ 11 ∷ 12 ∷ 13 ∷ []
+-- an answer other than Accepted
+abbrev Refuses : Answer → Type 0
+Refuses q = (n : ℕ) → q ≡ Accepted n → ⊥
 
-abbrev others : List ℕ
-others = 1 ∷ behind
-
--- each has another code than 0
-pub refuses : (q : Answer) → OneOf others (tag_of the_type q) → Stands q → (numbers_of q).code ≡ 0 → ⊥
-unfolding all ◌and◌
-refuses (Accepted n) h s e = not_zero 1 behind refl h
+-- has another code than 0
+pub refuses : (q : Answer) → Refuses q → Stands q → (numbers_of q).code ≡ 0 → ⊥
+refuses (Accepted n) h s e = h n refl
 refuses BadHead h s e = omega (arith, e)
 refuses BadCount h s e = omega (arith, e)
 refuses BadOffset h s e = omega (arith, e)
@@ -67,7 +59,7 @@ pub sheet_there : {a : Meant} {n : Numbers} {s s₁ m m₁ : List ℕ} → Repli
 sheet_there {a} {s = s} x = rw (ap (λ (k : Numbers). k.sheet) x.numbers, x.sheet) (overlaid_front a.sheet s)
 
 module _ {a : Meant} (approved : List ℕ) {q : Answer} {s s₁ m m₁ : List ℕ} (x : Answers a q s s₁ m m₁) where
-  pub refused_told : OneOf others (tag_of the_type q) → Decided a approved (Refused q) s s₁ m m₁
+  pub refused_told : Refuses q → Decided a approved (Refused q) s s₁ m m₁
   refused_told h =
       let code = ap (λ (k : Numbers). k.code) x.replies.numbers in
       record {
