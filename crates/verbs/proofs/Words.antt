@@ -164,29 +164,25 @@ pub plain_setting : {b : Bool} → b ≡ false → 0 ≡ setting_if b
 unfolding setting_if if◌then◌else◌
 plain_setting e = rw e
 
--- none of three
-not_one_of : {x : ℕ} (k l m : ℕ) → OneOf (k ∷ l ∷ m ∷ []) x → (x ≡ k → ⊥) → (x ≡ l → ⊥) → (x ≡ m → ⊥) → ⊥
-not_one_of k l m h p q r = ⊎_elim p (λ t. ⊎_elim q r t) h
-
-none_else : (c : Command) (f : Files) → OneOf (1 ∷ 2 ∷ 3 ∷ []) (tag_of the_type f) → BadWords ≡ no_file c f
+none_else : (c : Command) (f : Files) → (f ≡ None → ⊥) → BadWords ≡ no_file c f
 unfolding no_file
-none_else c None h = absurd (not_one_of 1 2 3 h (λ e. omega (arith, e)) (λ e. omega (arith, e)) (λ e. omega (arith, e)))
+none_else c None h = absurd (h refl)
 none_else c (One i) h = refl
 none_else c (Two i j) h = refl
 none_else c Wrong h = refl
 
-one_else : (c : ℕ → Command) (f : Files) → OneOf (0 ∷ 2 ∷ 3 ∷ []) (tag_of the_type f) → BadWords ≡ one_file c f
+one_else : (c : ℕ → Command) (f : Files) → ((i : ℕ) → f ≡ One i → ⊥) → BadWords ≡ one_file c f
 unfolding one_file
 one_else c None h = refl
-one_else c (One i) h = absurd (not_one_of 0 2 3 h (λ e. omega (arith, e)) (λ e. omega (arith, e)) (λ e. omega (arith, e)))
+one_else c (One i) h = absurd (h i refl)
 one_else c (Two i j) h = refl
 one_else c Wrong h = refl
 
-two_else : (c : ℕ → ℕ → Command) (f : Files) → OneOf (0 ∷ 1 ∷ 3 ∷ []) (tag_of the_type f) → BadWords ≡ two_files c f
+two_else : (c : ℕ → ℕ → Command) (f : Files) → ((i j : ℕ) → f ≡ Two i j → ⊥) → BadWords ≡ two_files c f
 unfolding two_files
 two_else c None h = refl
 two_else c (One i) h = refl
-two_else c (Two i j) h = absurd (not_one_of 0 1 3 h (λ e. omega (arith, e)) (λ e. omega (arith, e)) (λ e. omega (arith, e)))
+two_else c (Two i j) h = absurd (h i j refl)
 two_else c Wrong h = refl
 
 module _ {v : Verb} (w : Asked) {s : ℕ} (t : s ≡ setting_if w.strict) where
@@ -203,15 +199,15 @@ module _ {v : Verb} (w : Asked) {s : ℕ} (t : s ≡ setting_if w.strict) where
   asks_load p q = rw (p, q, t)
 
 module _ {v : Verb} (w : Asked) where
-  pub no_check : v ≡ Check → OneOf (0 ∷ 2 ∷ 3 ∷ []) (tag_of the_type w.files) → BadWords ≡ verb_asked v w
+  pub no_check : v ≡ Check → ((i : ℕ) → w.files ≡ One i → ⊥) → BadWords ≡ verb_asked v w
   unfolding verb_asked
   no_check p h = rw p (one_else _ w.files h)
 
-  pub no_sheet : v ≡ Sheet → OneOf (0 ∷ 2 ∷ 3 ∷ []) (tag_of the_type w.files) → BadWords ≡ verb_asked v w
+  pub no_sheet : v ≡ Sheet → ((i : ℕ) → w.files ≡ One i → ⊥) → BadWords ≡ verb_asked v w
   unfolding verb_asked
   no_sheet p h = rw p (one_else _ w.files h)
 
-  pub no_load : v ≡ Load → OneOf (0 ∷ 1 ∷ 3 ∷ []) (tag_of the_type w.files) → BadWords ≡ verb_asked v w
+  pub no_load : v ≡ Load → ((i j : ℕ) → w.files ≡ Two i j → ⊥) → BadWords ≡ verb_asked v w
   unfolding verb_asked
   no_load p h = rw p (two_else _ w.files h)
 
@@ -240,7 +236,7 @@ module _ {v : Verb} (w : Asked) where
     unfolding verb_asked one_file if◌then◌else◌
     asks_show p q = rw (p, b, q)
 
-    pub no_show : v ≡ Show → OneOf (0 ∷ 2 ∷ 3 ∷ []) (tag_of the_type w.files) → BadWords ≡ verb_asked v w
+    pub no_show : v ≡ Show → ((i : ℕ) → w.files ≡ One i → ⊥) → BadWords ≡ verb_asked v w
     unfolding verb_asked if◌then◌else◌
     no_show p h = rw (p, b) (one_else _ w.files h)
 
@@ -248,7 +244,7 @@ module _ {v : Verb} (w : Asked) where
     unfolding verb_asked two_files if◌then◌else◌
     asks_changes p q = rw (p, b, q)
 
-    pub no_changes : v ≡ Changes → OneOf (0 ∷ 1 ∷ 3 ∷ []) (tag_of the_type w.files) → BadWords ≡ verb_asked v w
+    pub no_changes : v ≡ Changes → ((i j : ℕ) → w.files ≡ Two i j → ⊥) → BadWords ≡ verb_asked v w
     unfolding verb_asked if◌then◌else◌
     no_changes p h = rw (p, b) (two_else _ w.files h)
 
@@ -256,7 +252,7 @@ module _ {v : Verb} (w : Asked) where
     unfolding verb_asked one_file if◌then◌else◌
     asks_convert p q = rw (p, b, q)
 
-    pub no_convert : v ≡ Convert → OneOf (0 ∷ 2 ∷ 3 ∷ []) (tag_of the_type w.files) → BadWords ≡ verb_asked v w
+    pub no_convert : v ≡ Convert → ((i : ℕ) → w.files ≡ One i → ⊥) → BadWords ≡ verb_asked v w
     unfolding verb_asked if◌then◌else◌
     no_convert p h = rw (p, b) (one_else _ w.files h)
 
@@ -264,7 +260,7 @@ module _ {v : Verb} (w : Asked) where
     unfolding verb_asked no_file if◌then◌else◌
     asks_help p q = rw (p, b, q)
 
-    pub no_help : v ≡ Help → OneOf (1 ∷ 2 ∷ 3 ∷ []) (tag_of the_type w.files) → BadWords ≡ verb_asked v w
+    pub no_help : v ≡ Help → (w.files ≡ None → ⊥) → BadWords ≡ verb_asked v w
     unfolding verb_asked if◌then◌else◌
     no_help p h = rw (p, b) (none_else _ w.files h)
 
@@ -275,7 +271,7 @@ module _ {v : Verb} (w : Asked) where
   unfolding known_asked one_file
   asks_known t p q = rw (p, q, t)
 
-  pub no_known : v ≡ Check → OneOf (0 ∷ 2 ∷ 3 ∷ []) (tag_of the_type w.files) → BadWords ≡ known_asked v w
+  pub no_known : v ≡ Check → ((i : ℕ) → w.files ≡ One i → ⊥) → BadWords ≡ known_asked v w
   unfolding known_asked
   no_known p h = rw p (one_else _ w.files h)
 
@@ -292,28 +288,17 @@ module _ (v : Verb) (w : Asked) where
   unfolding command_of if◌then◌else◌
   without k = rw k
 
--- the other verbs do not take it: Sheet is 1, and Help 6
-others : {n : ℕ} → OneOf (1 ∷ 2 ∷ 3 ∷ 4 ∷ 5 ∷ 6 ∷ []) n → (1 ≤ n) × (n ≤ 6)
-others {n} h =
-    ⊎_elim (λ e. is 1 e (omega arith) (omega arith))
-    (λ i. ⊎_elim (λ e. is 2 e (omega arith) (omega arith))
-    (λ j. ⊎_elim (λ e. is 3 e (omega arith) (omega arith))
-    (λ k. ⊎_elim (λ e. is 4 e (omega arith) (omega arith))
-    (λ l. ⊎_elim (λ e. is 5 e (omega arith) (omega arith)) (λ e. is 6 e (omega arith) (omega arith)) l) k) j) i) h
-  where
-    is : (k : ℕ) → n ≡ k → 1 ≤ k → k ≤ 6 → (1 ≤ n) × (n ≤ 6)
-    is k e l u = (omega (arith, e, l), omega (arith, e, u))
-
-pub known_other : (v : Verb) (w : Asked) → OneOf (1 ∷ 2 ∷ 3 ∷ 4 ∷ 5 ∷ 6 ∷ []) (tag_of verb-type v) → BadWords ≡ known_asked v w
+-- the other verbs do not take it
+pub known_other : (v : Verb) (w : Asked) → (v ≡ Check → ⊥) → (v ≡ Nothing → ⊥) → BadWords ≡ known_asked v w
 unfolding known_asked
-known_other Check w h = absurd (omega (arith, (others h).0))
-known_other Sheet w h = refl
-known_other Show w h = refl
-known_other Changes w h = refl
-known_other Load w h = refl
-known_other Convert w h = refl
-known_other Help w h = refl
-known_other Nothing w h = absurd (omega (arith, (others h).1))
+known_other Check w p q = absurd (p refl)
+known_other Sheet w p q = refl
+known_other Show w p q = refl
+known_other Changes w p q = refl
+known_other Load w p q = refl
+known_other Convert w p q = refl
+known_other Help w p q = refl
+known_other Nothing w p q = absurd (q refl)
 
 -- ---- the first five words settle it: a verb and four behind it, of which one at least is too many
 
