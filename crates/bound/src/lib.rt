@@ -1,6 +1,7 @@
 // What a module may bind (document 02), by form alone, whatever the walk does there: one pass over the nodes, with no
 // recursion over the tree.
 #![tactic(auto)]
+
 ghost use Rattle.std.specs.Prelude.{◌≡◌, ◌<◌, ◌≤◌};
 ghost use Rattle.meaning.specs.Image.{node_count, nodes_from, nodes_of};
 ghost use Rattle.meaning.specs.Bound.{may_bind};

@@ -1,5 +1,6 @@
 // Calls of names: what T's tc_expr makes of a call before it looks at an argument.
 #![tactic(auto)]
+
 ghost use Rattle.std.specs.Prelude.{◌<◌};
 ghost use Rattle.meaning.specs.Image.{name_count, names_of};
 ghost use Rattle.meaning.proofs.Faults.{Sound};

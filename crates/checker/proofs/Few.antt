@@ -1,20 +1,20 @@
 -- "At most one new type is formed per node, so no more than 8 plus M distinct types ever exist", of the walk that `check` makes. A type
 -- gets its number in the walk's table when it is formed, and the table forgets nothing; so the bound holds at the end and before it, in
 -- bodies whose errors are dropped, and where a ninth frame ends the walk. (False of a walk that forms a List for each of its elements.)
-use mathlib.Core.Path.{◌≡◌, refl, sym, ap, ◌∙◌}
+use mathlib.Core.Path.{◌≡◌, sym, ap, ◌∙◌}
 use mathlib.Core.Logic.{⊎_elim}
-use mathlib.Core.Option.{Option, none, some, none-ne-some, some-injective}
+use mathlib.Core.Option.{some, none-ne-some, some-injective}
 use mathlib.Core.List.Memᴰ
 use mathlib.Core.List.{List, [], ◌∷◌, map, Memᴰ}
-use Prim.Native.Nat.{ℕ, zero, suc, ◌+◌, ◌≤◌, ◌<◌}
+use Prim.Native.Nat.{ℕ, zero, suc, ◌+◌, ◌≤◌}
 use native.Mathlib.Omega.{arith}
 use native.Mathlib.Decide.{ℕ_discrete}
 use lib.ListN.{length, get_or, length-map}
 use Rattle.meaning.specs.Base.{count}
 use Rattle.meaning.specs.Types.{Ty}
 use Rattle.meaning.specs.Image.{node_count, names_of}
-use Rattle.meaning.specs.Frames.{Binding, binding, Frame, Frames}
-use Rattle.meaning.specs.Walk.{Setting, End}
+use Rattle.meaning.specs.Frames.{Binding, binding, Frame}
+use Rattle.meaning.specs.Walk.{Setting}
 use Rattle.meaning.specs.Answer.{walked}
 use Rattle.meaning.proofs.Choices.{count_long}
 use Rattle.types.specs.Table.{Tab, Grown, denote}

@@ -4,7 +4,7 @@ use mathlib.Core.List.{List}
 use Prim.Native.Nat.{ℕ, ◌+◌}
 use native.Mathlib.Omega.{arith}
 use lib.ListN.{length, replicate, length-replicate}
-use Rattle.meaning.specs.Limits.{most_frames, most_nodes, most_names}
+use Rattle.meaning.specs.Limits.{most_frames, most_nodes}
 use Rattle.types.specs.Table.{tab, capacity, Fresh, Wf}
 use Rattle.types.proofs.Room.{capacity_as}
 use Rattle.stmt.specs.Contract.{Started}

@@ -11,7 +11,7 @@ use native.Mathlib.Decide.{dec_lt, ℕ_discrete}
 use borrow.Author.Tests.{le-leb}
 use lib.ListN.{length, get_or, length-map}
 use Rattle.meaning.specs.Limits.{most_names, most_types, most_elements}
-use Rattle.meaning.specs.Base.{count, ◌and◌}
+use Rattle.meaning.specs.Base.{count}
 use Rattle.meaning.specs.Types.{Ty, unknown, kind, parts, part}
 use Rattle.meaning.specs.Image.{names_of, nodes_of}
 use Rattle.meaning.specs.Bound.{may_bind}

@@ -7,7 +7,7 @@ use Prim.Native.Nat.{ℕ, suc, ◌+◌, ◌≤◌, ◌<◌}
 use native.Mathlib.Omega.{arith}
 use lib.ListN.{length}
 use Rattle.meaning.specs.Base.{if◌then◌else◌, if_some}
-use Rattle.meaning.specs.Image.{Fault, NameRecord, name_records, names_of, nodes_of, name_count, node_count, texts_of, wrong_name, first_not, first_found, unless, head_stands, counts_stand, offsets_stand, image_fault, head_fault, body_fault, broken_name, unsafe_name, broken_node, badly_nested, too_deep_node, first_tree_set}
+use Rattle.meaning.specs.Image.{Fault, NameRecord, name_records, names_of, nodes_of, wrong_name, first_not, first_found, unless, head_stands, counts_stand, offsets_stand, image_fault, head_fault, body_fault, broken_name, unsafe_name, broken_node, badly_nested, too_deep_node, first_tree_set}
 use Rattle.meaning.proofs.Faults.{Headed, sizes, fault_1, fault_2, fault_3}
 use Rattle.meaning.proofs.Nesting.{nodes_many}
 use Rattle.meaning.proofs.Nesting.{records_count, names_many}

@@ -7,7 +7,7 @@ use lib.ListN.{length}
 use Rattle.meaning.specs.Base.{if◌then◌else◌, if_some, choose}
 use Rattle.meaning.specs.Sheet.{sheet_of}
 use Rattle.meaning.specs.Read.{entries_in, read_sheet}
-use Rattle.meaning.specs.Answer.{Answer as Meant, written, write_answer, read_answer, overlaid}
+use Rattle.meaning.specs.Answer.{Answer as Meant, written, write_answer, read_answer}
 use Rattle.meaning.proofs.Answers.{overlaid_none}
 use Rattle.types.specs.Table.{Tab}
 use Rattle.sheet.specs.Listing.{listed}

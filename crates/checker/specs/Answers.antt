@@ -6,7 +6,6 @@ use Rattle.meaning.specs.Read.{is_sheet, read_sheet}
 use Rattle.meaning.specs.Answer.{overlaid, bare, write_answer, walk_answer, answer_under}
 use Rattle.meaning.specs.Answer.{Answer as Meant}
 use Rattle.stmt.specs.Contract.{setting_if}
-use Rattle.checker.specs.declared.Refusal.{Refusal}
 use Rattle.checker.specs.declared.Reply.{Reply}
 use Rattle.checker.specs.declared.Reading.{Reading}
 use Rattle.checker.specs.declared.Reading.TheVariants.{Sheet, NoSheet}

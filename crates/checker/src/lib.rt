@@ -1,6 +1,7 @@
 // The public face: an image checked, a sheet read, a sheet written again. Nothing is asked of the caller, and each
 // answer is one of an enum whose numbers `specs/Answers.antt` gives.
 #![tactic(auto)]
+
 ghost use Rattle.std.specs.Prelude.{◌≡◌, length};
 ghost use Rattle.meaning.specs.Limits.{most_nodes};
 ghost use Rattle.meaning.specs.Image.{node_count, nodes_from, nodes_of};

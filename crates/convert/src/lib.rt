@@ -2,6 +2,7 @@
 // that what was stored before TreeSets were retired is judged as it was. It judges the image and types nothing. Nothing
 // is asked of the caller.
 #![tactic(auto)]
+
 ghost use Rattle.std.specs.Prelude.{◌≡◌, ◌≤◌, length};
 ghost use Rattle.meaning.specs.Answer.{overlaid};
 ghost use Rattle.meaning.specs.Convert.{converted, convert_answer};

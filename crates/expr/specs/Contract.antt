@@ -1,5 +1,5 @@
 -- What checking an expression asks, and what it leaves.
-use Rattle.std.specs.Prelude.{◌≡◌, Bool, true, false, List, [], ◌++◌, map, ℕ, suc, ◌+◌, ◌-◌, ◌≤◌, ◌<◌, length, get_or, take, drop}
+use Rattle.std.specs.Prelude.{◌≡◌, Bool, true, false, List, [], ◌++◌, map, ℕ, suc, ◌+◌, ◌≤◌, ◌<◌, length, get_or, take, drop}
 use Rattle.meaning.specs.Limits.{most_nodes, deepest}
 use Rattle.meaning.specs.Types.{Ty, unknown, map_iter, filter_iter}
 use Rattle.meaning.specs.Image.{Name, node_count, nodes_from, nodes_of, node_of, names_of, depth}

@@ -2,6 +2,7 @@
 // are checked, is decided outside the cycle, in `nodes` and `rules`. Remaining depth falls at each call; where a rule
 // wants the types of many children, these wait on the stack.
 #![tactic(auto)]
+
 ghost use Rattle.std.specs.Prelude.{◌≡◌, ◌<◌};
 ghost use Rattle.meaning.specs.Types.{plain};
 ghost use Rattle.meaning.specs.Rules.{each_then, first_then, input_rule, len_rule, range_rule};

@@ -3,22 +3,18 @@ use mathlib.Core.Path.{◌≡◌, refl, sym, ap, ◌∙◌, subst}
 use mathlib.Core.List.{List, [], ◌∷◌, map, tail}
 use mathlib.Core.Bool.{Bool, true, false}
 use mathlib.Core.Option.{Option, none, some, none-ne-some}
-use mathlib.Core.Logic.{◌≢◌}
 use Prim.Native.Nat.{ℕ, zero, suc, ◌+◌, ◌-◌, ◌*◌, ◌≤◌, ◌<◌}
 use native.Mathlib.Omega.{arith}
 use native.Mathlib.Decide.{dec_lt, ℕ_discrete}
 use native.Mathlib.Numerals.{sub-one, add-one}
-use lib.Dec.{eqb, ltb}
-use lib.ListN.{length, get_or, set, replicate, length-set, length-map, length-replicate, get_or-replicate, get_or-map, get_or-eq_default}
+use lib.Dec.{eqb}
+use lib.ListN.{length, get_or, set, replicate, length-set, length-replicate, get_or-replicate, get_or-map, get_or-eq_default}
 use lib.Seq.{get_or-set_same, get_or-set_other}
-use borrow.Author.Tests.{lt-ltb, le-ltb, eq-eqb, ne_eqb, eqb-true, eqb-false}
-use Rattle.meaning.specs.Types.{Ty, unknown, same}
-use Rattle.meaning.proofs.Choices.{same_yes, same_no}
+use borrow.Author.Tests.{eq-eqb, ne_eqb}
 use Rattle.types.specs.Table.{Tab, denote, Wf, Means, Grown}
 use Rattle.types.proofs.Laws.{unknown_number, same_unknown}
-use Rattle.meaning.specs.Limits.{most_names}
-use Rattle.meaning.specs.Base.{◌and◌, ◌or◌, if◌then◌else◌, if_some, or_else, all, count}
-use Rattle.meaning.specs.Frames.{Binding, binding, blank, since, Frame, Frames, newest, slot_in, find, lookup, write, empty}
+use Rattle.meaning.specs.Base.{if◌then◌else◌, if_some, or_else}
+use Rattle.meaning.specs.Frames.{Binding, binding, blank, since, newest, slot_in, find, lookup, write, empty}
 use Rattle.frames.specs.Env.{Rows, cell_room, type_in, node_in, absent_row, cell, put, pick, look, node_from, slot_as, slot, frame_of, below, frames_of, Fit, slot_type, Holds, first_node, first_number, FirstBelow, binding_in, Known, Looked, Bound}
 use Rattle.frames.specs.declared.Held.TheVariants.{Absent, OfType}
 use Rattle.frames.specs.declared.First.{First}

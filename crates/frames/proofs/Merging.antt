@@ -1,31 +1,30 @@
 -- Laws of the merge. Assumes nothing.
 use mathlib.Core.Path.{◌≡◌, refl, sym, ap, ◌∙◌, subst}
-use mathlib.Core.List.{List, [], ◌∷◌, ◌++◌, map}
+use mathlib.Core.List.{List, [], ◌∷◌, ◌++◌}
 use mathlib.Core.Bool.{Bool, true, false, not}
 use mathlib.Core.Option.{Option, none, some}
-use Prim.Native.Nat.{ℕ, zero, suc, ◌+◌, ◌-◌, ◌*◌, ◌≤◌, ◌<◌}
+use Prim.Native.Nat.{ℕ, zero, suc, ◌+◌, ◌-◌, ◌≤◌, ◌<◌}
 use native.Mathlib.Omega.{arith}
-use native.Mathlib.Decide.{dec_lt, ℕ_discrete}
+use native.Mathlib.Decide.{dec_lt}
 use native.Mathlib.Numerals.{sub-one, add-one}
 use lib.Dec.{eqb, ltb}
-use lib.ListN.{length, get_or, set, replicate, length-set, length-replicate, get_or-replicate, get_or-eq_default}
+use lib.ListN.{length, get_or, set, replicate, length-set, length-replicate, get_or-replicate}
 use lib.Seq.{get_or-set_same, get_or-set_other}
-use borrow.Author.Tests.{lt-ltb, le-ltb, eq-eqb, ne_eqb, eqb-true, eqb-false, ltb-true}
+use borrow.Author.Tests.{lt-ltb, eq-eqb, ne_eqb, eqb-true, eqb-false, ltb-true}
 use borrow.Author.Count.{below_more}
 use Rattle.meaning.specs.Types.{Ty, unknown, same}
-use Rattle.meaning.proofs.Choices.{same_yes, same_no, and_true, and_false, if_le}
+use Rattle.meaning.proofs.Choices.{same_yes, same_no, and_true, and_false}
 use Rattle.types.specs.Table.{Tab, denote, Wf, Grown}
 use Rattle.types.proofs.Laws.{unknown_number, same_number}
 use Rattle.meaning.specs.Limits.{most_names}
 use Rattle.meaning.specs.Base.{◌and◌, ◌or◌, if◌then◌else◌, if_some, or_else, all, count}
 use Rattle.meaning.specs.Image.{Name, name_of}
 use Rattle.meaning.specs.Message.{a_text, conflict}
-use Rattle.meaning.specs.Frames.{Binding, binding, blank, Frame, Frames, newest, slot_in}
+use Rattle.meaning.specs.Frames.{Binding, binding, blank, Frames, slot_in}
 use Rattle.meaning.specs.Walk.{State, state, bind, done, wrong, ◌>>=◌, same_type, same_slot, tells, assigned, merge_name, merge_names, merge}
 use Rattle.meaning.proofs.Statements.{then_same}
-use Rattle.frames.specs.Env.{Rows, type_in, node_in, absent_row, cell, put, pick, look, node_from, slot_as, slot, frame_of, below, frames_of, Fit, cell_room, first_node, FirstBelow, merge_end, tells_cell, note_cell, clash_cell, Noted, settle_name, settle, Committed}
+use Rattle.frames.specs.Env.{Rows, type_in, node_in, absent_row, cell, put, pick, node_from, slot_as, slot, frames_of, Fit, cell_room, first_node, FirstBelow, merge_end, tells_cell, note_cell, clash_cell, Noted, settle_name, settle, Committed}
 use Rattle.frames.specs.declared.First.{First}
-use Rattle.frames.specs.declared.Disagreement.{Disagreement}
 use Rattle.frames.specs.declared.Merge.{Merge}
 use Rattle.frames.specs.declared.Merge.TheVariants.{Whole, Clash}
 use Rattle.frames.proofs.Laws.{absent_cells, slot_frames, slot_some, slot_none, slot_grown, frames_put, fit_put}

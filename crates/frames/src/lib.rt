@@ -1,6 +1,7 @@
 // Frames as eight rows of 128 cells. A cell has two halves: a type's number + 1, or 0 where the name is absent; and the
 // number + 1 of the node that first made the type known, or 0 where none did. Only this file knows that.
 #![tactic(auto)]
+
 ghost use Rattle.std.specs.Prelude.{◌≡◌, Bool, true, false, ℕ, suc, ◌+◌, ◌<◌, ◌≤◌, length, get_or, set, List, [], ◌∷◌};
 ghost use Rattle.std.proofs.Math.Option.{none};
 ghost use Rattle.meaning.specs.Limits.{most_names, most_frames};

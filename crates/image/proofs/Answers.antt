@@ -1,20 +1,12 @@
 -- What the answers of the searches and of `judge` say, and that no second answer fits. Assumes nothing.
 use mathlib.Core.Path.{◌≡◌, refl, sym, ap, ◌∙◌}
-use mathlib.Core.Bool.{true}
-use mathlib.Core.Logic.{◌↔◌, ⊎_elim}
+use mathlib.Core.Logic.{◌↔◌}
 use mathlib.Core.Option.{Option, none, some}
 use mathlib.Core.List.{List, [], ◌∷◌}
 use Prim.Native.Nat.{ℕ}
-use native.Mathlib.Omega.{arith}
-use borrow.Author.Tests.{leb-true}
-use types.Run.{OneOf}
-use denote.Enum.Declared.{tag_of}
-use lib.Dec.{leb}
-use Rattle.meaning.specs.Base.{◌and◌, all, choose, if◌then◌else◌}
+use Rattle.meaning.specs.Base.{choose, if◌then◌else◌}
 use Rattle.meaning.specs.Image.{Fault, image_fault}
-use Rattle.meaning.proofs.Choices.{and_left, and_right}
 use Rattle.meaning.proofs.Faults.{Sound, sound}
-use Rattle.image.specs.contracts.Judged.{the_type}
 use Rattle.image.specs.declared.Found.{Found}
 use Rattle.image.specs.declared.Found.TheVariants.{At, Nowhere}
 use Rattle.image.specs.declared.Judged.{Judged}

@@ -1,6 +1,6 @@
 -- What one node that stands gives, and a turn of the walk over its children. Assumes nothing.
 use mathlib.Core.Path.{◌≡◌, refl}
-use mathlib.Core.Bool.{true, false, not}
+use mathlib.Core.Bool.{true, false}
 use mathlib.Core.Option.{none}
 use mathlib.Core.List.{List}
 use Prim.Native.Nat.{ℕ, zero, suc, ◌-◌, ◌<◌, ◌≤◌}
@@ -8,10 +8,10 @@ use native.Mathlib.Nat.{zero-add}
 use native.Mathlib.Numerals.{sub-one}
 use native.Mathlib.Omega.{arith}
 use lib.Dec.{eqb}
-use borrow.Author.Tests.{lt-ltb, le-ltb, ltb-true, leb-true}
+use borrow.Author.Tests.{lt-ltb, le-ltb}
 use Rattle.meaning.specs.Base.{◌and◌, ◌or◌}
-use Rattle.meaning.specs.Image.{Node, name_count, node_count, nodes_of, node_of, is_statement, is_spanless, is_expression, arg_below, count_stands, node_stands, belongs, lands, nests, broken_node}
-use Rattle.meaning.proofs.Choices.{and_true, and_false, and_left, and_right, none_failing}
+use Rattle.meaning.specs.Image.{Node, name_count, node_count, nodes_of, node_of, node_stands, belongs, lands, nests, broken_node}
+use Rattle.meaning.proofs.Choices.{and_true, and_false, none_failing}
 use Rattle.meaning.proofs.Faults.{Headed, sizes}
 use Rattle.meaning.proofs.Nesting.{Stands, stands, nodes_many}
 use Rattle.image.specs.Kinds.{root_stands}

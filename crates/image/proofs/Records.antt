@@ -3,12 +3,12 @@ use mathlib.Core.Path.{◌≡◌}
 use mathlib.Core.Bool.{true}
 use mathlib.Core.Option.{none}
 use mathlib.Core.List.{List, []}
-use Prim.Native.Nat.{ℕ, ◌+◌, ◌-◌, ◌*◌, ◌<◌, ◌≤◌}
+use Prim.Native.Nat.{ℕ, ◌+◌, ◌*◌, ◌<◌, ◌≤◌}
 use native.Mathlib.Omega.{arith}
 use lib.ListN.{length, take, drop, get_or-map, length-drop}
 use lib.Seq.{drop-drop, take_all}
 use borrow.Author.Tests.{leb-true}
-use Rattle.meaning.specs.Base.{◌and◌, choose, if◌then◌else◌}
+use Rattle.meaning.specs.Base.{choose, if◌then◌else◌}
 use Rattle.meaning.specs.Image.{name_record, name_records, texts_of, name_from, role_of, names_of, name_of, name_count, node_count, text_count, names_from, nodes_from, texts_from, total, head_stands, broken_name}
 use Rattle.meaning.specs.Image.{Name}
 use Rattle.meaning.proofs.Choices.{and_left}

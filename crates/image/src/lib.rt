@@ -1,5 +1,6 @@
 // The program image: whether a slice of bytes is one, and its parts.
 #![tactic(auto)]
+
 ghost use Rattle.std.specs.Prelude.{◌≡◌, [], ◌∷◌, suc, ◌+◌, ◌-◌, ◌*◌, ◌%◌, ◌<◌, ◌≤◌, eqb, leb, ltb, length, take, drop};
 ghost use Rattle.std.proofs.Math.Option.{none};
 ghost use Rattle.meaning.specs.Image.{name_count, node_count, nodes_from, texts_from, node, nodes_of, node_of, name_record};

@@ -1,11 +1,11 @@
 -- What each case of `load` leaves, from what `check` left. Assumes nothing.
 use mathlib.Core.Path.{◌≡◌, refl, sym, ap, ◌∙◌, subst}
 use mathlib.Core.Bool.{true, false, false≢true}
-use mathlib.Core.List.{List, [], ◌∷◌}
+use mathlib.Core.List.{List}
 use Prim.Native.Nat.{ℕ, ◌≤◌}
 use native.Mathlib.Omega.{arith}
 use lib.ListN.{length, take}
-use Rattle.meaning.specs.Base.{◌and◌, all, same_text}
+use Rattle.meaning.specs.Base.{same_text}
 use Rattle.meaning.specs.Answer.{Answer as Meant, answer}
 use Rattle.meaning.specs.Load.{loading_number}
 use Rattle.meaning.proofs.Choices.{same_text_lem, text_same}

@@ -5,7 +5,6 @@ use mathlib.Core.Logic.{◌↔◌}
 use mathlib.Core.List.{List}
 use Prim.Native.Nat.{ℕ}
 use native.Mathlib.Omega.{arith}
-use lib.ListN.{length}
 use Rattle.meaning.specs.Read.{is_sheet}
 use Rattle.meaning.specs.Answer.{Answer as Meant, answer}
 use Rattle.meaning.specs.Load.{loading, loading_number}

@@ -2,6 +2,7 @@
 // exactly when it is accepted and its type sheet equals the last approved sheet, byte for byte." Nothing is asked of
 // the caller.
 #![tactic(auto)]
+
 ghost use Rattle.std.specs.Prelude.{◌≡◌, length};
 ghost use Rattle.meaning.specs.Answer.{answer};
 ghost use Rattle.meaning.specs.Convert.{convert_answer};

@@ -9,7 +9,7 @@ use native.Mathlib.Omega.{arith}
 use borrow.Author.Tests.{leb-true, le-leb}
 use lib.ListN.{length}
 use Rattle.meaning.specs.Limits.{most_names, most_types, most_elements}
-use Rattle.meaning.specs.Base.{◌and◌, before}
+use Rattle.meaning.specs.Base.{before}
 use Rattle.meaning.specs.Types.{Ty}
 use Rattle.meaning.specs.Image.{text_stands}
 use Rattle.meaning.specs.Sheet.{Entry, types_of, elements_of, sheet_of, texts_stand, within_limits}

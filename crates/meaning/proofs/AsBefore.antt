@@ -24,7 +24,7 @@ use Rattle.meaning.specs.Operators.{Checked, ok, refused}
 use Rattle.meaning.specs.Rules.{element_of, check, check_form, check_all}
 use Rattle.meaning.specs.Walk.{Setting, dropping, State, End, done, wrong, too_deep, ◌>>=◌, onward, after, on_copy, typed, with_returns, bind, agreed, assign_name, unpacked, unpack_into, return_rule, same_type, same_slot, tells, assigned, merge_name, merge_names, merge, with_params, enter, popped, if_room, only_in, over_elements, checked, condition, assign_to, assign_form, assign_each, walk, act, body, arm, branches, program, start}
 use Rattle.meaning.specs.Sheet.{entries, listed_slot, listed_frame, listing}
-use Rattle.meaning.specs.Answer.{Answer, bare, written, ended, walked, walk_answer, unless_fault, setting_of, answer, former_under, former_answer}
+use Rattle.meaning.specs.Answer.{Answer, bare, written, ended, walked, walk_answer, unless_fault, setting_of, former_under, former_answer}
 use Rattle.meaning.specs.Line.{refused_line, line_of, setting_told, printed}
 use Rattle.meaning.proofs.Codes.{Judged, Fair, fair_judged, check_fair}
 use Rattle.meaning.proofs.Rows.{as_before}

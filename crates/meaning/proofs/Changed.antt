@@ -11,7 +11,7 @@ use native.Mathlib.Omega.{arith}
 use native.Mathlib.Decide.{ℕ_discrete}
 use borrow.Author.Tests.{eq-eqb, ne_eqb, ltb-false}
 use lib.ListN.{length}
-use Rattle.meaning.specs.Base.{◌and◌, if◌then◌else◌, same_text, before, bytes}
+use Rattle.meaning.specs.Base.{if◌then◌else◌, same_text, before, bytes}
 use Rattle.meaning.specs.Types.{Ty, Ty-discrete, same}
 use Rattle.meaning.specs.Image.{text_stands}
 use Rattle.meaning.specs.Sheet.{Entry, texts_stand, within_limits}

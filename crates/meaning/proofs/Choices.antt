@@ -10,7 +10,7 @@ use native.Mathlib.Omega.{arith}
 use borrow.Author.Tests.{eqb-true, eq-eqb, ne_eqb}
 use lib.Dec.{eqb}
 use lib.ListN.{length, get_or, drop}
-use Rattle.meaning.specs.Base.{◌and◌, ◌or◌, if◌then◌else◌, choose, if_some, same_text, count, records}
+use Rattle.meaning.specs.Base.{◌and◌, ◌or◌, if◌then◌else◌, choose, same_text, count, records}
 use Rattle.meaning.specs.Types.{Ty, Ty-discrete, unknown, int, bool, string, float, nonetype, range, function, list, dict, tuple, map_iter, filter_iter, same, kind, plain}
 use Rattle.meaning.specs.Image.{first_not}
 

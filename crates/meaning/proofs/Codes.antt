@@ -1,23 +1,22 @@
 -- An expression's refusal has a code from 29 to 50 and no first place; every typing refusal has a code from 20 to 50.
-use mathlib.Core.Path.{◌≡◌, refl, ◌∙◌, ap, sym}
-use mathlib.Core.Bool.{Bool, true, false, false≢true}
-use mathlib.Core.Logic.{◌⊎◌, inl, inr, ⊎_elim}
+use mathlib.Core.Path.{◌≡◌, refl}
+use mathlib.Core.Bool.{Bool, true, false}
+use mathlib.Core.Logic.{⊎_elim}
 use mathlib.Core.Option.{Option, none, some}
 use mathlib.Core.List.{List, [], ◌∷◌, ◌++◌}
-use Prim.Native.Nat.{ℕ, zero, suc, ◌+◌, ◌≤◌, ◌<◌}
+use Prim.Native.Nat.{ℕ, zero, suc, ◌≤◌}
 use native.Mathlib.Omega.{arith}
 use borrow.Author.Tests.{eqb-false, ltb-false}
 use lib.Dec.{eqb, ltb}
-use lib.ListN.{length, get_or}
-use Rattle.meaning.specs.Base.{if◌then◌else◌, choose, if_some, is_in}
-use Rattle.meaning.specs.Types.{Ty, unknown, map_iter, filter_iter, kind, same}
-use Rattle.meaning.specs.Tree.{UnaryOp, not_op, negate, pos, BinaryOp, Expr, at, Form, literal, variable, unary, binary, call, attribute, list_of, dict_of, tuple_of, set_of, index, lambda, Exprs, no_exprs, ◌also◌}
+use Rattle.meaning.specs.Base.{if◌then◌else◌, choose, if_some}
+use Rattle.meaning.specs.Types.{Ty, kind}
+use Rattle.meaning.specs.Tree.{UnaryOp, BinaryOp, Expr, at, Form, literal, variable, unary, binary, call, attribute, list_of, dict_of, tuple_of, set_of, index, lambda, Exprs, no_exprs, ◌also◌}
 use Rattle.meaning.specs.Image.{Role, plain, exactly, between, any, takes, Name}
 use Rattle.meaning.specs.Message.{Piece, Refusal, refusal}
 use Rattle.meaning.specs.Frames.{Frames}
-use Rattle.meaning.specs.Operators.{Checked, ok, refused, ◌>>=◌, when, operator_answer, unary_answer, answered, binary_rule, unary_rule}
+use Rattle.meaning.specs.Operators.{Checked, ok, refused, ◌>>=◌, when, unary_answer, answered, binary_rule, unary_rule}
 use Rattle.meaning.specs.Rules.{Children, child, each, each_then, first_then, list_rule, joined, dict_rule, streamed, index_rule, input_rule, len_rule, range_rule, stream_rule, choose_text, builtin_rule, builtin_call, function_call, name_rule, call_rule, check, check_form, check_all}
-use Rattle.meaning.proofs.Operators.{Range, answer_range, UnaryRange, unary_range}
+use Rattle.meaning.proofs.Operators.{Range, answer_range, unary_range}
 
 pub record Typing (r : Refusal) : Type 0 where
   pub above : 20 ≤ r.code

@@ -5,7 +5,7 @@ use Prim.Native.Nat.{ℕ, zero, suc, ◌-◌, ◌<◌}
 use native.Mathlib.Numerals.{sub-one}
 use native.Mathlib.Omega.{arith}
 use Rattle.meaning.specs.Base.{if◌then◌else◌, choose}
-use Rattle.meaning.specs.Tree.{Expr, at, Form, literal, variable, unary, binary, call, attribute, list_of, dict_of, tuple_of, set_of, index, lambda, Exprs, no_exprs, ◌also◌, Stmt, line, Act, break, continue, pass, class, assign, expr, return, if_then, while, for, def, Stmts, no_stmts, ◌next◌, Arms, no_arms, ◌else_arms◌, on, otherwise}
+use Rattle.meaning.specs.Tree.{Expr, at, literal, variable, unary, binary, call, attribute, list_of, dict_of, tuple_of, set_of, index, lambda, no_exprs, ◌also◌, Stmt, line, break, continue, pass, class, assign, expr, return, if_then, while, for, def, Stmts, no_stmts, ◌next◌, no_arms, ◌else_arms◌, on, otherwise}
 use Rattle.meaning.specs.Image.{Node, node_of}
 use Rattle.meaning.specs.Decode.{stop_of, past, exprs_from, stmts_from, params_from, arms_from, literal_type, unary_of, binary_of, form_at, expr_at, act_at, stmt_at, block_at}
 

@@ -4,13 +4,13 @@ use mathlib.Core.Bool.{Bool, true, false}
 use mathlib.Core.Logic.{◌↔◌, ◌⊎◌, inl, inr, ⊎_elim}
 use mathlib.Core.Option.{Option, none, some, none-ne-some, some-injective}
 use mathlib.Core.List.{List, [], ◌∷◌}
-use Prim.Native.Nat.{ℕ, ◌+◌, ◌*◌, ◌≤◌, ◌<◌}
+use Prim.Native.Nat.{ℕ, ◌≤◌, ◌<◌}
 use native.Mathlib.Omega.{arith}
 use borrow.Author.Tests.{leb-true, eqb-true}
 use lib.ListN.{length}
-use Rattle.meaning.specs.Limits.{most_names, most_nodes, most_text, largest_image}
-use Rattle.meaning.specs.Base.{if◌then◌else◌, if_some, word}
-use Rattle.meaning.specs.Image.{Fault, unless, first_found, version, name_count, node_count, text_count, names_from, nodes_from, texts_from, total, head_stands, counts_stand, offsets_stand, broken_name, unsafe_name, broken_node, badly_nested, too_deep_node, head_fault, body_fault, image_fault, first_tree_set, check_fault}
+use Rattle.meaning.specs.Limits.{most_names, most_nodes, most_text}
+use Rattle.meaning.specs.Base.{if◌then◌else◌, if_some}
+use Rattle.meaning.specs.Image.{Fault, unless, first_found, name_count, node_count, text_count, nodes_from, texts_from, total, head_stands, counts_stand, offsets_stand, broken_name, unsafe_name, broken_node, badly_nested, too_deep_node, head_fault, body_fault, image_fault, first_tree_set, check_fault}
 use Rattle.meaning.proofs.Choices.{and_left, and_right, if_none}
 
 abbrev pub fault : ℕ → ℕ → Fault

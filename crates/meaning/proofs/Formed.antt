@@ -11,7 +11,7 @@ use native.Mathlib.Decide.{ℕ_discrete}
 use lib.ListN.{length, get_or, replicate}
 use lib.Seq.{get_or-set_other}
 use Rattle.meaning.specs.Base.{if◌then◌else◌, if_some, or_else}
-use Rattle.meaning.specs.Types.{Ty, unknown, same}
+use Rattle.meaning.specs.Types.{Ty, unknown}
 use Rattle.meaning.specs.Tree.{Expr, at, Form, literal, variable, unary, binary, call, attribute, list_of, dict_of, tuple_of, set_of, index, lambda, Exprs, no_exprs, ◌also◌, size, Stmt, line, Act, break, continue, pass, class, assign, expr, return, if_then, while, for, def, Stmts, no_stmts, ◌next◌, Arms, no_arms, ◌else_arms◌, Arm, on, otherwise}
 use Rattle.meaning.specs.Bound.{targets, targets_in, targets_among, may_bind, binds_by, binds_in, binds_among, binds_under}
 use Rattle.meaning.specs.Image.{Name, names_of, nodes_of}
@@ -20,7 +20,7 @@ use Rattle.meaning.specs.Message.{Piece, Refusal}
 use Rattle.meaning.specs.Frames.{Binding, binding, blank, Frame, Frames, empty, newest, slot_in, write}
 use Rattle.meaning.specs.Operators.{Checked, ok, refused}
 use Rattle.meaning.specs.Rules.{element_of}
-use Rattle.meaning.specs.Walk.{strict, dropping, State, End, done, wrong, too_deep, refuse, ◌>>=◌, onward, after, on_copy, typed, with_frames, with_returns, bind, agreed, assign_name, unpacked, unpack_into, return_rule, tells, assigned, merge_name, merge_names, merge, enter, popped, if_room, only_in, over_elements, checked, condition, assign_to, assign_form, assign_each, walk, act, body, arm, branches, program, start}
+use Rattle.meaning.specs.Walk.{strict, dropping, State, End, done, wrong, too_deep, refuse, ◌>>=◌, onward, after, on_copy, typed, with_frames, with_returns, agreed, assign_name, unpacked, unpack_into, return_rule, tells, assigned, merge_name, merge_names, merge, enter, popped, if_room, only_in, over_elements, checked, condition, assign_to, assign_form, assign_each, walk, act, body, arm, branches, program, start}
 use Rattle.meaning.specs.Answer.{walked}
 use Rattle.meaning.proofs.Listed.{ProgramLists}
 

@@ -1,6 +1,6 @@
 -- What the nodes of a sound image obey: each stands by itself, its children lie inside it in order, its subtree ends where its record
 -- says, and a child lies deeper than its parent.
-use mathlib.Core.Path.{◌≡◌, refl, ◌∙◌, ap, sym}
+use mathlib.Core.Path.{◌≡◌, refl, ◌∙◌}
 use mathlib.Core.Bool.{Bool, true, false, not}
 use mathlib.Core.List.{List, [], ◌∷◌}
 use Prim.Native.Nat.{ℕ, zero, suc, ◌+◌, ◌-◌, ◌≤◌, ◌<◌}
@@ -13,7 +13,7 @@ use lib.Dec.{eqb, leb, ltb}
 use lib.ListN.{length, get_or, drop, length-map}
 use Rattle.meaning.specs.Limits.{deepest}
 use Rattle.meaning.specs.Base.{◌and◌, ◌or◌, if◌then◌else◌}
-use Rattle.meaning.specs.Image.{Node, node_of, nodes_of, node, name_record, name_records, names_from, names_of, name_count, node_count, nodes_from, is_statement, is_spanless, is_expression, arg_below, count_stands, node_stands, belongs, lands, nests, depth, broken_node, badly_nested, too_deep_node}
+use Rattle.meaning.specs.Image.{Node, node_of, nodes_of, node, name_record, name_records, names_from, names_of, name_count, node_count, is_statement, is_spanless, is_expression, arg_below, count_stands, node_stands, belongs, lands, nests, depth, broken_node, badly_nested, too_deep_node}
 use Rattle.meaning.specs.Decode.{stop_of, past}
 use Rattle.meaning.proofs.Choices.{and_left, and_right, both, all_pass, records_many}
 use Rattle.meaning.proofs.Faults.{Sound}

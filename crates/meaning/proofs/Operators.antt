@@ -1,18 +1,17 @@
 -- The operators: their answers are few, and what they say of whole types is what T says.
-use mathlib.Core.Path.{◌≡◌, refl, ◌∙◌, ap, sym}
+use mathlib.Core.Path.{◌≡◌, refl, ap}
 use mathlib.Core.Bool.{Bool, true, false, false≢true}
 use mathlib.Core.Logic.{◌⊎◌, inl, inr, ⊎_elim}
 use mathlib.Core.List.{List, [], ◌∷◌}
-use Prim.Native.Nat.{ℕ, suc, ◌+◌, ◌≤◌, ◌<◌}
+use Prim.Native.Nat.{ℕ, ◌≤◌, ◌<◌}
 use native.Mathlib.Omega.{arith}
-use native.Mathlib.Decide.{ℕ_discrete}
 use borrow.Author.Tests.{eqb-true, eqb-false, ltb-true}
-use lib.Dec.{eqb, ltb, leb}
+use lib.Dec.{eqb, ltb}
 use Rattle.meaning.specs.Base.{◌and◌, ◌or◌, if◌then◌else◌, all, is_in}
-use Rattle.meaning.specs.Types.{Ty, Ty-discrete, unknown, int, bool, float, same, kind, plain}
+use Rattle.meaning.specs.Types.{Ty, unknown, int, bool, float, same, kind, plain}
 use Rattle.meaning.specs.Tree.{UnaryOp, not_op, negate, pos, BinaryOp, add, subtract, multiply, divide, floor_divide, modulo, equal, not_equal, less, less_equal, greater, greater_equal, and_op, or_op}
-use Rattle.meaning.specs.Message.{Piece, a_type, refusal}
-use Rattle.meaning.specs.Operators.{Checked, ok, refused, when, Rows, numbers, sums, products, whole_types, by_rows, instead, equated, operator_answer, unary_answer, answered, binary_rule, unary_rule}
+use Rattle.meaning.specs.Message.{a_type}
+use Rattle.meaning.specs.Operators.{ok, when, Rows, numbers, sums, products, by_rows, instead, equated, operator_answer, unary_answer, answered}
 use Rattle.meaning.proofs.Choices.{and_left, and_right, or_either, same_yes, same_no, plain_one, same_plain}
 
 -- ---- an answer is a plain type or a code, and for == and != it may be that the whole types decide

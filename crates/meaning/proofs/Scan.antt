@@ -15,7 +15,7 @@ use lib.Dec.{eqb, ltb}
 use lib.ListN.{length}
 use Rattle.meaning.specs.Limits.{deepest}
 use Rattle.meaning.specs.Base.{◌and◌, ◌or◌, if◌then◌else◌, choose}
-use Rattle.meaning.specs.Tree.{Expr, at, Form, lambda, Stmt, Act, pass, Stmts, on}
+use Rattle.meaning.specs.Tree.{Expr, Form, lambda, Stmt, Act, pass, Stmts}
 use Rattle.meaning.specs.Bound.{targets, targets_in, targets_among, may_bind, binds_by, binds_in, binds_among}
 use Rattle.meaning.specs.Image.{Node, node_of, nodes_of, name_count, node_count, is_statement, is_expression, arg_below, count_stands, belongs, depth}
 use Rattle.meaning.specs.Decode.{stop_of, exprs_from, stmts_from, arms_from, form_at, expr_at, act_at, stmt_at, block_at, tree_of}

@@ -5,13 +5,13 @@ use mathlib.Core.Logic.{◌↔◌}
 use mathlib.Core.List.{List, [], ◌∷◌, ◌++◌, map, append_assoc}
 use Prim.Native.Nat.{ℕ, zero, suc, ◌+◌, ◌*◌, ◌/◌, ◌%◌, ◌≤◌, ◌<◌}
 use native.Mathlib.Omega.{arith}
-use lib.ListN.{length, get_or, take, drop, length-drop, length-map, take-append-drop}
+use lib.ListN.{length, take, drop, length-drop, length-map, take-append-drop}
 use lib.Seq.{drop-drop, get_or-drop}
 use Rattle.meaning.specs.Base.{word, words, records}
 use Rattle.meaning.specs.Types.{Ty}
-use Rattle.meaning.specs.Sheet.{Entry, Triple, laid, types_of, number, elements_of, type_records, spellings, name_records, sheet_of, within_limits}
+use Rattle.meaning.specs.Sheet.{Entry, laid, types_of, number, elements_of, type_records, spellings, name_records, sheet_of, within_limits}
 use Rattle.meaning.specs.Read.{triple, SheetOf}
-use Rattle.meaning.proofs.SheetForm.{Limits, limits, laid_drop, Bytes, no_bytes, byte, Header, sheet_size, sheet_header, sheet_bytes}
+use Rattle.meaning.proofs.SheetForm.{limits, laid_drop, Bytes, no_bytes, byte, Header, sheet_size, sheet_header, sheet_bytes}
 use Rattle.meaning.proofs.SheetWords.{words_length, laid_length, words_at, triples_at}
 use Rattle.meaning.proofs.SheetRead.{numbers_small, types_small, names_small, types_many, names_many}
 

@@ -1,22 +1,21 @@
 -- The sheet: what is written is read back, no two lists of entries have one sheet, and a byte string is a sheet exactly when it is
 -- that of some entries within the limits. Its length is at most 42,532.
 use mathlib.Core.Path.{◌≡◌, refl, ◌∙◌, ap, sym}
-use mathlib.Core.Bool.{Bool, true, false, false≢true}
+use mathlib.Core.Bool.{true, false, false≢true}
 use mathlib.Core.Logic.{◌↔◌}
-use mathlib.Core.Option.{Option, none, some, none-ne-some, some-injective}
-use mathlib.Core.List.{List, [], ◌∷◌, ◌++◌, map, append_assoc, append-nil}
-use Prim.Native.Nat.{ℕ, zero, suc, ◌+◌, ◌*◌, ◌/◌, ◌%◌, ◌≤◌, ◌<◌}
+use mathlib.Core.Option.{none, some}
+use mathlib.Core.List.{List, [], ◌∷◌, ◌++◌, map, append_assoc}
+use Prim.Native.Nat.{ℕ, ◌+◌, ◌*◌, ◌/◌, ◌%◌, ◌≤◌, ◌<◌}
 use native.Mathlib.Omega.{arith}
-use borrow.Author.Tests.{leb-true, le-leb, eqb-true, eq-eqb}
-use lib.Dec.{leb, eqb}
-use lib.ListN.{length, get_or, take, drop, length-append, length-map}
+use borrow.Author.Tests.{leb-true, le-leb}
+use lib.ListN.{length, drop, length-append, length-map}
 use lib.Seq.{drop_at, drop-drop}
-use Rattle.meaning.specs.Base.{◌and◌, all, if◌then◌else◌, same_text, word, words, records}
+use Rattle.meaning.specs.Base.{all, if◌then◌else◌, word, words}
 use Rattle.meaning.specs.Limits.{most_names, longest_name, most_types, most_elements}
 use Rattle.meaning.specs.Types.{Ty}
 use Rattle.meaning.specs.Image.{printable, text_stands}
 use Rattle.meaning.specs.Sheet.{Entry, Triple, laid, types_of, number, elements_of, type_records, spellings, name_records, sheet_of, texts_stand, within_limits}
-use Rattle.meaning.specs.Read.{triple, entries_from, entries_in, is_sheet, read_sheet, SheetOf}
+use Rattle.meaning.specs.Read.{entries_from, entries_in, is_sheet, read_sheet, SheetOf}
 use Rattle.meaning.proofs.Choices.{and_left, and_right, both, not_so, if_some_lem, if_nothing, same_text_lem, text_same}
 use Rattle.meaning.proofs.SheetWords.{Small, Smalls, Small3s, four_bytes, words_length, laid_many, laid_length, words_read, triples_read}
 use Rattle.meaning.proofs.SheetTypes.{Met, types_met}

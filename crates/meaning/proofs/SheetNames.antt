@@ -1,22 +1,22 @@
 -- The limits of a check's own sheet: the names of a sound image, whichever of them a frame holds, obey the rules for texts;
 -- the types follow from the sizes of the table that the check fills.
-use mathlib.Core.Path.{◌≡◌, refl, ◌∙◌, ap, sym}
-use mathlib.Core.Bool.{Bool, true, false, false≢true}
+use mathlib.Core.Path.{◌≡◌, refl, ◌∙◌}
+use mathlib.Core.Bool.{true, false≢true}
 use mathlib.Core.Logic.{◌⊎◌, inl, inr, ⊎_elim}
-use mathlib.Core.Option.{Option, none, some, none-ne-some}
+use mathlib.Core.Option.{none, some}
 use mathlib.Core.List.{List, [], ◌∷◌, map, Memᴰ}
-use Prim.Native.Nat.{ℕ, zero, suc, ◌+◌, ◌≤◌, ◌<◌}
+use Prim.Native.Nat.{ℕ, suc, ◌+◌, ◌≤◌, ◌<◌}
 use native.Mathlib.Omega.{arith}
 use native.Mathlib.Decide.{ℕ_discrete}
-use borrow.Author.Tests.{leb-true, le-leb, eqb-true, eq-eqb, ne_eqb, ltb-true, lt-ltb}
+use borrow.Author.Tests.{le-leb, eqb-true, eq-eqb, ne_eqb, ltb-true, lt-ltb}
 use lib.ListN.{length, take, drop, length-map}
-use Rattle.meaning.specs.Base.{◌and◌, if◌then◌else◌, if_some, before, records}
+use Rattle.meaning.specs.Base.{if◌then◌else◌, if_some, before}
 use Rattle.meaning.specs.Types.{Ty, parts}
 use Rattle.meaning.specs.Limits.{most_names, most_types, most_elements}
 use Rattle.meaning.specs.Image.{NameRecord, Name, name_from, text_stands, wrong_name, name_count, name_record, name_records, broken_name, names_of, texts_of}
 use Rattle.meaning.proofs.Faults.{Sound, sizes}
 use Rattle.meaning.specs.Frames.{Frame}
-use Rattle.meaning.specs.Sheet.{Entry, types_of, elements_of, texts_stand, within_limits, entries}
+use Rattle.meaning.specs.Sheet.{types_of, elements_of, texts_stand, within_limits, entries}
 use Rattle.meaning.proofs.Choices.{and_left, and_right, both, if_none, records_many}
 use Rattle.meaning.proofs.SheetTypes.{Known}
 use Rattle.meaning.proofs.SheetRoom.{sheet_room}

@@ -1,19 +1,17 @@
 -- The order of the sheet's types: exactly the structured types that are reached from the names stand there, each once, the parts before the whole.
-use mathlib.Core.Path.{◌≡◌, refl, ◌∙◌, ap, sym}
-use mathlib.Core.Logic.{◌⊎◌, inl, inr, ⊎_elim, ◌↔◌}
+use mathlib.Core.Path.{◌≡◌, ap}
+use mathlib.Core.Logic.{⊎_elim, ◌↔◌}
 use mathlib.Core.List.Memᴰ
 use mathlib.Core.List.{List, [], ◌∷◌, ◌++◌, map, append-nil, Memᴰ}
-use Prim.Native.Nat.{ℕ, zero, suc, ◌+◌, ◌≤◌, ◌<◌, min}
+use Prim.Native.Nat.{ℕ, zero, suc, ◌+◌, ◌≤◌, ◌<◌}
 use native.Mathlib.Nat.{le_of_suc-le-suc, not-suc-le-zero}
 use native.Mathlib.Omega.{arith}
 use native.Mathlib.Decide.{dec_lt}
 use lib.ListN.{length, get_or, take, drop, length-take, take-append-drop}
 use lib.Seq.{append_snoc, split_at}
-use Rattle.meaning.specs.Base.{if◌then◌else◌}
-use Rattle.meaning.specs.Types.{Ty, Ty-discrete, unknown, int, bool, string, float, nonetype, range, function, list, dict, tuple, map_iter, filter_iter, Tys, no_types, ◌⊕◌, kind, parts}
-use Rattle.meaning.specs.Sheet.{Entry, add_new, met, met_all, types_of, position, number}
-use Rattle.meaning.proofs.Choices.{same_yes, same_no}
-use Rattle.meaning.proofs.SheetWalk.{found, near, far, here}
+use Rattle.meaning.specs.Types.{Ty, unknown, int, bool, string, float, nonetype, range, function, list, dict, tuple, map_iter, filter_iter, kind, parts}
+use Rattle.meaning.specs.Sheet.{Entry, types_of, position, number}
+use Rattle.meaning.proofs.SheetWalk.{found, far, here}
 use Rattle.meaning.proofs.SheetTypes.{Known, Next, Ordered, Reached, given, part_of, Met, types_met, number_plain, number_above}
 
 -- at each place: what may come next after what stands before

@@ -1,13 +1,13 @@
 -- The sheet's areas read back: type records, elements, name records, texts.
 use mathlib.Core.Path.{◌≡◌, refl, ◌∙◌, ap, sym}
 use mathlib.Core.List.{List, [], ◌∷◌, ◌++◌, map, map-append, append-nil, Memᴰ}
-use Prim.Native.Nat.{ℕ, zero, suc, ◌+◌, ◌*◌, ◌≤◌, ◌<◌}
+use Prim.Native.Nat.{ℕ, suc, ◌+◌, ◌<◌}
 use native.Mathlib.Omega.{arith}
-use lib.ListN.{length, get_or, take, drop, length-append, length-map}
-use lib.Seq.{append_snoc, take_at, drop_at, take-append_seam, drop-append_seam, drop-drop}
+use lib.ListN.{length, take, drop, length-append, length-map}
+use lib.Seq.{append_snoc, take_at, drop_at, take-append_seam, drop-drop}
 use Rattle.meaning.specs.Base.{if◌then◌else◌, choose}
 use Rattle.meaning.specs.Types.{Ty, unknown, int, bool, string, float, nonetype, range, function, list, dict, tuple, map_iter, filter_iter, Tys, no_types, ◌⊕◌, kind, parts, elements, tys}
-use Rattle.meaning.specs.Sheet.{Entry, Triple, number, elements_in, elements_of, type_record, type_records, spellings, name_records}
+use Rattle.meaning.specs.Sheet.{Entry, number, elements_in, elements_of, type_record, type_records, spellings, name_records}
 use Rattle.meaning.specs.Read.{numbered, type_from, types_from}
 use Rattle.meaning.proofs.SheetWords.{Small, Smalls, Small3s}
 use Rattle.meaning.proofs.SheetTypes.{Known, Next, Ordered, number_le, number_read}

@@ -1,17 +1,17 @@
 -- A table that holds the names' types and, with each type, its structured parts has no fewer types and elements than the sheet.
 -- So the sheet's limits follow from the sizes of the table that a check fills.
 use mathlib.Core.Path.{◌≡◌, refl, ◌∙◌, ap, sym}
-use mathlib.Core.Logic.{◌⊎◌, inl, inr, ⊎_elim}
+use mathlib.Core.Logic.{⊎_elim}
 use mathlib.Core.List.Memᴰ
 use mathlib.Core.List.{List, [], ◌∷◌, ◌++◌, map, Memᴰ}
-use Prim.Native.Nat.{ℕ, zero, suc, ◌+◌, ◌≤◌, ◌<◌}
+use Prim.Native.Nat.{ℕ, ◌+◌, ◌≤◌}
 use native.Mathlib.Omega.{arith}
 use lib.ListN.{length, length-append}
 use Rattle.meaning.specs.Base.{if◌then◌else◌}
 use Rattle.meaning.specs.Types.{Ty, Ty-discrete, same, kind, parts}
 use Rattle.meaning.specs.Sheet.{Entry, types_of, elements_in, elements_of}
 use Rattle.meaning.proofs.Choices.{same_yes, same_no}
-use Rattle.meaning.proofs.SheetTypes.{Known, Next, Ordered, Reached, given, part_of, Met, types_met}
+use Rattle.meaning.proofs.SheetTypes.{Known, Ordered, Reached, given, part_of, types_met}
 use Rattle.meaning.proofs.SheetOrder.{stands, has_parts}
 
 weight : (Ty → ℕ) → List Ty → ℕ

@@ -1,7 +1,7 @@
 -- Entries whose texts stand, as those of a sheet do, are told by what is among them: the order leaves no choice, and no name comes twice.
 use mathlib.Core.Path.{◌≡◌, refl, ◌∙◌, ap, sym, subst}
 use mathlib.Core.Bool.{true, false≢true}
-use mathlib.Core.Logic.{◌⊎◌, ⊎_elim}
+use mathlib.Core.Logic.{⊎_elim}
 use mathlib.Core.Option.{Option, none, some, none-ne-some, some-injective}
 use mathlib.Core.List.Memᴰ
 use mathlib.Core.List.{List, [], ◌∷◌, Memᴰ}
@@ -9,7 +9,7 @@ use Prim.Native.Nat.{ℕ, zero, suc, ◌<◌}
 use native.Mathlib.Omega.{arith}
 use borrow.Author.Tests.{eq-eqb}
 use lib.ListN.{length, get_or}
-use Rattle.meaning.specs.Base.{◌and◌, if◌then◌else◌, if_some, before}
+use Rattle.meaning.specs.Base.{if◌then◌else◌, if_some, before}
 use Rattle.meaning.specs.Types.{Ty}
 use Rattle.meaning.specs.Image.{Name, name_of, text_stands}
 use Rattle.meaning.specs.Frames.{Binding, binding, Frame}

@@ -1,18 +1,17 @@
 -- The walk of the sheet: each type it meets stands once, and every structured part of it stands before it.
-use mathlib.Core.Path.{◌≡◌, refl, ◌∙◌, ap, sym}
-use mathlib.Core.Bool.{Bool, true, false}
+use mathlib.Core.Path.{◌≡◌, refl, ap}
 use mathlib.Core.Logic.{◌⊎◌, inl, inr, ⊎_elim}
 use mathlib.Core.List.Memᴰ
-use mathlib.Core.List.{List, [], ◌∷◌, ◌++◌, map, append_assoc, append-nil, Memᴰ}
-use Prim.Native.Nat.{ℕ, zero, suc, ◌+◌, ◌-◌, ◌≤◌, ◌<◌}
+use mathlib.Core.List.{List, [], ◌∷◌, ◌++◌, map, append-nil, Memᴰ}
+use Prim.Native.Nat.{ℕ, suc, ◌+◌, ◌-◌, ◌≤◌, ◌<◌}
 use native.Mathlib.Omega.{arith}
 use native.Mathlib.Decide.{dec_lt}
 use borrow.Author.Tests.{le-leb, lt-leb}
 use lib.ListN.{length, get_or}
 use lib.Seq.{append_snoc}
 use Rattle.meaning.specs.Base.{if◌then◌else◌}
-use Rattle.meaning.specs.Types.{Ty, Ty-discrete, unknown, int, bool, string, float, nonetype, range, function, list, dict, tuple, map_iter, filter_iter, Tys, no_types, ◌⊕◌, same, kind, plain, parts, elements}
-use Rattle.meaning.specs.Sheet.{Entry, add_new, met, met_all, types_of, position, number}
+use Rattle.meaning.specs.Types.{Ty, Ty-discrete, unknown, int, bool, string, float, nonetype, range, function, list, dict, tuple, map_iter, filter_iter, Tys, no_types, ◌⊕◌, kind, parts, elements}
+use Rattle.meaning.specs.Sheet.{Entry, met, met_all, types_of, position, number}
 use Rattle.meaning.specs.Read.{numbered}
 use Rattle.meaning.proofs.Choices.{same_yes, same_no, plain_kind}
 use Rattle.meaning.proofs.SheetWalk.{Added, old, fresh, added, found}

@@ -1,22 +1,22 @@
 -- How each compound statement ends, given how its parts end: one equation for each case, so that nobody has to unfold the walk.
-use mathlib.Core.Path.{◌≡◌, refl, ◌∙◌, ap, sym}
+use mathlib.Core.Path.{◌≡◌, refl, ◌∙◌, ap}
 use mathlib.Core.Bool.{Bool, true, false, false≢true}
 use mathlib.Core.List.{List, [], ◌∷◌, ◌++◌, tail}
-use mathlib.Core.Option.{Option, none, some}
+use mathlib.Core.Option.{none, some}
 use Prim.Native.Nat.{ℕ, suc, ◌≤◌, ◌<◌}
 use native.Mathlib.Omega.{arith}
 use borrow.Author.Tests.{le-leb, lt-leb}
 use lib.ListN.{length}
 use Rattle.meaning.specs.Limits.{most_frames}
 use Rattle.meaning.specs.Base.{if◌then◌else◌, if_some}
-use Rattle.meaning.specs.Types.{Ty, unknown}
-use Rattle.meaning.specs.Tree.{Expr, Stmt, Stmts, no_stmts, ◌next◌, Arms, no_arms, ◌else_arms◌, Arm, on, otherwise, first_condition, assign, expr, return, if_then, while, for, def, place}
+use Rattle.meaning.specs.Types.{Ty}
+use Rattle.meaning.specs.Tree.{Expr, Stmt, Stmts, ◌next◌, Arms, ◌else_arms◌, Arm, on, while, for, def, place}
 use Rattle.meaning.specs.Image.{Name}
 use Rattle.meaning.specs.Message.{Refusal}
 use Rattle.meaning.specs.Frames.{since, Frames}
-use Rattle.meaning.specs.Operators.{Checked, ok, refused}
+use Rattle.meaning.specs.Operators.{ok}
 use Rattle.meaning.specs.Rules.{element_of, check}
-use Rattle.meaning.specs.Walk.{Setting, dropping, State, state, with_frames, with_returns, bind, End, done, wrong, too_deep, ◌>>=◌, onward, after, on_copy, typed, merge, enter, popped, if_room, over_elements, checked, condition, assign_to, return_rule, walk, act, body, arm, branches}
+use Rattle.meaning.specs.Walk.{Setting, dropping, State, state, with_returns, bind, End, done, wrong, too_deep, ◌>>=◌, onward, after, on_copy, typed, enter, popped, if_room, over_elements, checked, condition, walk, act, body, arm, branches}
 
 -- ---- an end is one of three
 

@@ -1,5 +1,5 @@
 -- What comes back: "Code, place, span, sheet length, message length", and the second span of "point at the first place too".
-use Rattle.std.specs.Prelude.{true, false, List, [], ◌∷◌, ◌++◌, ℕ, leb, length, drop}
+use Rattle.std.specs.Prelude.{List, [], ◌∷◌, ◌++◌, ℕ, leb, length, drop}
 use Rattle.std.proofs.Math.Option.{Option, none, some}
 use Rattle.meaning.specs.Base.{if◌then◌else◌, choose, if_some, base_open}
 use Rattle.meaning.specs.Types.{types_open}

@@ -1,5 +1,5 @@
 -- Frames, the newest first: "Lookup goes from the newest frame down; absent is Unknown; assignment writes the newest frame."
-use Rattle.std.specs.Prelude.{true, false, List, [], ◌∷◌, ℕ, get_or, set, replicate}
+use Rattle.std.specs.Prelude.{List, [], ◌∷◌, ℕ, get_or, set, replicate}
 use Rattle.std.proofs.Math.Option.{Option, none, some}
 use Rattle.meaning.specs.Limits.{most_names}
 use Rattle.meaning.specs.Base.{if◌then◌else◌, if_some, or_else}

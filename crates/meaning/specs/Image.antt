@@ -2,7 +2,7 @@
 use Rattle.std.specs.Prelude.{Bool, true, false, not, List, [], ◌∷◌, map, ℕ, zero, suc, ◌+◌, ◌-◌, ◌*◌, ◌%◌, eqb, leb, ltb, length, get_or, take, drop}
 use Rattle.std.proofs.Math.Option.{Option, none, some}
 use Rattle.meaning.specs.Limits.{most_names, most_nodes, most_text, longest_name, deepest}
-use Rattle.meaning.specs.Base.{◌and◌, ◌or◌, if◌then◌else◌, if_some, choose, is_in, all, is_one_of, before, word, records}
+use Rattle.meaning.specs.Base.{◌and◌, ◌or◌, if◌then◌else◌, if_some, choose, all, is_one_of, before, word, records}
 
 -- ---- "Header, 8 words: version 1; name count N; names offset; node count M; nodes offset; text byte count; texts offset; total
 -- length. Areas follow in that order from byte 32 with no gaps."

@@ -1,5 +1,5 @@
 -- A typing refusal and its message: "Texts and spans are T's".
-use Rattle.std.specs.Prelude.{true, false, List, [], ◌∷◌, ◌++◌, ℕ, eqb}
+use Rattle.std.specs.Prelude.{List, [], ◌∷◌, ◌++◌, ℕ, eqb}
 use Rattle.std.proofs.Math.Option.{Option, none}
 use Prim.Native.String.{String}
 use Rattle.meaning.specs.Base.{if◌then◌else◌, bytes, choose, decimal}

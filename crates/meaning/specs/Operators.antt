@@ -1,8 +1,7 @@
 -- Operators. Their answers go by the kinds of their operands, but for == and != of two structured types of one kind: there the whole
 -- types are compared. So 14 x 13 x 13 numbers say it all.
-use Rattle.std.specs.Prelude.{Bool, true, false, List, [], ◌∷◌, ℕ, eqb, ltb}
-use Rattle.std.proofs.Math.Option.{Option, none, some}
-use Rattle.meaning.specs.Base.{◌and◌, ◌or◌, if◌then◌else◌, if_some, is_in}
+use Rattle.std.specs.Prelude.{Bool, List, [], ◌∷◌, ℕ, eqb, ltb}
+use Rattle.meaning.specs.Base.{◌and◌, ◌or◌, if◌then◌else◌, is_in}
 use Rattle.meaning.specs.Types.{Ty, unknown, int, bool, string, float, same, kind, plain}
 use Rattle.meaning.specs.Tree.{UnaryOp, not_op, negate, pos, BinaryOp, add, subtract, multiply, divide, floor_divide, modulo, equal, not_equal, less, less_equal, greater, greater_equal, and_op, or_op}
 use Rattle.meaning.specs.Message.{Piece, a_type, Refusal, refusal}

@@ -1,5 +1,5 @@
 -- The sheet's reader: what a byte string says, and whether it is a sheet.
-use Rattle.std.specs.Prelude.{Bool, true, false, List, [], ◌∷◌, ◌++◌, map, ◌≡◌, ℕ, ◌+◌, ◌-◌, ◌*◌, leb, ltb, get_or, take, drop}
+use Rattle.std.specs.Prelude.{Bool, true, List, [], ◌∷◌, ◌++◌, map, ◌≡◌, ℕ, ◌+◌, ◌-◌, ◌*◌, leb, ltb, get_or, take, drop}
 use Rattle.std.proofs.Math.Option.{Option, none, some}
 use Rattle.meaning.specs.Limits.{most_names, most_types, most_elements}
 use Rattle.meaning.specs.Base.{◌and◌, if◌then◌else◌, choose, same_text, word, records}

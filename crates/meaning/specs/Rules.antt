@@ -1,5 +1,5 @@
 -- The type of an expression, or its refusal (T's tc_expr). An expression never changes the frames.
-use Rattle.std.specs.Prelude.{Bool, true, false, List, [], ◌∷◌, ◌++◌, ℕ, suc, eqb, length, get_or}
+use Rattle.std.specs.Prelude.{List, [], ◌∷◌, ◌++◌, ℕ, suc, eqb, length, get_or}
 use Rattle.std.proofs.Math.Option.{Option, none, some}
 use Rattle.meaning.specs.Base.{◌and◌, ◌or◌, if◌then◌else◌, choose, if_some, is_in, bytes, same_text, decimal}
 use Rattle.meaning.specs.Types.{Ty, unknown, int, bool, string, float, nonetype, range, function, list, dict, tuple, map_iter, filter_iter, same, maybe, tys, kind, parts, part, common}

@@ -1,5 +1,5 @@
 -- What each code says: its format string, how many types it names, and what is put in at the gaps.
-use mathlib.Core.Path.{◌≡◌, refl, sym, ap, ◌∙◌}
+use mathlib.Core.Path.{◌≡◌, refl, sym, ◌∙◌}
 use mathlib.Core.Bool.{Bool, true, false}
 use mathlib.Core.Logic.{inl, inr}
 use mathlib.Core.List.{List, [], ◌∷◌}
@@ -14,7 +14,7 @@ use lib.Dec.{eqb, leb}
 use lib.ListN.{length, take, drop}
 use Rattle.meaning.specs.Base.{◌and◌, ◌or◌, if◌then◌else◌, all, is_in, choose, bytes, decimal}
 use Rattle.meaning.specs.Image.{names_of, name_of}
-use Rattle.meaning.specs.Message.{a_type, a_text, a_number, fill, template, said, message}
+use Rattle.meaning.specs.Message.{a_type, a_text, a_number, template, said, message}
 use Rattle.meaning.specs.Rules.{described}
 use Rattle.meaning.specs.Types.{text}
 use Rattle.meaning.proofs.Choices.{and_left, and_right}

@@ -1,20 +1,20 @@
 -- How a format string is measured and filled in, run by run of plain bytes and piece by piece, and when it fits.
 use mathlib.Core.Path.{◌≡◌, refl, sym, ap, ◌∙◌}
 use mathlib.Core.List.{List, [], ◌∷◌, ◌++◌, append_assoc}
-use Prim.Native.Nat.{ℕ, zero, suc, ◌+◌, ◌-◌, ◌<◌, ◌≤◌, min}
+use Prim.Native.Nat.{ℕ, zero, suc, ◌+◌, ◌-◌, ◌<◌, ◌≤◌}
 use native.Mathlib.Nat.{zero-add}
 use native.Mathlib.Numerals.{add-one}
 use native.Mathlib.Omega.{arith}
-use native.Mathlib.Decide.{dec_lt, ℕ_discrete}
+use native.Mathlib.Decide.{ℕ_discrete}
 use borrow.Author.Tests.{eq-eqb, ne_eqb, le-leb, lt-leb}
-use lib.ListN.{length, get_or, take, drop, set, length-append, length-drop, drop_of_length-le}
+use lib.ListN.{length, get_or, drop, set, length-append, length-drop, drop_of_length-le}
 use lib.Seq.{drop-cons, drop-drop, length-take-le}
 use Rattle.meaning.specs.Base.{if◌then◌else◌, bytes, decimal}
 use Rattle.meaning.specs.Answer.{fitting}
 use Rattle.words.specs.Words.{put_at}
-use Rattle.words.proofs.Laws.{put_byte, put_overlaid}
+use Rattle.words.proofs.Laws.{put_byte}
 use Rattle.types.specs.Reading.{Known}
-use Rattle.message.specs.Texts.{AllKnown, clipped, size_at, Sized}
+use Rattle.message.specs.Texts.{clipped, size_at, Sized}
 use Rattle.message.specs.Pieces.{one, meant, Stands, Small, CountsAs, CountsPiece, Shown, nth, Ready, after, filled, gaps, run, put_in}
 use Rattle.message.specs.declared.Piece.{Piece}
 use Rattle.message.specs.declared.Piece.TheVariants.{Nothing, OfType, OfText, OfNumber, OfRange, OfAny}

@@ -1,12 +1,10 @@
 -- What is delivered is the message: a format string and what is put in are what the code says.
 use mathlib.Core.Path.{◌≡◌, refl, sym, ap, ◌∙◌}
-use mathlib.Core.List.{List, [], ◌∷◌, ◌++◌, map}
+use mathlib.Core.List.{List, [], ◌∷◌, map}
 use Prim.Native.Nat.{ℕ, zero, suc, ◌+◌, ◌<◌, max}
 use native.Mathlib.Omega.{arith}
 use native.Mathlib.Decide.{ℕ_discrete}
 use borrow.Author.Tests.{eq-eqb, ne_eqb}
-use mathlib.Core.Bool.{false}
-use lib.Dec.{eqb}
 use lib.ListN.{length, length-map}
 use Rattle.meaning.specs.Base.{if◌then◌else◌, bytes, decimal}
 use Rattle.meaning.specs.Answer.{fitting, overlaid}
@@ -21,7 +19,7 @@ use Rattle.message.specs.Texts.{AllKnown}
 use Rattle.message.specs.Pieces.{one, meant, Stands, Says, nth, Ready, no_types, one_type, two_types, after, filled, gaps, put_in, Spoken, Given, GivenAll}
 use Rattle.message.specs.Told.{told, Tells, Chosen}
 use Rattle.message.specs.declared.Piece.{Piece}
-use Rattle.message.specs.declared.Piece.TheVariants.{Nothing, OfType, OfNumber}
+use Rattle.message.specs.declared.Piece.TheVariants.{Nothing, OfNumber}
 use Rattle.message.specs.declared.Pieces.{Pieces}
 
 -- a message does not look at the refusal's node

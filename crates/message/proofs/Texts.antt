@@ -1,14 +1,10 @@
 -- A type's text by its kind and its parts, and how the loops over the parts go on.
 use mathlib.Core.Path.{◌≡◌, refl, sym, ap, ◌∙◌}
-use mathlib.Core.List.{List, [], ◌∷◌, ◌++◌, append_assoc, append-nil}
-use Prim.Native.Nat.{ℕ, zero, suc, ◌+◌, ◌-◌, ◌*◌, ◌<◌, ◌≤◌, min}
-use native.Mathlib.Numerals.{add-one}
-use native.Mathlib.Omega.{arith}
-use lib.ListN.{length, get_or, drop, length-append, drop_of_length-le}
-use lib.Seq.{drop-cons}
+use mathlib.Core.List.{List, [], ◌++◌, append_assoc, append-nil}
+use Prim.Native.Nat.{ℕ, zero, suc}
 use Rattle.meaning.specs.Base.{bytes, choose, if◌then◌else◌}
-use Rattle.meaning.specs.Types.{Ty, Tys, unknown, int, bool, string, float, nonetype, range, function, list, dict, tuple, map_iter, filter_iter, no_types, ◌⊕◌, elements, kind, parts, part, text, texts, others}
-use Rattle.message.specs.Texts.{opening, closing, comma, listed, clipped, size_at, Sized}
+use Rattle.meaning.specs.Types.{Ty, Tys, unknown, int, bool, string, float, nonetype, range, function, list, dict, tuple, map_iter, filter_iter, no_types, ◌⊕◌, elements, kind, parts, text, texts, others}
+use Rattle.message.specs.Texts.{opening, closing, comma, listed}
 
 -- ---- the text
 

@@ -1,5 +1,6 @@
 // The message of a typing refusal: T's text, with types in Rust's Debug form, at the front of a lent buffer if it fits.
 #![tactic(auto)]
+
 ghost use Rattle.std.specs.Prelude.{◌≡◌, [], ◌∷◌, ◌++◌, ◌+◌, ◌<◌, ◌≤◌, max, length, get_or, drop};
 ghost use Rattle.std.proofs.Math.Option.{none};
 ghost use Rattle.meaning.specs.Answer.{overlaid};

@@ -1,5 +1,6 @@
 // The names that the sheet of an accepted program lists.
 #![tactic(auto)]
+
 ghost use Rattle.std.specs.Prelude.{◌≡◌, false, ◌<◌, length, get_or};
 ghost use Rattle.meaning.proofs.Faults.{Sound};
 ghost use Rattle.meaning.specs.Limits.{most_frames, most_names};

@@ -10,7 +10,7 @@ use lib.ListN.{length}
 use Rattle.meaning.specs.Base.{choose, if◌then◌else◌}
 use Rattle.meaning.specs.Types.{Ty}
 use Rattle.meaning.specs.Image.{Name, Node, node_of, nodes_of, nodes_from, node_count, arg_below, count_stands}
-use Rattle.meaning.specs.Tree.{Expr, at, unary, index, place}
+use Rattle.meaning.specs.Tree.{Expr, place}
 use Rattle.meaning.specs.Decode.{stop_of, exprs_from, form_at, binary_of}
 use Rattle.meaning.specs.Frames.{Frames}
 use Rattle.meaning.specs.Operators.{Checked, ok, refused, ◌>>=◌, binary_rule}

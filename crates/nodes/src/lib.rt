@@ -1,6 +1,7 @@
 // What one node of an expression gives, once its children are checked: T's tc_expr without its recursion. `rules`
 // decides from the children's types; here what it decides becomes the node's answer, noted at its node if it refuses.
 #![tactic(auto)]
+
 ghost use Rattle.std.specs.Prelude.{◌≡◌, ◌<◌};
 ghost use Rattle.meaning.specs.Types.{list, dict};
 ghost use Rattle.meaning.specs.Image.{nodes_of, node_of};

@@ -1,5 +1,6 @@
 // What an operator answers, by the kinds of its operands.
 #![tactic(auto)]
+
 ghost use Rattle.std.specs.Prelude.{◌≡◌, ◌<◌, length, get_or};
 ghost use Rattle.meaning.specs.Operators.{operator_answer, unary_answer};
 ghost use Rattle.meaning.specs.Decode.{binary_of, unary_of};

@@ -9,7 +9,7 @@ use Rattle.meaning.specs.Base.{if◌then◌else◌, choose, base_open}
 use Rattle.meaning.specs.Image.{Name}
 use Rattle.meaning.specs.Message.{a_type, refusal}
 use Rattle.meaning.specs.Operators.{Checked, ok, refused}
-use Rattle.types.specs.Table.{Tab, capacity, Wf, denote}
+use Rattle.types.specs.Table.{Tab, Wf, denote}
 use Rattle.rules.specs.declared.Reason.{Reason}
 use Rattle.rules.specs.declared.Decision.{Decision}
 use Rattle.rules.specs.declared.Decision.TheVariants.{«Type» as Typed, Refused}

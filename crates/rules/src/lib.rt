@@ -1,5 +1,6 @@
 // What one node of an expression decides, given the types of its children: the rules of T's tc_expr, without its walk.
 #![tactic(auto)]
+
 ghost use Rattle.std.specs.Prelude.{◌≡◌, [], ◌∷◌, ◌<◌};
 ghost use Rattle.meaning.specs.Base.{is_in};
 ghost use Rattle.meaning.specs.Decode.{unary_of, binary_of};

@@ -1,14 +1,14 @@
 -- The walk of the sheet over what it has met: a known type changes nothing, and a type may be met after one of its parts.
 use mathlib.Core.Path.{◌≡◌, refl, sym, ap, ◌∙◌}
-use mathlib.Core.Logic.{◌⊎◌, inl, inr, ⊎_elim}
+use mathlib.Core.Logic.{⊎_elim}
 use mathlib.Core.List.Memᴰ
 use mathlib.Core.List.{List, [], ◌∷◌, ◌++◌, Memᴰ}
-use Prim.Native.Nat.{ℕ, suc, ◌+◌, ◌≤◌, ◌<◌}
+use Prim.Native.Nat.{ℕ, suc, ◌≤◌, ◌<◌}
 use native.Mathlib.Omega.{arith}
 use native.Mathlib.Decide.{dec_lt}
 use lib.ListN.{length, get_or, take, drop, take-append-drop}
-use lib.Seq.{drop-cons, take-suc}
-use Rattle.meaning.specs.Types.{Ty, unknown, kind, parts, part}
+use lib.Seq.{drop-cons}
+use Rattle.meaning.specs.Types.{Ty, unknown, kind, parts}
 use Rattle.meaning.specs.Sheet.{add_new, met}
 use Rattle.meaning.proofs.SheetTypes.{Known, Ordered}
 use Rattle.sheet.specs.Marks.{met_each}

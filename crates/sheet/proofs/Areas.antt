@@ -13,16 +13,16 @@ use Rattle.meaning.specs.Base.{if◌then◌else◌, words}
 use Rattle.meaning.specs.Types.{Ty, unknown, kind, parts, part}
 use Rattle.meaning.specs.Sheet.{Triple, laid, number, elements_in, elements_of, type_record, type_records}
 use Rattle.meaning.proofs.SheetWords.{words_length, laid_length}
-use Rattle.meaning.proofs.SheetTypes.{Known, Ordered, number_plain, number_le}
+use Rattle.meaning.proofs.SheetTypes.{Known, number_plain, number_le}
 use Rattle.words.specs.Words.{put_at}
 use Rattle.words.proofs.Laws.{put_nil, put_put, put_length, words_append}
-use Rattle.types.specs.Table.{Tab, tab, most_numbers, capacity, denote, Wf}
+use Rattle.types.specs.Table.{Tab, most_numbers, capacity, denote}
 use Rattle.types.specs.Reading.{KindOf, PartOf, PartsOf, HasPart, PartAt}
-use Rattle.types.proofs.Parts.{structured, kind_most, parts_few}
+use Rattle.types.proofs.Parts.{kind_most, parts_few}
 use Rattle.types.proofs.Readers.{in_room, has_part}
 use Rattle.sheet.specs.Listing.{start_at, length_at, type_at}
 use Rattle.sheet.specs.Marks.{most_written, order_from, count_in, tab_of, types_in, Marked}
-use Rattle.sheet.specs.Writing.{listed_size, listed_records, listed_texts, ElementsIn, Short, NumberOf, Put, Met, record_bytes, element_bytes, types_bytes, elements_bytes, names_bytes, Named, NamesFit, NamesPut, TextsFit}
+use Rattle.sheet.specs.Writing.{listed_size, listed_records, listed_texts, ElementsIn, NumberOf, Put, Met, record_bytes, element_bytes, types_bytes, elements_bytes, names_bytes, Named, NamesFit, NamesPut, TextsFit}
 use Rattle.sheet.proofs.Meeting.{parts_stand}
 use Rattle.sheet.proofs.Marking.{types_length, type_at_lem}
 use Rattle.sheet.proofs.Names.{size_step, records_step, texts_step, none_left, all_left}

@@ -2,25 +2,25 @@
 use mathlib.Core.Path.{◌≡◌, refl, sym, ap, ◌∙◌, subst}
 use mathlib.Core.Bool.{Bool, true, false, false≢true}
 use mathlib.Core.List.{List, [], ◌∷◌, ◌++◌}
-use Prim.Native.Nat.{ℕ, zero, suc, ◌+◌, ◌-◌, ◌*◌, ◌≤◌, ◌<◌}
+use Prim.Native.Nat.{ℕ, zero, suc, ◌+◌, ◌-◌, ◌≤◌, ◌<◌}
 use native.Mathlib.Omega.{arith}
 use native.Mathlib.Numerals.{add-one}
 use borrow.Author.Tests.{leb-true, leb-false, le-leb}
 use lib.Dec.{leb}
-use lib.ListN.{length, get_or, take, drop, replicate, length-replicate, length-append, length-drop}
+use lib.ListN.{length, take, drop, length-append}
 use lib.Seq.{take-append_seam}
 use Rattle.meaning.specs.Base.{◌and◌, if◌then◌else◌, same_text, word, words, count}
 use Rattle.meaning.specs.Image.{text_stands}
 use Rattle.meaning.specs.Sheet.{Entry, types_of, elements_of, sheet_of, texts_stand, within_limits}
-use Rattle.meaning.specs.Read.{entries_in, is_sheet, SheetOf}
+use Rattle.meaning.specs.Read.{entries_in, is_sheet}
 use Rattle.meaning.specs.Answer.{written, overlaid}
-use Rattle.meaning.proofs.Choices.{and_right, both, not_so, same_text_lem, text_same}
+use Rattle.meaning.proofs.Choices.{both, not_so, same_text_lem, text_same}
 use Rattle.meaning.proofs.SheetWords.{four_bytes}
 use Rattle.meaning.proofs.SheetForm.{sheet_is, is_sheet_lem, sheet_size, sheet_length}
 use Rattle.meaning.specs.Limits.{largest_sheet, most_names, most_types, most_elements}
-use Rattle.types.specs.Table.{Tab, denote, Wf}
-use Rattle.sheet.specs.Listing.{start_at, length_at, type_at, entry_at, listed_from, listed, Listing, Wrote}
-use Rattle.sheet.specs.Reading.{Bounds, Told, TypesRead, NamesRead, TextsInside, TextsTold, Compared, Reads}
+use Rattle.types.specs.Table.{Tab}
+use Rattle.sheet.specs.Listing.{start_at, length_at, entry_at, listed_from, listed, Listing, Wrote}
+use Rattle.sheet.specs.Reading.{Bounds, TypesRead, NamesRead, TextsInside, TextsTold, Compared, Reads}
 use Rattle.sheet.proofs.Naming.{entries_are, entries_listing, texts_of}
 
 -- ---- the texts

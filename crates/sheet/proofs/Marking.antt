@@ -1,25 +1,23 @@
 -- The marks: what they say, and that one more type is one more number.
-use mathlib.Core.Path.{◌≡◌, refl, sym, ap, ◌∙◌, subst}
-use mathlib.Core.Bool.{Bool, true, false}
-use mathlib.Core.Logic.{◌⊎◌, inl, inr, ⊎_elim}
+use mathlib.Core.Path.{◌≡◌, sym, ap, ◌∙◌, subst}
+use mathlib.Core.Logic.{⊎_elim}
 use mathlib.Core.List.Memᴰ
 use mathlib.Core.List.{List, [], ◌∷◌, ◌++◌, map, map-append, Memᴰ}
-use Prim.Native.Nat.{ℕ, zero, suc, ◌+◌, ◌-◌, ◌*◌, ◌≤◌, ◌<◌}
+use Prim.Native.Nat.{ℕ, zero, suc, ◌+◌, ◌-◌, ◌≤◌, ◌<◌}
 use native.Mathlib.Numerals.{add-one}
 use native.Mathlib.Omega.{arith}
-use native.Mathlib.Decide.{dec_lt, ℕ_discrete}
+use native.Mathlib.Decide.{ℕ_discrete}
 use borrow.Author.Tests.{eq-eqb, ne_eqb}
-use lib.Dec.{eqb}
-use lib.ListN.{length, get_or, set, take, drop, length-set, length-append, length-take, length-drop, length-map, get_or-map}
+use lib.ListN.{length, get_or, set, take, drop, length-set, length-append, length-drop, length-map, get_or-map}
 use lib.Seq.{get_or-set_same, get_or-set_other, take-set-le, drop-set-lt, drop-set-add, take-suc-set, get_or-take, get_or-drop, length-take-le}
 use Rattle.meaning.specs.Limits.{most_types}
 use Rattle.meaning.specs.Base.{if◌then◌else◌, count}
 use Rattle.meaning.specs.Types.{Ty, unknown}
-use Rattle.meaning.specs.Sheet.{add_new, position}
+use Rattle.meaning.specs.Sheet.{add_new}
 use Rattle.meaning.proofs.Choices.{count_long}
 use Rattle.meaning.proofs.SheetTypes.{Ordered}
 use Rattle.meaning.proofs.SheetWalk.{near, far, here}
-use Rattle.types.specs.Table.{Tab, tab, most_numbers, denote, Wf}
+use Rattle.types.specs.Table.{Tab, tab, most_numbers, denote}
 use Rattle.types.proofs.Laws.{unknown_number}
 use Rattle.sheet.specs.Marks.{order_from, met_cell, type_count_cell, element_count_cell, mark_cells, count_in, order_in, tab_of, types_in, Marked, completed, Completing}
 use Rattle.sheet.proofs.Meeting.{add_old, add_fresh, no_more}

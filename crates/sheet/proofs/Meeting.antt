@@ -1,15 +1,15 @@
 -- The walk of the sheet, type by type: a plain type and one that was met before change nothing, and any other comes after its parts.
 use mathlib.Core.Path.{◌≡◌, refl, ap}
-use mathlib.Core.Logic.{◌⊎◌, inl, inr, ⊎_elim}
+use mathlib.Core.Logic.{⊎_elim}
 use mathlib.Core.List.Memᴰ
-use mathlib.Core.List.{List, [], ◌∷◌, ◌++◌, map, append-nil, Memᴰ}
-use Prim.Native.Nat.{ℕ, zero, ◌+◌, ◌≤◌, ◌<◌}
+use mathlib.Core.List.{List, [], ◌∷◌, ◌++◌, map, Memᴰ}
+use Prim.Native.Nat.{◌≤◌, ◌<◌}
 use native.Mathlib.Omega.{arith}
 use lib.Seq.{append_snoc}
 use Rattle.meaning.specs.Types.{Ty, unknown, int, bool, string, float, nonetype, range, function, list, dict, tuple, map_iter, filter_iter, Tys, no_types, ◌⊕◌, kind, parts, elements}
 use Rattle.meaning.specs.Sheet.{Entry, add_new, met, met_all, types_of}
 use Rattle.meaning.proofs.SheetWalk.{Added, old, fresh, added}
-use Rattle.meaning.proofs.SheetTypes.{Known, Next, Ordered, Met, types_met}
+use Rattle.meaning.proofs.SheetTypes.{Known, Ordered, types_met}
 pub use Rattle.meaning.proofs.SheetRoom.{no_more}
 use Rattle.sheet.specs.Marks.{met_each}
 

@@ -1,14 +1,14 @@
 -- The names by their cells, one after the other, and the walk over their types.
-use mathlib.Core.Path.{◌≡◌, refl, sym, ap, ◌∙◌, subst}
-use mathlib.Core.List.{List, [], ◌∷◌, ◌++◌, map}
-use Prim.Native.Nat.{ℕ, zero, suc, ◌+◌, ◌-◌, ◌*◌, ◌≤◌, ◌<◌}
+use mathlib.Core.Path.{◌≡◌, sym, ap, ◌∙◌, subst}
+use mathlib.Core.List.{List, ◌∷◌, ◌++◌}
+use Prim.Native.Nat.{ℕ, suc, ◌+◌, ◌-◌, ◌*◌, ◌≤◌, ◌<◌}
 use native.Mathlib.Numerals.{add-one}
 use native.Mathlib.Omega.{arith}
-use lib.ListN.{length, get_or, take, drop}
-use Rattle.meaning.specs.Limits.{most_types, most_names, longest_name, most_text}
+use lib.ListN.{length, take, drop}
+use Rattle.meaning.specs.Limits.{most_types, longest_name, most_text}
 use Rattle.meaning.specs.Types.{Ty}
-use Rattle.meaning.specs.Sheet.{Triple, number, met}
-use Rattle.types.specs.Table.{Tab, tab, denote, Wf}
+use Rattle.meaning.specs.Sheet.{number, met}
+use Rattle.types.specs.Table.{Tab, denote}
 use Rattle.sheet.specs.Listing.{start_at, length_at, type_at}
 use Rattle.sheet.specs.Marks.{type_count, tab_of, types_in, Marked, met_each}
 use Rattle.sheet.specs.Opening.{open_cells, few_types, OpenRoom, Visiting, Visited}

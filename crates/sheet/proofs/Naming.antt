@@ -1,27 +1,25 @@
 -- The name records of a byte string, one after the other, and what they are in a sheet.
 use mathlib.Core.Path.{◌≡◌, refl, sym, ap, ◌∙◌, subst}
-use mathlib.Core.Bool.{Bool, true, false}
-use mathlib.Core.List.{List, [], ◌∷◌, ◌++◌, map}
-use Prim.Native.Nat.{ℕ, zero, suc, ◌+◌, ◌-◌, ◌*◌, ◌≤◌, ◌<◌}
+use mathlib.Core.Bool.{true}
+use mathlib.Core.List.{List, [], ◌∷◌, map}
+use Prim.Native.Nat.{ℕ, zero, suc, ◌+◌, ◌*◌, ◌≤◌, ◌<◌}
 use native.Mathlib.Omega.{arith}
-use native.Mathlib.Decide.{dec_lt, ℕ_discrete}
+use native.Mathlib.Decide.{ℕ_discrete}
 use borrow.Author.Tests.{leb-true}
-use lib.Dec.{leb}
-use lib.ListN.{length, get_or, set, take, drop, length-set, length-append}
-use lib.Seq.{drop-drop, get_or-set_same, get_or-set_other}
+use lib.ListN.{length, get_or, take, drop, length-append}
+use lib.Seq.{drop-drop}
 use Rattle.meaning.specs.Limits.{longest_name}
-use Rattle.meaning.specs.Base.{◌and◌, word, records, count}
+use Rattle.meaning.specs.Base.{word, records, count}
 use Rattle.meaning.specs.Types.{Ty}
 use Rattle.meaning.specs.Image.{text_stands}
-use Rattle.meaning.specs.Sheet.{Entry, Triple, types_of, number, spellings, name_records, sheet_of, texts_stand, within_limits}
+use Rattle.meaning.specs.Sheet.{Entry, Triple, types_of, spellings, name_records, texts_stand, within_limits}
 use Rattle.meaning.specs.Read.{triple, numbered, types_from, entries_from, entries_in, is_sheet}
 use Rattle.meaning.proofs.Choices.{and_left, and_right}
 use Rattle.meaning.proofs.SheetForm.{sheet_is, sheet_size}
-use Rattle.meaning.proofs.SheetAreas.{Areas}
 use Rattle.meaning.specs.Limits.{longest_name}
-use Rattle.types.specs.Table.{Tab, denote, Wf}
+use Rattle.types.specs.Table.{Tab, denote}
 use Rattle.sheet.specs.Listing.{name_cells, PutName, start_at, length_at, type_at, entry_at, listed_from, listed, Listing}
-use Rattle.sheet.specs.Reading.{names_at, texts_at, words_at, triples_at, Bounds, Told, number_in, TypesRead, NameRead, NameStep, NamesRead, Naming}
+use Rattle.sheet.specs.Reading.{names_at, texts_at, words_at, triples_at, Bounds, number_in, TypesRead, NameRead, NameStep, NamesRead, Naming}
 use Rattle.sheet.specs.Reading.{elements_in as elements_read}
 use Rattle.sheet.proofs.Reading.{sheet_head, number_means, number_below}
 use Rattle.sheet.proofs.Typing.{triple_at, triples_get, areas_of}

@@ -1,25 +1,24 @@
 -- One step of the walk over open types: the innermost one is completed, or its next part is passed or begun.
 use mathlib.Core.Path.{◌≡◌, refl, sym, ap, ◌∙◌, subst}
-use mathlib.Core.Bool.{Bool, true, false}
-use mathlib.Core.Logic.{◌⊎◌, inl, inr, ⊎_elim}
+use mathlib.Core.Bool.{Bool, false}
+use mathlib.Core.Logic.{⊎_elim}
 use mathlib.Core.List.Memᴰ
-use mathlib.Core.List.{List, [], ◌∷◌, ◌++◌, Memᴰ}
-use Prim.Native.Nat.{ℕ, zero, suc, ◌+◌, ◌-◌, ◌*◌, ◌≤◌, ◌<◌}
+use mathlib.Core.List.{List, [], Memᴰ}
+use Prim.Native.Nat.{ℕ, zero, suc, ◌+◌, ◌≤◌, ◌<◌}
 use native.Mathlib.Numerals.{add-one}
 use native.Mathlib.Omega.{arith}
-use native.Mathlib.Decide.{dec_lt, ℕ_discrete}
+use native.Mathlib.Decide.{ℕ_discrete}
 use lib.ListN.{length, get_or, set, take, length-set}
 use lib.Seq.{get_or-set_same, get_or-set_other, take-suc, take-length}
 use Rattle.meaning.specs.Limits.{most_types}
 use Rattle.meaning.specs.Types.{Ty, unknown, kind, parts, part}
 use Rattle.meaning.specs.Sheet.{add_new, met}
 use Rattle.meaning.proofs.SheetTypes.{Known, Ordered}
-use Rattle.types.specs.Table.{Tab, tab, most_numbers, denote, Wf}
-use Rattle.types.specs.Reading.{PartsOf, HasPart, PartAt}
+use Rattle.types.specs.Table.{Tab, most_numbers, denote}
+use Rattle.types.specs.Reading.{PartAt}
 use Rattle.types.proofs.Parts.{plain_kind_of, structured, parts_few}
-use Rattle.types.proofs.Readers.{has_part}
-use Rattle.sheet.specs.Marks.{count_in, type_count, tab_of, types_in, Marked, completed, Completing}
-use Rattle.sheet.specs.Opening.{type_cell, next_cell, open_type, next_part, parts_open, begun_at, New, Opened, unwound, parts_left, work, Stepping, Stepped}
+use Rattle.sheet.specs.Marks.{count_in, types_in, Marked, completed, Completing}
+use Rattle.sheet.specs.Opening.{type_cell, next_cell, open_type, next_part, parts_open, begun_at, New, Opened, unwound, parts_left, work}
 use Rattle.sheet.proofs.Meeting.{met_ordered, met_kept}
 use Rattle.sheet.proofs.Again.{known_more, known_snoc, met_next, met_after_part}
 use Rattle.sheet.proofs.Marking.{completing, completed_count, completed_other, completed_marked, completed_types}

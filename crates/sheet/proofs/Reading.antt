@@ -7,23 +7,23 @@ use native.Mathlib.Nat.{zero-add, mul-zero}
 use native.Mathlib.Numerals.{add-one}
 use native.Mathlib.Omega.{arith}
 use native.Mathlib.Decide.{dec_lt, ℕ_discrete}
-use borrow.Author.Tests.{eq-eqb, ne_eqb, lt-ltb, le-ltb, leb-true, leb-false, le-leb, lt-leb}
+use borrow.Author.Tests.{eq-eqb, ne_eqb, lt-ltb, le-ltb, leb-true, leb-false}
 pub use borrow.Author.Tests.{not-true, not-false}
-use lib.Dec.{eqb, leb, ltb}
-use lib.ListN.{length, get_or, set, take, drop, replicate, length-set, length-take, length-drop, length-map, length-replicate, get_or-map, get_or-eq_default}
-use lib.Seq.{take-suc-set, take-set-le, get_or-take, drop-drop}
+use lib.Dec.{eqb, leb}
+use lib.ListN.{length, get_or, set, take, drop, length-set, length-take, get_or-map, get_or-eq_default}
+use lib.Seq.{take-suc-set, get_or-take, drop-drop}
 use Rattle.meaning.specs.Limits.{largest_sheet, most_types, most_elements, most_names}
-use Rattle.meaning.specs.Base.{◌and◌, choose, if◌then◌else◌, word, records}
-use Rattle.meaning.specs.Types.{Ty, Tys, unknown, list, dict, tuple, map_iter, filter_iter, tys, no_types, plain}
-use Rattle.meaning.specs.Sheet.{Entry, Triple, types_of, elements_of, spellings, sheet_of, within_limits}
-use Rattle.meaning.specs.Read.{triple, numbered, type_from, entries_in, is_sheet, SheetOf}
+use Rattle.meaning.specs.Base.{choose, if◌then◌else◌, word, records}
+use Rattle.meaning.specs.Types.{Ty, unknown, tuple, tys}
+use Rattle.meaning.specs.Sheet.{types_of, elements_of, spellings}
+use Rattle.meaning.specs.Read.{numbered, type_from, entries_in, is_sheet}
 use Rattle.meaning.proofs.Choices.{not_so}
-use Rattle.meaning.proofs.SheetForm.{Limits, limits, sheet_is, sheet_size, sheet_length, Header, sheet_header}
+use Rattle.meaning.proofs.SheetForm.{limits, sheet_is, sheet_size, sheet_length, Header, sheet_header}
 use Rattle.meaning.proofs.Records.{first_word}
-use Rattle.types.specs.Table.{Tab, tab, denote, Wf, Grown, Made, built, shaped}
+use Rattle.types.specs.Table.{Tab, denote, Wf, Made, built, shaped}
 use Rattle.types.specs.Steps.{Asked, Listed}
 use Rattle.types.proofs.Laws.{plain_number, unknown_number, grown_refl}
-use Rattle.sheet.specs.Reading.{texts_at, words_at, Bounds, Told, number_in, Below, Gathering, Gathered, Tupling, tuple_at, Forming}
+use Rattle.sheet.specs.Reading.{words_at, Bounds, Told, number_in, Below, Gathering, Gathered, Tupling, tuple_at, Forming}
 
 -- ---- what a sheet's header says
 

@@ -1,17 +1,15 @@
 -- The elements of the sheet's types: how many, and the numbers that stand for types.
-use mathlib.Core.Path.{◌≡◌, refl, sym, ap, ◌∙◌, subst}
-use mathlib.Core.List.{List, [], ◌∷◌, ◌++◌, Memᴰ}
-use Prim.Native.Nat.{ℕ, suc, ◌+◌, ◌*◌, ◌≤◌, ◌<◌}
+use mathlib.Core.Path.{◌≡◌, refl, sym, ap, ◌∙◌}
+use mathlib.Core.List.{List, [], ◌++◌}
+use Prim.Native.Nat.{ℕ, ◌+◌, ◌*◌, ◌≤◌, ◌<◌}
 use native.Mathlib.Numerals.{add-one}
 use native.Mathlib.Omega.{arith}
-use native.Mathlib.Decide.{ℕ_discrete}
 use borrow.Author.Tests.{eq-eqb, ne_eqb}
-use lib.Dec.{eqb}
 use lib.ListN.{length, get_or, drop, drop_of_length-le, length-append}
 use lib.Seq.{drop-cons}
 use Rattle.meaning.specs.Base.{if◌then◌else◌}
 use Rattle.meaning.specs.Types.{Ty, unknown, kind, parts}
-use Rattle.meaning.specs.Sheet.{number, elements_in, elements_of}
+use Rattle.meaning.specs.Sheet.{elements_in, elements_of}
 use Rattle.meaning.proofs.SheetTypes.{number_plain, number_above}
 use Rattle.types.specs.Table.{Tab, most_numbers, capacity, denote, Wf}
 use Rattle.types.specs.Reading.{KindOf, PartsOf}

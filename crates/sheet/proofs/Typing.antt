@@ -1,30 +1,29 @@
 -- The type records of a byte string, one after the other, and what they are in a sheet.
 use mathlib.Core.Path.{◌≡◌, refl, sym, ap, ◌∙◌, subst}
-use mathlib.Core.Bool.{Bool, true, false}
+use mathlib.Core.Bool.{true}
 use mathlib.Core.List.{List, [], ◌∷◌, ◌++◌, map, map-append}
 use Prim.Native.Nat.{ℕ, zero, suc, ◌+◌, ◌-◌, ◌*◌, ◌≤◌, ◌<◌}
-use native.Mathlib.Nat.{add-zero, mul-zero}
+use native.Mathlib.Nat.{mul-zero}
 use native.Mathlib.Numerals.{add-one}
 use native.Mathlib.Omega.{arith}
 use native.Mathlib.Decide.{dec_lt, ℕ_discrete}
 use borrow.Author.Tests.{eq-eqb, ne_eqb}
-use lib.Dec.{eqb}
-use lib.ListN.{length, get_or, set, take, drop, length-set, length-append, length-take, length-drop, drop_of_length-le, get_or-append}
+use lib.ListN.{length, get_or, set, take, drop, length-set, length-append, drop_of_length-le, get_or-append}
 use lib.Seq.{drop-cons, drop-drop, take-suc-set, get_or-append_seam}
 use Rattle.meaning.specs.Limits.{most_types}
 use Rattle.meaning.specs.Base.{choose, if◌then◌else◌, word, records}
-use Rattle.meaning.specs.Types.{Ty, tuple, tys, kind, parts}
-use Rattle.meaning.specs.Sheet.{Entry, Triple, types_of, elements_in, elements_of, type_record, type_records, sheet_of}
-use Rattle.meaning.specs.Read.{triple, numbered, type_from, types_from, entries_in, is_sheet, SheetOf}
+use Rattle.meaning.specs.Types.{Ty, tuple, tys, kind}
+use Rattle.meaning.specs.Sheet.{Entry, Triple, types_of, elements_in, elements_of, type_record, type_records}
+use Rattle.meaning.specs.Read.{triple, numbered, type_from, types_from, entries_in, is_sheet}
 use Rattle.meaning.proofs.Choices.{records_many}
 use Rattle.meaning.proofs.SheetForm.{sheet_is}
 use Rattle.meaning.proofs.SheetAreas.{Areas, sheet_areas}
 use Rattle.meaning.proofs.Records.{word_drop, first_word, record_at}
 use Rattle.types.specs.Table.{most_numbers, Tab, tab, capacity, denote, Wf, Grown, Made}
-use Rattle.sheet.specs.Reading.{elements_at, words_at, triples_at, tuple_sum, Bounds, Told, Below, Tupling, tuple_at, Forming, types_left, Typing, Typed, TypesRead}
+use Rattle.sheet.specs.Reading.{elements_at, words_at, triples_at, tuple_sum, Bounds, Below, Tupling, tuple_at, Forming, types_left, Typing, Typed, TypesRead}
 use Rattle.sheet.specs.Reading.{elements_in as elements_read}
 use Rattle.sheet.proofs.Sizes.{elements_tuple, elements_none}
-use Rattle.sheet.proofs.Reading.{sheet_head, told_no, told_yes}
+use Rattle.sheet.proofs.Reading.{sheet_head}
 
 -- ---- records and words by their place
 

@@ -1,25 +1,25 @@
 -- `step` and `visit`: each step comes to the same, and when no type is open any more the visited one is met.
 use mathlib.Core.Path.{◌≡◌, refl, sym, ap, ◌∙◌, subst}
 use mathlib.Core.Bool.{Bool, true, false, false≢true}
-use mathlib.Core.Logic.{◌⊎◌, inl, inr, ⊎_elim}
+use mathlib.Core.Logic.{inl, inr}
 use mathlib.Core.List.Memᴰ
-use mathlib.Core.List.{List, Memᴰ}
-use Prim.Native.Nat.{ℕ, zero, suc, ◌+◌, ◌-◌, ◌*◌, ◌≤◌, ◌<◌}
+use mathlib.Core.List.{List}
+use Prim.Native.Nat.{ℕ, suc, ◌+◌, ◌-◌, ◌≤◌, ◌<◌}
 use native.Mathlib.Omega.{arith}
 use borrow.Author.Tests.{eqb-true, eqb-false}
 use lib.Dec.{eqb}
 use lib.ListN.{length, get_or, set, take, length-set}
 use lib.Seq.{get_or-set_same, get_or-set_other}
 use Rattle.meaning.specs.Limits.{most_types}
-use Rattle.meaning.specs.Types.{Ty, kind, parts}
+use Rattle.meaning.specs.Types.{Ty, parts}
 use Rattle.meaning.specs.Sheet.{met}
 use Rattle.meaning.proofs.SheetTypes.{Known}
 use Rattle.types.specs.Table.{Tab, most_numbers, capacity, denote}
 use Rattle.types.specs.Reading.{PartsOf, HasPart, PartAt}
 use Rattle.types.proofs.Parts.{number_small}
 use Rattle.types.proofs.Readers.{in_room, has_part}
-use Rattle.sheet.specs.Marks.{type_count, tab_of, types_in, Marked, completed, Completing}
-use Rattle.sheet.specs.Opening.{type_cell, next_cell, open_type, next_part, parts_open, begun_at, New, Opened, unwound, work, OpenRoom, Visiting, Visited, Stepping, Stepped}
+use Rattle.sheet.specs.Marks.{tab_of, types_in, completed, Completing}
+use Rattle.sheet.specs.Opening.{type_cell, next_cell, open_type, next_part, parts_open, begun_at, New, Opened, unwound, work, Visiting, Visited, Stepping, Stepped}
 use Rattle.sheet.proofs.Again.{met_still}
 use Rattle.sheet.proofs.Marking.{own_tab}
 use Rattle.sheet.proofs.Opening.{new_no, top_below, depth_small, cells_there, next_small, top_completing, closed_opened, closed_comes, closed_less, part_below, passed_opened, passed_comes, passed_less, begun_there, begun_opened, begun_comes, begun_less}

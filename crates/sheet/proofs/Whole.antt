@@ -1,24 +1,22 @@
 -- The sheet as a whole: the areas end to end are the sheet of the names, and their sizes make its length.
 use mathlib.Core.Path.{◌≡◌, refl, sym, ap, ◌∙◌, subst}
-use mathlib.Core.Bool.{Bool, true, false}
-use mathlib.Core.Logic.{⊎_elim}
+use mathlib.Core.Bool.{true, false}
 use mathlib.Core.List.Memᴰ
 use mathlib.Core.List.{List, [], ◌∷◌, ◌++◌, map, Memᴰ}
-use Prim.Native.Nat.{ℕ, zero, suc, ◌+◌, ◌-◌, ◌*◌, ◌≤◌, ◌<◌}
-use native.Mathlib.Nat.{zero-add}
+use Prim.Native.Nat.{ℕ, zero, suc, ◌+◌, ◌*◌, ◌≤◌, ◌<◌}
 use native.Mathlib.Omega.{arith}
-use native.Mathlib.Decide.{dec_lt, ℕ_discrete}
+use native.Mathlib.Decide.{ℕ_discrete}
 use borrow.Author.Tests.{le-leb, lt-leb}
 use lib.Dec.{leb}
-use lib.ListN.{length, get_or, set, take, drop, replicate, length-set, length-append, length-drop, length-map, length-replicate, get_or-replicate, get_or-eq_default}
+use lib.ListN.{length, get_or, set, take, drop, replicate, length-set, length-append, length-drop, length-map, length-replicate, get_or-replicate}
 use lib.Seq.{length-take-le, get_or-set_same, get_or-set_other}
 use Rattle.meaning.specs.Limits.{most_types, most_text}
 use Rattle.meaning.specs.Base.{if◌then◌else◌, words, count}
-use Rattle.meaning.specs.Types.{Ty, kind}
-use Rattle.meaning.specs.Sheet.{Entry, laid, types_of, number, elements_of, type_records, spellings, name_records, sheet_of}
-use Rattle.meaning.specs.Answer.{written, overlaid}
+use Rattle.meaning.specs.Types.{Ty}
+use Rattle.meaning.specs.Sheet.{Entry, types_of, number, elements_of, type_records, spellings, name_records, sheet_of}
+use Rattle.meaning.specs.Answer.{written}
 use Rattle.meaning.proofs.SheetWords.{words_length, laid_length}
-use Rattle.meaning.proofs.SheetTypes.{Known, Ordered, types_met}
+use Rattle.meaning.proofs.SheetTypes.{types_met}
 use Rattle.meaning.proofs.SheetRead.{types_many, names_many}
 use Rattle.meaning.proofs.SheetForm.{sheet_size}
 use Rattle.meaning.proofs.Answers.{overlaid_none}
@@ -26,7 +24,7 @@ use Rattle.words.specs.Words.{put_at}
 use Rattle.words.proofs.Laws.{put_overlaid}
 use Rattle.types.specs.Table.{Tab, tab, denote, Wf}
 use Rattle.sheet.specs.Listing.{start_at, length_at, type_at, entry_at, listed_from, listed, Listing, Wrote}
-use Rattle.sheet.specs.Marks.{mark_cells, met_cell, type_count_cell, element_count_cell, order_from, most_written, count_in, order_in, tab_of, types_in, Marked, met_each}
+use Rattle.sheet.specs.Marks.{mark_cells, met_cell, type_count_cell, element_count_cell, order_from, most_written, count_in, tab_of, types_in, Marked, met_each}
 use Rattle.sheet.specs.Writing.{listed_types, listed_size, listed_records, listed_texts, Meeting, MetAll, Short, Put, types_bytes, elements_bytes, names_bytes, Named, NamesFit, NamesPut, TextsFit, Blank, header_bytes, Filling}
 use Rattle.sheet.proofs.Marking.{own_tab, types_length}
 use Rattle.sheet.proofs.Areas.{put_then, put_as}

@@ -5,7 +5,7 @@ use Rattle.meaning.specs.Base.{if◌then◌else◌, word, records}
 use Rattle.meaning.specs.Types.{Ty, tuple, tys}
 use Rattle.meaning.specs.Sheet.{Entry, Triple, sheet_of, texts_stand}
 use Rattle.meaning.specs.Read.{triple, numbered, type_from, types_from, entries_in, is_sheet}
-use Rattle.types.specs.Table.{Tab, tab, most_numbers, capacity, denote, Wf, Grown, Made}
+use Rattle.types.specs.Table.{Tab, most_numbers, capacity, denote, Wf, Grown}
 use Rattle.sheet.specs.Listing.{name_cells, start_at, length_at, type_at, SameName, listed, Listing}
 
 -- ---- the areas

@@ -1,5 +1,6 @@
 // The type sheet: its writer, its reader, and the list of names that both speak of.
 #![tactic(auto)]
+
 pub mod header;
 pub mod list;
 mod reader;

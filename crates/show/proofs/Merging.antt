@@ -10,7 +10,7 @@ use lib.Seq.{drop-cons}
 use Rattle.meaning.specs.Base.{bytes, before}
 use Rattle.meaning.specs.Types.{Ty-discrete, unknown, same}
 use Rattle.meaning.specs.Sheet.{Entry}
-use Rattle.meaning.specs.Show.{entry_text, turned, change_text, changes_text, all_came, changes}
+use Rattle.meaning.specs.Show.{entry_text, change_text, changes_text, all_came, changes}
 use Rattle.meaning.proofs.Choices.{same_yes, same_no}
 use Rattle.meaning.proofs.Changed.{neither, next_comes, next_goes, next_came, next_went, next_both, retyped_same, retyped_other}
 use Rattle.message.proofs.Writing.{Left, left_all, left_step, left_as, left_none}

@@ -1,5 +1,6 @@
 // A sheet in words, for the people who approve it: its names with their types, and what changed between two sheets.
 #![tactic(auto)]
+
 ghost use Rattle.std.specs.Prelude.{◌≡◌, not, [], ◌∷◌, ◌++◌, ◌+◌, ◌<◌, ◌≤◌, leb, length, take};
 ghost use Rattle.meaning.specs.Limits.{longest_shown};
 ghost use Rattle.meaning.specs.Base.{bytes};

@@ -24,7 +24,7 @@ use Rattle.state.specs.declared.Typed.TheVariants as typed
 use Rattle.state.specs.declared.Outcome.{Outcome}
 use Rattle.state.specs.declared.Outcome.TheVariants as outcome
 use Rattle.state.specs.Giving.{Told, Given}
-use Rattle.state.specs.Notes.{types_in, elements_in, code_in, place_in, first_in, second_in, since_in, tab_in, Noting, Kept, Counted, CountsKept, Refused, Conflicted}
+use Rattle.state.specs.Notes.{types_in, elements_in, code_in, place_in, first_in, second_in, tab_in, Noting, Kept, Counted, CountsKept, Refused, Conflicted}
 use Rattle.state.specs.Answer.{typed_code, number_of, Answered, Settles, code_of, Settled}
 
 -- ---- the cases of an answer

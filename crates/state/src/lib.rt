@@ -1,5 +1,6 @@
 // What the walk carries from node to node: its answers, the notes, and the stack of types that wait for a rule.
 #![tactic(auto)]
+
 ghost use Rattle.std.specs.Prelude.{◌≡◌, ◌<◌, get_or, set};
 ghost use Rattle.meaning.specs.Limits.{most_nodes};
 ghost use Rattle.types.specs.Table.{most_numbers};

@@ -1,6 +1,7 @@
 // Whether a program has "no Def anywhere inside an If" (document 02), by form alone: one pass over the nodes, with no
 // recursion over the tree. Nothing is asked of the caller.
 #![tactic(auto)]
+
 ghost use Rattle.std.specs.Prelude.{◌≡◌};
 ghost use Rattle.std.proofs.Math.Option.{some};
 ghost use Rattle.meaning.specs.Image.{nodes_of};

@@ -21,7 +21,7 @@ use Rattle.meaning.specs.Walk.{Setting, dropping, State, state, End, done, wrong
 use Rattle.meaning.proofs.Decoding.{if_at, arms_down}
 use Rattle.meaning.proofs.Faults.{Sound}
 use Rattle.types.specs.Table.{Tab, tab, denote}
-use Rattle.frames.specs.Env.{Rows, absent_row, slot, frames_of, first_node, first_number, Noted, settle_name, settle, merge_code, clash_name, merge_end, Committed}
+use Rattle.frames.specs.Env.{Rows, absent_row, slot, frames_of, first_number, Noted, settle_name, settle, merge_code, clash_name, merge_end, Committed}
 use Rattle.frames.specs.declared.Disagreement.{Disagreement}
 use Rattle.frames.specs.declared.Merge.{Merge}
 use Rattle.frames.specs.declared.Merge.TheVariants.{Whole, Clash}

@@ -3,7 +3,6 @@ use mathlib.Core.Path.{◌≡◌, refl, sym, ap, ◌∙◌}
 use mathlib.Core.Bool.{Bool, true, false}
 use mathlib.Core.List.{List}
 use mathlib.Core.Logic.{◌⊎◌, inl, inr}
-use denote.Enum.Declared.{tag_of}
 use mathlib.Core.Option.{none}
 use lib.Dec.{eqb}
 use Prim.Native.Nat.{ℕ, ◌-◌, ◌≤◌, ◌<◌}
@@ -35,7 +34,6 @@ use Rattle.targets.proofs.Endings.{first_none}
 use Rattle.targets.specs.Ending.{first_at, ended, Assigned}
 use Rattle.stmt.specs.declared.End.{End as Answer}
 use Rattle.stmt.specs.declared.End.TheVariants as answer
-use Rattle.stmt.specs.contracts.End.{the_type}
 use Rattle.stmt.specs.Contract.{state_of, acted, walked_at, body_at, armed_at, end_code, end_of, ended_as, Tells, Standing, Stmt, Done, Iterated, Refuses, Ran}
 use Rattle.stmt.proofs.Laws.{few_nodes, done_any, ready_nodes}
 

@@ -8,7 +8,7 @@ use native.Mathlib.Omega.{arith}
 use native.Mathlib.Decide.{ℕ_discrete}
 use native.Mathlib.Numerals.{add-one}
 use borrow.Author.Tests.{lt-ltb, le-ltb}
-use lib.ListN.{set, replicate}
+use lib.ListN.{set}
 use Rattle.meaning.specs.Base.{◌or◌, if◌then◌else◌, choose, is_in, if_some}
 use Rattle.meaning.specs.Tree.{place}
 use Rattle.meaning.specs.Image.{Name, node_count, nodes_of, node_of, names_of}

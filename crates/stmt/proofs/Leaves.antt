@@ -11,8 +11,7 @@ use native.Mathlib.Numerals.{add-one}
 use borrow.Author.Tests.{ne_eqb}
 use lib.ListN.{set}
 use Rattle.meaning.specs.Base.{◌or◌, if◌then◌else◌, choose, is_in, if_some}
-use Rattle.meaning.specs.Types.{Ty, unknown, bool, plain}
-use Rattle.meaning.specs.Tree.{place}
+use Rattle.meaning.specs.Types.{Ty, bool, plain}
 use Rattle.meaning.specs.Image.{Name, node_count, nodes_of, node_of, names_of}
 use Rattle.meaning.specs.Decode.{stop_of, past, params_from, expr_at, block_at, act_at}
 use Rattle.meaning.specs.Frames.{blank, Frame, Frames, write}

@@ -1,5 +1,5 @@
 -- What the walk over the statements asks, and how it ends.
-use Rattle.std.specs.Prelude.{◌≡◌, Bool, true, false, List, [], ◌∷◌, ℕ, ◌+◌, ◌≤◌, ◌<◌, ltb, length, get_or}
+use Rattle.std.specs.Prelude.{◌≡◌, Bool, List, [], ◌∷◌, ℕ, ◌+◌, ◌≤◌, ◌<◌, ltb, length}
 use Rattle.meaning.specs.Limits.{most_nodes, deepest}
 use Rattle.meaning.specs.Base.{if◌then◌else◌}
 use Rattle.meaning.specs.Types.{Ty}

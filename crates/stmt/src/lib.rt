@@ -4,6 +4,7 @@
 // There is one walk for both settings of document 02: `plain` goes with every statement, and where it is false, the
 // setting is strict.
 #![tactic(auto)]
+
 ghost use Rattle.std.specs.Prelude.{◌≡◌, ◌-◌};
 ghost use Rattle.meaning.specs.Base.{if◌then◌else◌};
 ghost use Rattle.types.specs.Table.{tab};

@@ -1,11 +1,10 @@
 -- Damaged images, with the refusals 1 to 9. Made by tools/definition-tables.
 use mathlib.Core.Path.{◌≡◌, refl}
 use mathlib.Core.List.{List, [], ◌∷◌, ◌++◌, map}
-use Prim.Native.Nat.{ℕ}
 use Rattle.meaning.specs.Limits.{sheet_buffer, message_buffer}
 use Rattle.meaning.specs.Base.{bytes, words}
-use Rattle.meaning.specs.Answer.{Answer, answer, meaning_open}
-use Rattle.meaning.proofs.Rows.{Run, image, accepts, refuses}
+use Rattle.meaning.specs.Answer.{answer, meaning_open}
+use Rattle.meaning.proofs.Rows.{Run, image, refuses}
 
 abbrev damaged : List Run
 damaged =

@@ -5,7 +5,7 @@ use mathlib.Core.List.{List, [], ◌∷◌, ◌++◌, map}
 use Prim.Native.Nat.{ℕ}
 use lib.ListN.{length}
 use Rattle.meaning.specs.Limits.{sheet_buffer, message_buffer}
-use Rattle.meaning.specs.Base.{bytes, words}
+use Rattle.meaning.specs.Base.{words}
 use Rattle.meaning.specs.Read.{is_sheet}
 use Rattle.meaning.specs.Answer.{Answer, answer, meaning_open}
 use Rattle.meaning.proofs.Rows.{image}

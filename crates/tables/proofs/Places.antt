@@ -2,7 +2,6 @@
 -- in strict.
 use mathlib.Core.Path.{◌≡◌, refl}
 use mathlib.Core.List.{List, [], ◌∷◌, map}
-use Prim.Native.Nat.{ℕ}
 use Rattle.meaning.specs.Limits.{sheet_buffer, message_buffer}
 use Rattle.meaning.specs.Base.{bytes}
 use Rattle.meaning.specs.Answer.{answer, meaning_open}

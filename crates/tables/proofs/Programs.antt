@@ -1,10 +1,9 @@
 -- Generated programs, with the answers of T. Made by tools/definition-tables.
 use mathlib.Core.Path.{◌≡◌, refl}
 use mathlib.Core.List.{List, [], ◌∷◌, ◌++◌, map}
-use Prim.Native.Nat.{ℕ}
 use Rattle.meaning.specs.Limits.{sheet_buffer, message_buffer}
 use Rattle.meaning.specs.Base.{bytes, words}
-use Rattle.meaning.specs.Answer.{Answer, answer, meaning_open}
+use Rattle.meaning.specs.Answer.{answer, meaning_open}
 use Rattle.meaning.proofs.Rows.{Run, image, accepts, refuses, as_before}
 
 abbrev programs : List Run

@@ -6,7 +6,7 @@ use native.Mathlib.Omega.{arith}
 use native.Mathlib.Numerals.{add-one}
 use lib.ListN.{length, get_or, drop}
 use Rattle.meaning.specs.Types.{Ty, unknown}
-use Rattle.meaning.specs.Tree.{Expr, at, size}
+use Rattle.meaning.specs.Tree.{Expr, size}
 use Rattle.meaning.specs.Image.{Name, Node, node_of, nodes_of, names_of, node_count}
 use Rattle.meaning.specs.Decode.{stop_of, exprs_from, expr_at}
 use Rattle.meaning.specs.Walk.{State, state, End, ◌>>=◌, unpack_into, assign_to, assign_each}

@@ -1,5 +1,5 @@
 -- How a part of the walk over the statements ended, by a code, where it points and two numbers; and what it leaves.
-use Rattle.std.specs.Prelude.{◌≡◌, true, false, List, ℕ, ◌+◌, ◌≤◌, ◌<◌, eqb, length}
+use Rattle.std.specs.Prelude.{◌≡◌, List, ℕ, ◌+◌, ◌≤◌, ◌<◌, eqb, length}
 use Rattle.std.proofs.Math.Option.{Option, none}
 use Rattle.meaning.specs.Limits.{most_nodes}
 use Rattle.meaning.specs.Base.{◌or◌, if◌then◌else◌}

@@ -1,5 +1,6 @@
 // Assignment to a target: T's tc_assign_target.
 #![tactic(auto)]
+
 ghost use Rattle.std.specs.Prelude.{◌≡◌, ◌<◌};
 ghost use Rattle.types.specs.Reading.{Known};
 ghost use Rattle.meaning.specs.Limits.{most_names, most_frames, most_nodes};

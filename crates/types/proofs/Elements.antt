@@ -1,15 +1,14 @@
 -- The types that a table holds: no two are equal, with each type stand its parts, and their Tuples have no more elements together than
 -- are in use.
-use mathlib.Core.Path.{◌≡◌, refl, sym, ap, ◌∙◌}
-use mathlib.Core.List.{List, [], ◌∷◌, map}
+use mathlib.Core.Path.{◌≡◌, ap, ◌∙◌}
+use mathlib.Core.List.{map}
 use Prim.Native.Nat.{ℕ, zero, suc, ◌+◌, ◌-◌, ◌≤◌, ◌<◌}
 use native.Mathlib.Omega.{arith}
 use native.Mathlib.Decide.{ℕ_discrete}
-use borrow.Author.Tests.{eq-eqb, ne_eqb}
+use borrow.Author.Tests.{ne_eqb}
 use lib.Dec.{eqb}
 use lib.ListN.{length, length-append}
 use Rattle.meaning.specs.Base.{count, if◌then◌else◌}
-use Rattle.meaning.specs.Types.{Ty, kind, parts}
 use Rattle.meaning.specs.Sheet.{elements_in, elements_of}
 use Rattle.types.specs.Table.{Tab, kind_at, second_at, tupled, denote, Wf}
 use Rattle.types.proofs.Laws.{kind_of, parts_many}

@@ -2,7 +2,7 @@
 use mathlib.Core.Path.{◌≡◌, refl, sym, ap, ◌∙◌}
 use mathlib.Core.Bool.{Bool, true, false}
 use mathlib.Core.List.{map}
-use Prim.Native.Nat.{ℕ, ◌+◌, ◌*◌, ◌<◌}
+use Prim.Native.Nat.{ℕ, ◌+◌, ◌<◌}
 use native.Mathlib.Omega.{arith}
 use native.Mathlib.Decide.{dec_lt, ℕ_discrete}
 use borrow.Author.Tests.{eqb-true, eqb-false}
@@ -12,7 +12,7 @@ use Rattle.meaning.specs.Base.{choose, if◌then◌else◌}
 use Rattle.meaning.specs.Types.{unknown, list, dict, tuple, map_iter, filter_iter, tys, same, kind, plain, parts, part}
 use Rattle.meaning.proofs.Choices.{same_yes, same_no, plain_kind}
 use Rattle.types.specs.Layout.{elements_from}
-use Rattle.types.specs.Table.{Tab, capacity, kind_at, first_at, second_at, elements_at, shaped, shape, denote, Means, Wf, Grown}
+use Rattle.types.specs.Table.{Tab, kind_at, first_at, second_at, elements_at, shaped, shape, denote, Means, Wf, Grown}
 use Rattle.types.proofs.Room.{capacity_within}
 use Rattle.types.proofs.Shapes.{shaped_kind, shaped_first, shaped_second}
 use Rattle.types.proofs.Pieces.{piece_long, piece_at, tuple_parts}

@@ -9,7 +9,7 @@ use lib.ListN.{length, get_or, get_or-append}
 use Rattle.meaning.specs.Types.{Ty, unknown, int, bool, string, float, nonetype, range, function, list, dict, tuple, map_iter, filter_iter, kind, parts, part}
 use Rattle.meaning.proofs.Choices.{plain_kind}
 use Rattle.types.specs.Table.{Tab, tab, most_numbers, kind_at, second_at, shape, trees, denote, Means, Wf}
-use Rattle.types.specs.Reading.{Known, type_at}
+use Rattle.types.specs.Reading.{type_at}
 use Rattle.types.proofs.Rows.{length_trees}
 use Rattle.types.proofs.Laws.{kind_of, parts_many, plain_number, first_part, second_part, element_part}
 

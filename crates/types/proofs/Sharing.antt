@@ -2,7 +2,7 @@
 use mathlib.Core.Path.{◌≡◌, refl, sym, ap, ◌∙◌}
 use mathlib.Core.Bool.{Bool, true, false}
 use mathlib.Core.List.{List, [], ◌∷◌, map}
-use Prim.Native.Nat.{ℕ, suc, ◌+◌, ◌*◌, ◌≤◌, ◌<◌}
+use Prim.Native.Nat.{ℕ, suc, ◌+◌, ◌≤◌, ◌<◌}
 use native.Mathlib.Nat.{add-zero}
 use native.Mathlib.Numerals.{add-one}
 use native.Mathlib.Omega.{arith}
@@ -13,7 +13,7 @@ use lib.Seq.{drop-cons}
 use Rattle.meaning.specs.Base.{◌and◌, if◌then◌else◌, all}
 use Rattle.meaning.specs.Types.{unknown, same, common}
 use Rattle.types.specs.Layout.{first_in, second_in, elements_from}
-use Rattle.types.specs.Table.{Tab, capacity, kind_at, first_at, second_at, elements_at, denote, Wf}
+use Rattle.types.specs.Table.{Tab, kind_at, first_at, second_at, elements_at, denote, Wf}
 use Rattle.types.specs.Reading.{shared, CommonOf}
 use Rattle.types.proofs.Room.{capacity_within}
 use Rattle.types.proofs.Pieces.{piece, piece_at, piece_long}

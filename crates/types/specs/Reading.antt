@@ -1,5 +1,5 @@
 -- What the readers of the table tell of number i, whatever the counts of the table that the cells cs hold; and what they need.
-use Rattle.std.specs.Prelude.{◌≡◌, Bool, List, [], ◌∷◌, ℕ, suc, ◌+◌, ◌*◌, ◌≤◌, ◌<◌, eqb, length, get_or}
+use Rattle.std.specs.Prelude.{◌≡◌, Bool, List, [], ◌∷◌, ℕ, suc, ◌+◌, ◌≤◌, ◌<◌, eqb, length}
 use Rattle.std.proofs.Math.Option.{Option, none, some}
 use Rattle.meaning.specs.Base.{if◌then◌else◌, all}
 use Rattle.meaning.specs.Types.{Ty, kind, parts, part, common}

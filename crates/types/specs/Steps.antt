@@ -1,5 +1,5 @@
 -- The steps that form a type: what is asked, what a search of the records finds, what is written.
-use Rattle.std.specs.Prelude.{◌≡◌, List, Bool, true, false, ℕ, ◌+◌, ◌*◌, ◌≤◌, ◌<◌, length, get_or}
+use Rattle.std.specs.Prelude.{◌≡◌, List, Bool, true, false, ℕ, ◌+◌, ◌≤◌, ◌<◌, length, get_or}
 use Rattle.types.specs.Layout.{kind_cell, link_cell, record_end, kind_in, first_in, second_in, link_in, elements_from, slots_from, slots_end}
 use Rattle.types.specs.Table.{Tab, capacity, slot_at, Fresh, Wf}
 

@@ -1,5 +1,5 @@
 -- The table of numbered types: what a number means, when a table is sound, and what may become of one.
-use Rattle.std.specs.Prelude.{◌≡◌, List, [], ◌∷◌, ◌++◌, map, ℕ, zero, suc, ◌+◌, ◌*◌, ◌/◌, ◌%◌, ◌≤◌, ◌<◌, eqb, length, get_or, take, drop}
+use Rattle.std.specs.Prelude.{◌≡◌, List, [], ◌∷◌, ◌++◌, map, ℕ, zero, suc, ◌+◌, ◌*◌, ◌%◌, ◌≤◌, ◌<◌, eqb, length, get_or, take, drop}
 use Rattle.meaning.specs.Limits.{most_nodes}
 use Rattle.meaning.specs.Base.{choose, if◌then◌else◌}
 use Rattle.types.specs.Layout.{kind_cell, kind_in, first_in, second_in, link_in, elements_from, slots_from, slots_end}

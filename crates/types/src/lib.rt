@@ -7,6 +7,7 @@
 // A record's hash names its slot. The slot has the last number of its chain and a record's link the one before; a
 // number below 8 ends it.
 #![tactic(auto)]
+
 ghost use Rattle.std.specs.Prelude.{◌≡◌, map, length, get_or, take, drop, ℕ, ◌+◌, ◌*◌, ◌≤◌, ◌<◌};
 ghost use Rattle.meaning.specs.Types.{tuple, tys};
 ghost use Rattle.types.specs.Layout.{capacity, second_cell, link_cell, elements_from};

@@ -22,7 +22,7 @@ use Rattle.meaning.specs.Line.{spaced, refused_line, line_of}
 use Rattle.meaning.specs.Show.{entries_text, Change, changes_text, changes, InWords, show_answer, changes_answer}
 use Rattle.meaning.specs.Image.{Fault, image_fault}
 use Rattle.meaning.specs.Known.{Steadiness, steady, def_in_if, faulty, steadiness}
-use Rattle.meaning.specs.Load.{Loading, loads, look, loading, loading_number}
+use Rattle.meaning.specs.Load.{Loading, loading, loading_number}
 use Rattle.meaning.proofs.Faults.{sound}
 use Rattle.meaning.proofs.Converted.{convert_refused, convert_short, convert_done}
 use Rattle.meaning.proofs.SheetForm.{read_yes}

@@ -1,12 +1,10 @@
 -- What the words ask for, case by case; and examples. Assumes nothing.
 use mathlib.Core.Path.{◌≡◌, refl, sym, ap, ◌∙◌}
 use mathlib.Core.Bool.{Bool, true, false}
-use mathlib.Core.Logic.{⊎_elim}
 use mathlib.Core.List.{List, [], ◌∷◌}
 use Prim.Native.Nat.{ℕ, ◌+◌, ◌≤◌, min}
 use native.Mathlib.Omega.{arith}
 use borrow.Author.Tests.{eq-eqb, ne_eqb}
-use types.Run.{OneOf}
 use denote.Enum.Declared.{tag_of}
 use lib.ListN.{length, get_or}
 use Rattle.meaning.specs.Base.{if◌then◌else◌, bytes, same_text}
@@ -21,7 +19,6 @@ use Rattle.verbs.specs.declared.Files.TheVariants.{None, One, Two, Wrong}
 use Rattle.verbs.specs.declared.Asked.{Asked}
 use Rattle.verbs.specs.declared.Command.{Command}
 use Rattle.verbs.specs.declared.Command.TheVariants.{CheckImage, CheckKnown, WriteSheet, ShowSheet, TellChanges, LoadImage, ConvertImage, Usage, NoVerb, BadWords}
-use Rattle.verbs.specs.contracts.Verb.{the_type as verb-type}
 use Rattle.verbs.specs.contracts.Files.{the_type}
 
 -- ---- a word

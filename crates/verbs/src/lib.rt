@@ -1,6 +1,7 @@
 // What the words behind the program's name ask for, and what each verb says, over slices: the bytes for standard
 // output and the status. The program `cablebirch` reads the files and writes what is said.
 #![tactic(auto)]
+
 ghost use Rattle.std.specs.Prelude.{◌≡◌, true, ◌+◌, ◌<◌, ◌≤◌, length};
 ghost use Rattle.meaning.specs.Limits.{sheet_buffer, message_buffer, largest_show, largest_changes};
 ghost use Rattle.meaning.specs.Read.{is_sheet};

@@ -1,6 +1,5 @@
 use Rattle.bound.proofs.Marking.{variable_low, aiming_first, aiming_tuple, aiming_variable, aiming_other, aiming_end}
 use Rattle.image.proofs.Here.{here, stop_up}
-use Prim.Native.Nat.{◌-◌}
 use native.Mathlib.Omega.{arith}
 use Rattle.bound.proofs.mark_target.Goals as goal
 

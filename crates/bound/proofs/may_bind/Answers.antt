@@ -1,6 +1,5 @@
 use Rattle.bound.proofs.Marking.{marking_first, marking_next, marking_end}
 use Rattle.image.proofs.Records.{head_long}
-use Prim.Native.Nat.{◌-◌}
 use native.Mathlib.Omega.{arith}
 use Rattle.bound.proofs.may_bind.Goals as goal
 

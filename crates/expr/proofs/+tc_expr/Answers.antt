@@ -1,5 +1,5 @@
 use Rattle.state.proofs.Noting.{same_tab}
-use mathlib.Core.Logic.{⊎_elim, inl, inr}
+use mathlib.Core.Logic.{inl, inr}
 use Rattle.expr.proofs.Arms.{above_27, lambda_done}
 use Rattle.expr.proofs.Calling.{operand_any, not_binary}
 use Rattle.expr.proofs.Rows.{no_binary}
@@ -23,17 +23,6 @@ use mathlib.Core.Path.{◌∙◌, ap, refl, sym}
 use native.Mathlib.Numerals.{add-one}
 use native.Mathlib.Omega.{arith}
 use Prim.Native.Nat.{◌-◌}
-use Rattle.expr.proofs.arguments.Reads as arguments
-use Rattle.expr.proofs.binary.Reads as binary
-use Rattle.expr.proofs.call.Reads as call
-use Rattle.expr.proofs.dict.Reads as dict
-use Rattle.expr.proofs.first_then.Reads as first_then
-use Rattle.expr.proofs.input.Reads as input
-use Rattle.expr.proofs.len.Reads as len
-use Rattle.expr.proofs.list.Reads as list
-use Rattle.expr.proofs.operands.Reads as operands
-use Rattle.expr.proofs.range.Reads as range
-use Rattle.expr.proofs.stream.Reads as stream
 use Rattle.expr.proofs.+tc_expr.Goals as goal
 use Rattle.expr.proofs.+tc_expr.Goals.{tc_expr-in-22-1, tc_expr-in_default+else-kind-lt20+then-kind-lt32}
 use Rattle.std.proofs.Common.{◌≡◌, ◌⊎◌, ◌≤◌}
@@ -123,8 +112,7 @@ binary-child-r-requires t c =
     (omega (arith, c.decreases), (kept_noting c.child-l.ensures.1, (ready_moved c.over-passed.ensures.nodes (binary_ready_2 c.requires.1.0 (inner_as c.next-read.ensures.node c.requires.1.1.0) (kind_of c.next-read.ensures.node c.requires.1.1.1) (c.next-read.ensures.at ∙ add-one _) (rw c.in-Ok.is at c.child-l.ensures.0) (stops c.over-passed.ensures)), operand_at_2 c.requires.1.0 (inner_as c.next-read.ensures.node c.requires.1.1.0) (kind_of c.next-read.ensures.node c.requires.1.1.1) (c.next-read.ensures.at ∙ add-one _) (rw c.in-Ok.is at c.child-l.ensures.0) (stops c.over-passed.ensures))))
 
 pub binary-returns-in_default-r : goal.binary-returns-in_default-r
-binary-returns-in_default-r t c =
-    (
+binary-returns-in_default-r t c = (
   binary_refused_2 c.requires.1.0 (inner_as c.next-read.ensures.node c.requires.1.1.0) (kind_of c.next-read.ensures.node c.requires.1.1.1) (c.next-read.ensures.at ∙ add-one _) (rw c.in-Ok.is at c.child-l.ensures.0) (stops c.over-passed.ensures) refl c.child-r.ensures.0 (typed_ill c.child-r.ensures.1 c.in_default-r.is),
   kept_trans c.child-l.ensures.1 c.child-r.ensures.1,
 )
@@ -138,8 +126,7 @@ binary-operated-requires-clause-operable t c =
     binary_operable c.requires.1.0 (inner_as c.next-read.ensures.node c.requires.1.1.0) (kind_of c.next-read.ensures.node c.requires.1.1.1) (c.next-read.ensures.at ∙ add-one _) (rw c.in-Ok.is at c.child-l.ensures.0) (stops c.over-passed.ensures) refl (rw c.in-Ok-r.is at c.child-r.ensures.0) refl
 
 pub binary-returns : goal.binary-returns
-binary-returns t c =
-    (
+binary-returns t c = (
   binary_done c.requires.1.0 (inner_as c.next-read.ensures.node c.requires.1.1.0) (kind_of c.next-read.ensures.node c.requires.1.1.1) (c.next-read.ensures.at ∙ add-one _) (rw c.in-Ok.is at c.child-l.ensures.0) (stops c.over-passed.ensures) refl (rw c.in-Ok-r.is at c.child-r.ensures.0) refl c.operated.ensures.0,
   kept_trans c.child-l.ensures.1 (kept_trans c.child-r.ensures.1 c.operated.ensures.1),
 )
@@ -193,8 +180,7 @@ call-returns-in-By t c =
     (call_done c.requires.1.0 (inner_as c.next-read.ensures.node c.requires.1.1.0) (kind_of c.next-read.ensures.node c.requires.1.1.1) (rw (c.next-read.ensures.at ∙ add-one _) at c.over-passed.ensures.node) c.if-function-ne-VARIABLE.false (c.over-passed.ensures.at ∙ sym (ap (λ y. y.stop) c.over-passed.ensures.node)) refl refl refl c.plan_of-planned.ensures c.in-By.is c.arguments.ensures.0, c.arguments.ensures.1)
 
 pub call-returns-in-Refused : goal.call-returns-in-Refused
-call-returns-in-Refused t c =
-    (
+call-returns-in-Refused t c = (
   done_refused (few_nodes c.requires.1.0.sound) (call_coded c.plan_of-planned.ensures c.in-Refused.is)
       (call_refused c.requires.1.0 (inner_as c.next-read.ensures.node c.requires.1.1.0) (kind_of c.next-read.ensures.node c.requires.1.1.1) (rw (c.next-read.ensures.at ∙ add-one _) at c.over-passed.ensures.node) c.if-function-ne-VARIABLE.false {number = 0} refl refl (name_there c.requires.1.0.sound (inner_as c.next-read.ensures.node c.requires.1.1.0) (kind_of c.next-read.ensures.node c.requires.1.1.1) (rw (c.next-read.ensures.at ∙ add-one _) at c.over-passed.ensures.node) c.if-function-ne-VARIABLE.false) c.plan_of-planned.ensures c.in-Refused.is) c.refuse.ensures,
   refused_kept (call_coded c.plan_of-planned.ensures c.in-Refused.is) c.refuse.ensures,
@@ -237,8 +223,7 @@ dict-next-read-requires-clause-on t c =
     record { nodes = c.requires.1.0.nodes_at; within = c.requires.1.1.0.there }
 
 pub dict-loop-left-init : goal.dict-loop-left-init
-dict-loop-left-init t c =
-    (
+dict-loop-left-init t c = (
   pairing_first {j = c.args.here.at} (omega (arith, c.next-read.ensures.at)) (ready_moved c.next-read.ensures.nodes (children_before c.requires.1.0 (inner_as c.next-read.ensures.node c.requires.1.1.0) (c.next-read.ensures.at ∙ add-one _) refl)) (children_row c.requires.1.0 (inner_as c.next-read.ensures.node c.requires.1.1.0) (c.next-read.ensures.at ∙ add-one _) refl),
   kept_none c.requires.0 (λ e. e),
   c.next-read.ensures.nodes,
@@ -265,8 +250,7 @@ dict-child-v-requires t c =
     (omega (arith, c.decreases), (kept_noting c.child-k.ensures.1, (ready_moved c.over-passed.ensures.nodes (pairing_child_2 c.loop-left.invariant.0 c.loop-left-test.true (rw c.in-Ok.is at c.child-k.ensures.0) (stops c.over-passed.ensures)), pairing_at_2 c.loop-left.invariant.0 c.loop-left-test.true (rw c.in-Ok.is at c.child-k.ensures.0) (stops c.over-passed.ensures))))
 
 pub dict-returns-in_default-v : goal.dict-returns-in_default-v
-dict-returns-in_default-v t c =
-    (
+dict-returns-in_default-v t c = (
   (node_done c.requires.1.0 (inner_as c.next-read.ensures.node c.requires.1.1.0) (c.next-read.ensures.at ∙ add-one _) refl (dict_whole c.requires.1.0.sound (inner_as c.next-read.ensures.node c.requires.1.1.0) _ (c.next-read.ensures.at ∙ add-one _) refl (kind_of c.next-read.ensures.node c.requires.1.1.1)) (pairing_refused_2 c.loop-left.invariant.0 c.loop-left-test.true (rw c.in-Ok.is at c.child-k.ensures.0) (stops c.over-passed.ensures) refl c.child-v.ensures.0 (typed_ill c.child-v.ensures.1 c.in_default-v.is))),
   kept_trans c.loop-left.invariant.1 (kept_trans c.child-k.ensures.1 c.child-v.ensures.1),
 )
@@ -284,8 +268,7 @@ dict-dict_of-requires-clause-asks_2 t c =
     pairing_value c.loop-left.invariant.0 c.loop-left-test.true (rw c.in-Ok.is at c.child-k.ensures.0) (stops c.over-passed.ensures) refl (rw c.in-Ok-v.is at c.child-v.ensures.0) refl c.dict_step-pair.ensures
 
 pub dict-returns-then-pair : goal.dict-returns-then-pair
-dict-returns-then-pair t c =
-    (
+dict-returns-then-pair t c = (
   (node_done c.requires.1.0 (inner_as c.next-read.ensures.node c.requires.1.1.0) (c.next-read.ensures.at ∙ add-one _) refl (dict_whole c.requires.1.0.sound (inner_as c.next-read.ensures.node c.requires.1.1.0) _ (c.next-read.ensures.at ∙ add-one _) refl (kind_of c.next-read.ensures.node c.requires.1.1.1)) (pairing_stop c.loop-left.invariant.0 c.loop-left-test.true (rw c.in-Ok.is at c.child-k.ensures.0) (stops c.over-passed.ensures) refl (rw c.in-Ok-v.is at c.child-v.ensures.0) refl c.dict_step-pair.ensures c.if-pair.true refl c.dict_of.ensures.0)),
   kept_ok (λ e. typed_apart e) (kept_trans c.loop-left.invariant.1 (kept_trans c.child-k.ensures.1 (kept_trans c.child-v.ensures.1 c.dict_of.ensures.1))),
 )
@@ -331,8 +314,7 @@ each_then-values-r-requires t c =
     (omega (arith, c.decreases), (c.requires.0, (each_ready c.requires.1.0 c.requires.1.1.0, c.requires.1.1.0)))
 
 pub each_then-returns-in_default : goal.each_then-returns-in_default
-each_then-returns-in_default t c =
-    (
+each_then-returns-in_default t c = (
   each_refused c.requires.1.0 c.requires.1.1.0 (rw c.in_default.is at c.values-r.ensures.0) _ (c.values-r.ensures.1.coded c.in_default.is),
   kept_as (λ e. c.in_default.is) c.values-r.ensures.1,
 )
@@ -403,8 +385,7 @@ list-next-read-requires-clause-on t c =
     record { nodes = c.requires.1.0.nodes_at; within = c.requires.1.1.0.there }
 
 pub list-loop-left-init : goal.list-loop-left-init
-list-loop-left-init t c =
-    (
+list-loop-left-init t c = (
   listing_first {j = c.args.here.at} (omega (arith, c.next-read.ensures.at)) (ready_moved c.next-read.ensures.nodes (children_before c.requires.1.0 (inner_as c.next-read.ensures.node c.requires.1.1.0) (c.next-read.ensures.at ∙ add-one _) refl)) (children_row c.requires.1.0 (inner_as c.next-read.ensures.node c.requires.1.1.0) (c.next-read.ensures.at ∙ add-one _) refl),
   kept_none c.requires.0 (λ e. e),
   c.next-read.ensures.nodes,
@@ -427,8 +408,7 @@ list-list_of-requires-clause-asks t c =
     listing_asks c.loop-left.invariant.0 c.loop-left-test.true (rw c.in-Ok.is at c.child-r.ensures.0) refl c.list_step-step.ensures
 
 pub list-returns-then-step : goal.list-returns-then-step
-list-returns-then-step t c =
-    (
+list-returns-then-step t c = (
   (node_done c.requires.1.0 (inner_as c.next-read.ensures.node c.requires.1.1.0) (c.next-read.ensures.at ∙ add-one _) refl (list_whole c.requires.1.0.sound (inner_as c.next-read.ensures.node c.requires.1.1.0) _ (c.next-read.ensures.at ∙ add-one _) refl (kind_of c.next-read.ensures.node c.requires.1.1.1)) (listing_stop c.loop-left.invariant.0 c.loop-left-test.true (rw c.in-Ok.is at c.child-r.ensures.0) refl c.list_step-step.ensures c.if-step.true refl c.list_of.ensures.0)),
   kept_ok (λ e. typed_apart e) (kept_trans c.loop-left.invariant.1 (kept_trans c.child-r.ensures.1 c.list_of.ensures.1)),
 )
@@ -470,8 +450,7 @@ operands-values-r-requires t c =
     (omega (arith, c.decreases), (c.requires.0, (ready_moved c.next-read.ensures.nodes (children_ready c.requires.1.0 c.requires.1.1.0 (c.next-read.ensures.at ∙ add-one _) (ap (λ y. y.children) c.next-read.ensures.node)), children_row c.requires.1.0 c.requires.1.1.0 (c.next-read.ensures.at ∙ add-one _) (ap (λ y. y.children) c.next-read.ensures.node))))
 
 pub operands-returns-in_default : goal.operands-returns-in_default
-operands-returns-in_default t c =
-    (
+operands-returns-in_default t c = (
   operands_refused c.requires.1.0 c.requires.1.1.0 c.requires.1.1.1.0 (c.next-read.ensures.at ∙ add-one _) (ap (λ y. y.children) c.next-read.ensures.node) (rw c.in_default.is at c.values-r.ensures.0) (c.values-r.ensures.1.coded c.in_default.is),
   kept_as (λ e. c.in_default.is) c.values-r.ensures.1,
 )
@@ -509,8 +488,7 @@ range-bounded-judged-requires t c =
     kept_noting c.child-r.ensures.1
 
 pub range-returns-in_default-judged : goal.range-returns-in_default-judged
-range-returns-in_default-judged t c =
-    (
+range-returns-in_default-judged t c = (
   bounding_wrong c.loop-left.invariant.0 c.loop-left-test.true (rw c.in-Ok.is at c.child-r.ensures.0) refl c.requires.1.1.1.0 (c.bounded-judged.ensures.0 _ (bounding_judges c.loop-left.invariant.0 c.loop-left-test.true (rw c.in-Ok.is at c.child-r.ensures.0) refl c.requires.1.1.1.0)).0 (typed_ill (c.bounded-judged.ensures.0 _ (bounding_judges c.loop-left.invariant.0 c.loop-left-test.true (rw c.in-Ok.is at c.child-r.ensures.0) refl c.requires.1.1.1.0)).1 c.in_default-judged.is),
   kept_trans c.loop-left.invariant.1 (kept_trans c.child-r.ensures.1 (c.bounded-judged.ensures.0 _ (bounding_judges c.loop-left.invariant.0 c.loop-left-test.true (rw c.in-Ok.is at c.child-r.ensures.0) refl c.requires.1.1.1.0)).1),
 )
@@ -524,8 +502,7 @@ range-over-passed-requires-clause-on t c =
     record { nodes = c.loop-left.invariant.2; within = (loop_at c.loop-left.invariant.0.loop c.loop-left-test.true).there }
 
 pub range-loop-left-preserved : goal.range-loop-left-preserved
-range-loop-left-preserved t c =
-    (
+range-loop-left-preserved t c = (
   bounding_next c.loop-left.invariant.0 c.loop-left-test.true (rw c.in-Ok.is at c.child-r.ensures.0) refl c.requires.1.1.1.0 (c.bounded-judged.ensures.0 _ (bounding_judges c.loop-left.invariant.0 c.loop-left-test.true (rw c.in-Ok.is at c.child-r.ensures.0) refl c.requires.1.1.1.0)).0 (typed_well _ c.in-Ok-judged.is) (same_tab c.bounded-judged.ensures.1 _) (stops c.over-passed.ensures),
   kept_ok (λ e. e) (kept_trans c.loop-left.invariant.1 (kept_trans c.child-r.ensures.1 (c.bounded-judged.ensures.0 _ (bounding_judges c.loop-left.invariant.0 c.loop-left-test.true (rw c.in-Ok.is at c.child-r.ensures.0) refl c.requires.1.1.1.0)).1)),
   c.over-passed.ensures.nodes,
@@ -564,8 +541,7 @@ stream-child-s-requires t c =
     (omega (arith, c.decreases), (kept_noting (c.applied-judged.ensures.0 _ (stream_judges c.args.filters c.requires.1.0 c.requires.1.1.0 c.requires.1.1.1.1 (rw c.in-Ok.is at c.child-f.ensures.0) refl)).1, (ready_moved c.over-passed.ensures.nodes (stream_child_2 c.args.filters c.requires.1.0 c.requires.1.1.0 c.requires.1.1.1.1 (rw c.in-Ok.is at c.child-f.ensures.0) refl (c.applied-judged.ensures.0 _ (stream_judges c.args.filters c.requires.1.0 c.requires.1.1.0 c.requires.1.1.1.1 (rw c.in-Ok.is at c.child-f.ensures.0) refl)).0 (same_tab c.applied-judged.ensures.1 _) (stops c.over-passed.ensures)), iterable_at c.args.filters c.requires.1.0 c.requires.1.1.0 c.requires.1.1.1.1 (rw c.in-Ok.is at c.child-f.ensures.0) refl (c.applied-judged.ensures.0 _ (stream_judges c.args.filters c.requires.1.0 c.requires.1.1.0 c.requires.1.1.1.1 (rw c.in-Ok.is at c.child-f.ensures.0) refl)).0 (same_tab c.applied-judged.ensures.1 _) (stops c.over-passed.ensures))))
 
 pub stream-returns-in_default-s : goal.stream-returns-in_default-s
-stream-returns-in_default-s t c =
-    (
+stream-returns-in_default-s t c = (
   stream_refused_2 c.args.filters c.requires.1.0 c.requires.1.1.0 c.requires.1.1.1.1 (rw c.in-Ok.is at c.child-f.ensures.0) refl (c.applied-judged.ensures.0 _ (stream_judges c.args.filters c.requires.1.0 c.requires.1.1.0 c.requires.1.1.1.1 (rw c.in-Ok.is at c.child-f.ensures.0) refl)).0 (same_tab c.applied-judged.ensures.1 _) (stops c.over-passed.ensures) (typed_well _ c.in-Ok-judged.is) c.child-s.ensures.0 (typed_ill c.child-s.ensures.1 c.in_default-s.is),
   kept_trans c.child-f.ensures.1 (kept_trans (c.applied-judged.ensures.0 _ (stream_judges c.args.filters c.requires.1.0 c.requires.1.1.0 c.requires.1.1.1.1 (rw c.in-Ok.is at c.child-f.ensures.0) refl)).1 c.child-s.ensures.1),
 )
@@ -579,8 +555,7 @@ stream-streamed-requires-clause-streamable t c =
     stream_able c.args.filters c.requires.1.0 c.requires.1.1.0 c.requires.1.1.1.1 (rw c.in-Ok.is at c.child-f.ensures.0) refl (c.applied-judged.ensures.0 _ (stream_judges c.args.filters c.requires.1.0 c.requires.1.1.0 c.requires.1.1.1.1 (rw c.in-Ok.is at c.child-f.ensures.0) refl)).0 (same_tab c.applied-judged.ensures.1 _) (stops c.over-passed.ensures) (typed_well _ c.in-Ok-judged.is) (rw c.in-Ok-s.is at c.child-s.ensures.0) refl
 
 pub stream-returns : goal.stream-returns
-stream-returns t c =
-    (
+stream-returns t c = (
   stream_done c.args.filters c.requires.1.0 c.requires.1.1.0 c.requires.1.1.1.1 (rw c.in-Ok.is at c.child-f.ensures.0) refl (c.applied-judged.ensures.0 _ (stream_judges c.args.filters c.requires.1.0 c.requires.1.1.0 c.requires.1.1.1.1 (rw c.in-Ok.is at c.child-f.ensures.0) refl)).0 (same_tab c.applied-judged.ensures.1 _) (stops c.over-passed.ensures) (typed_well _ c.in-Ok-judged.is) (rw c.in-Ok-s.is at c.child-s.ensures.0) refl c.streamed.ensures.0,
   kept_trans c.child-f.ensures.1 (kept_trans (c.applied-judged.ensures.0 _ (stream_judges c.args.filters c.requires.1.0 c.requires.1.1.0 c.requires.1.1.1.1 (rw c.in-Ok.is at c.child-f.ensures.0) refl)).1 (kept_trans c.child-s.ensures.1 c.streamed.ensures.1)),
 )
@@ -636,10 +611,10 @@ tc_expr-overflow_sub-depth-in-22 t c =
 pub tc_expr-operands-requires : goal.tc_expr-operands-requires
 tc_expr-operands-requires t c =
     let operand : ((c.next-read.result.node.kind ≡ 22) ⊎ (c.next-read.result.node.kind ≡ 25)) ⊎ ((28 ≤ c.next-read.result.node.kind) × (c.next-read.result.node.kind ≤ 31)) =
-      elim c.in-22-1.branch [
-        | tc_expr-in-22-1 w ↦ inl w.in-22-1.keys7
-        | tc_expr-in_default+else-kind-lt20+then-kind-lt32 w ↦ inr (above_27 (omega arith) w.in_default-1.rest.0.0.0.0.0.0.1 w.in_default-1.rest.0.0.0.0.0.1 (λ e. w.in_default-1.rest.1 (inl e)) w.in_default-1.rest.0.0.0.0.1 w.in_default-1.rest.0.0.0.1 (λ e. w.in_default-1.rest.1 (inr e)) w.in_default-1.rest.0.0.1 w.in_default-1.rest.0.1, omega arith)
-      ] in (
+    elim c.in-22-1.branch [
+      | tc_expr-in-22-1 w ↦ inl w.in-22-1.keys7
+      | tc_expr-in_default+else-kind-lt20+then-kind-lt32 w ↦ inr (above_27 (omega arith) w.in_default-1.rest.0.0.0.0.0.0.1 w.in_default-1.rest.0.0.0.0.0.1 (λ e. w.in_default-1.rest.1 (inl e)) w.in_default-1.rest.0.0.0.0.1 w.in_default-1.rest.0.0.0.1 (λ e. w.in_default-1.rest.1 (inr e)) w.in_default-1.rest.0.0.1 w.in_default-1.rest.0.1, omega arith)
+    ] in (
       omega (arith, c.decreases, shallow c.requires.1.0.sound c.requires.1.1),
       (
         c.requires.0,
@@ -698,8 +673,7 @@ values-child-r-requires t c =
     (omega (arith, c.decreases), (kept_noting c.loop-left.invariant.1, (ready_moved c.loop-left.invariant.2 (valuing_ready c.loop-left.invariant.0 c.loop-left-test.true), valuing_at c.loop-left.invariant.0 c.loop-left-test.true)))
 
 pub values-returns-in_default : goal.values-returns-in_default
-values-returns-in_default t c =
-    (
+values-returns-in_default t c = (
   valuing_refused c.loop-left.invariant.0 c.loop-left-test.true (rw c.in_default.is at c.child-r.ensures.0) (c.child-r.ensures.1.coded c.in_default.is),
   kept_as (λ e. c.in_default.is) (kept_trans c.loop-left.invariant.1 c.child-r.ensures.1),
 )

@@ -5,8 +5,7 @@ use Rattle.expr.proofs.Valuing.{Valuing}
 use Rattle.meaning.specs.Image.{nodes_from}
 use Rattle.state.specs.Notes.{tab_in, Kept}
 use mathlib.Core.Path.{◌≡◌}
-use Prim.Native.Nat.{◌+◌, ◌-◌, ◌*◌}
-use Rattle.expr.proofs.call.Reads as call
+use Prim.Native.Nat.{◌+◌, ◌*◌}
 use Rattle.expr.proofs.+tc_expr.Given as goal
 
 abbrev pub decreases-arguments : goal.decreases-arguments

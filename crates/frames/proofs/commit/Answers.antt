@@ -1,4 +1,3 @@
-use Prim.Native.Nat.{◌-◌}
 use mathlib.Core.Path.{refl}
 use Rattle.frames.proofs.Merging.{committing_first, committing_skip, committing_put, committing_clash, committing_end}
 use Rattle.frames.proofs.commit.Goals as goal

@@ -1,4 +1,3 @@
-use Prim.Native.Nat.{◌-◌}
 use mathlib.Core.Path.{◌≡◌}
 use Rattle.frames.proofs.Merging.{noted_none, noted_more}
 use native.Mathlib.Omega.{arith}

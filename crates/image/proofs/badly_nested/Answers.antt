@@ -1,10 +1,9 @@
-use Rattle.image.specs.Kinds.{root_stands}
 use Rattle.image.proofs.Nesting.{no_node, node_stands_lem, nests_not, nests_all}
 use Rattle.image.proofs.Searches.{first_end, first_fails, first_next}
 use Rattle.meaning.proofs.Nesting.{nodes_many}
 use Rattle.meaning.proofs.Faults.{sizes}
 use Rattle.meaning.specs.Image.{Node, node_of, nodes_of, nests, badly_nested}
-use Prim.Native.Nat.{◌-◌, ◌≤◌, ◌<◌}
+use Prim.Native.Nat.{◌≤◌, ◌<◌}
 use lib.ListN.{length}
 use mathlib.Core.Bool.{true, false}
 use mathlib.Core.Path.{◌≡◌, refl, sym, ap, ◌∙◌}

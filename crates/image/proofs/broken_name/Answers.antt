@@ -3,7 +3,7 @@ use Rattle.meaning.proofs.Nesting.{records_count}
 use Rattle.image.specs.Parts.{name_means, name_stands}
 use Rattle.meaning.specs.Image.{NameRecord, name_records, broken_name}
 use lib.ListN.{length}
-use Prim.Native.Nat.{◌-◌, ◌≤◌, ◌<◌}
+use Prim.Native.Nat.{◌≤◌, ◌<◌}
 use mathlib.Core.Path.{sym, ap, ◌∙◌}
 use native.Mathlib.Omega.{arith}
 use Rattle.image.proofs.broken_name.Goals as goal

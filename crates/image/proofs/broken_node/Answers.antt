@@ -1,7 +1,7 @@
 use Rattle.image.proofs.Searches.{first_end, first_fails, first_next}
 use Rattle.meaning.proofs.Nesting.{nodes_many}
 use Rattle.meaning.specs.Image.{name_count, node_count, node_of, nodes_of, node_stands, broken_node}
-use Prim.Native.Nat.{◌-◌, ◌≤◌, ◌<◌}
+use Prim.Native.Nat.{◌≤◌, ◌<◌}
 use lib.ListN.{length}
 use mathlib.Core.Path.{sym, ◌∙◌}
 use native.Mathlib.Omega.{arith}

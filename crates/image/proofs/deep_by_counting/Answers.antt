@@ -6,7 +6,7 @@ use Rattle.meaning.proofs.Faults.{sizes}
 use Rattle.meaning.specs.Image.{Node, nodes_of, depth, too_deep_node}
 use lib.ListN.{length}
 use lib.Dec.{leb}
-use Prim.Native.Nat.{ℕ, ◌+◌, ◌-◌, ◌≤◌, ◌<◌}
+use Prim.Native.Nat.{ℕ, ◌+◌, ◌≤◌, ◌<◌}
 use mathlib.Core.Path.{refl, sym, ap, ◌∙◌}
 use native.Mathlib.Omega.{arith}
 use Rattle.image.proofs.deep_by_counting.Goals as goal

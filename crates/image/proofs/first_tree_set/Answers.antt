@@ -3,7 +3,7 @@ use Rattle.image.proofs.Records.{head_long}
 use Rattle.meaning.proofs.Nesting.{nodes_many}
 use Rattle.meaning.specs.Image.{Node, node_of, nodes_of, is_tree_set, first_tree_set}
 use mathlib.Core.Bool.{Bool, not}
-use Prim.Native.Nat.{ℕ, ◌-◌}
+use Prim.Native.Nat.{ℕ}
 use mathlib.Core.Path.{sym, ap, ◌∙◌}
 use native.Mathlib.Omega.{arith}
 use borrow.Author.Rules.{rules}
@@ -36,8 +36,7 @@ returns-then-node-eq-TREE_SET c =
 
 pub loop-i-preserved : goal.loop-i-preserved
 unfolding node_of
-loop-i-preserved c =
-    (
+loop-i-preserved c = (
   omega arith,
   sym (first_next other_than (nodes_of c.args.image.now) c.loop-i.i _ (rw nodes_many (omega (arith, c.areas-l.ensures.count))) (ap not (not_tree_set _ _ c.node_at-node.ensures c.if-node-eq-TREE_SET.false))) ∙ c.loop-i.invariant.1,
 )

@@ -1,7 +1,6 @@
 use Rattle.image.proofs.Choosing.{below_if_odd, below_if, below_loop, below_def, below_block, below_other}
 use Rattle.meaning.specs.Base.{if◌then◌else◌}
 use Prim.Native.Nat.{◌+◌}
-use mathlib.Core.Logic.{⊎_elim}
 use borrow.Author.Tests.{eq-eqb, ne_eqb}
 use mathlib.Core.Path.{sym, ◌∙◌}
 use native.Mathlib.Omega.{arith}

@@ -1,7 +1,7 @@
 use Rattle.image.proofs.Searches.{first_end, first_fails, first_next}
 use Rattle.meaning.proofs.Nesting.{names_many}
 use Rattle.meaning.specs.Image.{Name, name_of, names_of, safe, unsafe_name}
-use Prim.Native.Nat.{ℕ, ◌-◌, ◌≤◌, ◌<◌}
+use Prim.Native.Nat.{ℕ, ◌≤◌, ◌<◌}
 use lib.ListN.{length}
 use mathlib.Core.Path.{sym, ◌∙◌}
 use native.Mathlib.Omega.{arith}

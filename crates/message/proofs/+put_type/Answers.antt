@@ -1,4 +1,3 @@
-use Prim.Native.Nat.{◌-◌}
 use Rattle.message.proofs.Types.{known_kind, known_parts, known_part, part_is}
 use Rattle.message.proofs.Writing.{left_all, left_step, opening_fits, opened, comma_fits, comma_put, part_fits, closing_left, written}
 use native.Mathlib.Omega.{arith}

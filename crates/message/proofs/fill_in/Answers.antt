@@ -1,4 +1,3 @@
-use Prim.Native.Nat.{◌-◌}
 use Rattle.message.proofs.Filling.{coming_first, run_fits, ready_shown, piece_fits, gap_inside, coming_next, coming_end}
 use native.Mathlib.Omega.{arith}
 use Rattle.message.proofs.fill_in.Goals as goal

@@ -1,4 +1,3 @@
-use Prim.Native.Nat.{◌-◌}
 use mathlib.Core.Path.{refl}
 use lib.ListN.{length-set}
 use Rattle.message.proofs.Writing.{sized_none, sized_more, sized_upto}

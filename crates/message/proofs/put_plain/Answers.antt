@@ -1,5 +1,4 @@
 use mathlib.Core.Path.{refl}
-use Prim.Native.Nat.{◌-◌}
 use Rattle.message.proofs.Filling.{plain_first, plain_fits, plain_next, plain_gap, plain_end}
 use native.Mathlib.Omega.{arith}
 use Rattle.message.proofs.put_plain.Goals as goal

@@ -1,4 +1,3 @@
-use Prim.Native.Nat.{◌-◌}
 use Rattle.message.proofs.Types.{known_number, known_kind, known_parts, known_part, part_is}
 use Rattle.message.proofs.Writing.{due_all, due_last, opened_due, comma_due, part_due, closing_due, whole_size}
 use borrow.Author.Rules.{rules}

@@ -1,4 +1,3 @@
-use Prim.Native.Nat.{◌-◌}
 use mathlib.Core.Path.{refl}
 use Rattle.message.proofs.Filling.{many_le, ready_small, due_first, due_next, due_end}
 use native.Mathlib.Omega.{arith}

@@ -2,7 +2,7 @@ use Rattle.names.proofs.Naming.{told_small, naming_first, naming_skip, naming_pu
 use Rattle.image.proofs.Records.{head_long, text_fits, text_inside}
 use Rattle.meaning.specs.Image.{NameRecord, name_count}
 use Rattle.meaning.proofs.Faults.{sizes, image_length}
-use Prim.Native.Nat.{◌-◌, ◌<◌}
+use Prim.Native.Nat.{◌<◌}
 use mathlib.Core.Path.{ap}
 use native.Mathlib.Omega.{arith}
 use Rattle.names.proofs.list_names.Goals as goal
@@ -62,9 +62,9 @@ loop-k-preserved c =
     let texts = c.areas-l.ensures.texts in
     elim c.match-told_of.branch [
       | in-OfType w ↦
-        let start = ap (λ (r : NameRecord). r.start) w.name_at-name.ensures in
-        let size = ap (λ (r : NameRecord). r.size) w.name_at-name.ensures in
-        rw (w.names-is, w.c-is) (naming_put s c.loop-k.invariant here c.may_bind-bound.ensures c.told_of.ensures w.in-OfType.is w.put_name.ensures (omega (arith, texts, start)) size)
+          let start = ap (λ (r : NameRecord). r.start) w.name_at-name.ensures in
+          let size = ap (λ (r : NameRecord). r.size) w.name_at-name.ensures in
+          rw (w.names-is, w.c-is) (naming_put s c.loop-k.invariant here c.may_bind-bound.ensures c.told_of.ensures w.in-OfType.is w.put_name.ensures (omega (arith, texts, start)) size)
       | in_default w ↦ rw (w.names-is, w.c-is) (naming_skip s c.loop-k.invariant here c.may_bind-bound.ensures c.told_of.ensures w.in_default.is)
     ]
 

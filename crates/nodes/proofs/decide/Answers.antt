@@ -1,5 +1,4 @@
 use Rattle.image.proofs.Moving.{stops}
-use Rattle.meaning.proofs.Nesting.{within}
 use Rattle.nodes.proofs.Deciding.{decidable_as, decided_given, decided_kept, few, given_node, index_asks, index_decides, index_inside, index_placed, index_room, kind_as, other_given, tuple_given, unary_asks, unary_decides, unary_room}
 use Rattle.state.proofs.Noting.{kept_none, kept_ok, typed_apart}
 use mathlib.Core.Path.{refl}

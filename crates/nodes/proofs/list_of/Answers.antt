@@ -12,8 +12,7 @@ form-formed-requires c =
 
 pub returns : goal.returns
 unfolding built shaped choose if◌then◌else◌
-returns c =
-    (
+returns c = (
   made_noted (λ t. list (denote t c.args.element)) c.counts_of.ensures.0 c.counts_of.ensures.1 c.keep.ensures c.form-formed.ensures,
   counted_kept (λ e. e) c.keep.ensures,
 )

@@ -10,8 +10,7 @@ tuple_of-formed-requires c =
     rw (c.counts_of.ensures.0, c.counts_of.ensures.1) c.requires.listed
 
 pub returns : goal.returns
-returns c =
-    (
+returns c = (
   made_noted (λ t. tuple (tys (map (denote t) (take c.args.n (drop c.args.sp c.args.stack.now))))) c.counts_of.ensures.0 c.counts_of.ensures.1
       c.keep.ensures c.tuple_of-formed.ensures,
   counted_kept (λ e. e) c.keep.ensures,

@@ -1,7 +1,7 @@
 use native.Mathlib.Omega.{arith}
 use mathlib.Core.Path.{◌∙◌}
 use Rattle.operators.proofs.Lists.{answers}
-use Rattle.operators.proofs.Rules.{last, rule}
+use Rattle.operators.proofs.Rules.{rule}
 use Rattle.operators.proofs.answer_of.Goals as goal
 
 pub returns-in-0 : goal.returns-in-0

@@ -1,7 +1,7 @@
 use native.Mathlib.Omega.{arith}
 use mathlib.Core.Path.{◌∙◌}
 use Rattle.operators.proofs.Lists.{unary_answers}
-use Rattle.operators.proofs.Rules.{last, unary_rule_lem}
+use Rattle.operators.proofs.Rules.{unary_rule_lem}
 use Rattle.operators.proofs.unary_answer_of.Goals as goal
 
 pub returns-in-0 : goal.returns-in-0

@@ -1,4 +1,3 @@
-use Prim.Native.Nat.{◌-◌}
 use Rattle.show.proofs.Names.{names_many, its_names}
 use Rattle.show.proofs.Merging.{changes_first, changes_ahead, changes_next, changes_end}
 use native.Mathlib.Omega.{arith}

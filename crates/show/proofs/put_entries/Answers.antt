@@ -1,5 +1,4 @@
 use Rattle.meaning.specs.Base.{bytes}
-use Prim.Native.Nat.{◌-◌}
 use Rattle.show.proofs.Names.{names_many, its_names}
 use Rattle.show.proofs.Lines.{entries_first, entry_fits, line_end_fits, entries_next, entries_end}
 use native.Mathlib.Omega.{arith}

@@ -6,17 +6,11 @@ use Rattle.stmt.proofs.Bodies.{bodiless, loop_at, loop_begin, loop_deep, loop_en
 use Rattle.stmt.proofs.Branching.{arm_bad, arm_done, arm_last, choosing_as, choosing_begin, choosing_branch, choosing_end, choosing_next, choosing_out, choosing_standing, clash_small, first_place, last_standing, when_at, when_ready, when_standing}
 use Rattle.stmt.proofs.Compound.{def_at_block, def_bad, def_deep, def_done, def_params, def_some, def_standing, first_ready, for_bad, for_done, for_name, for_small, for_standing, second_at, second_standing, while_bad, while_done}
 use Rattle.image.proofs.Moving.{parent_of, stops}
-use borrow.Author.Tests.{not-false, not-true}
 use mathlib.Core.Bool.{true}
-use mathlib.Core.Logic.{inl, inr, ⊎_elim}
+use mathlib.Core.Logic.{inl, inr}
 use mathlib.Core.Path.{◌∙◌, ap, refl, sym}
 use Rattle.expr.proofs.Rows.{shallow}
 use native.Mathlib.Omega.{arith}
-use Rattle.stmt.proofs.block.Reads as block
-use Rattle.stmt.proofs.choices.Reads as choices
-use Rattle.stmt.proofs.define.Reads as define
-use Rattle.stmt.proofs.each.Reads as each
-use Rattle.stmt.proofs.repeat.Reads as repeat
 use Rattle.stmt.proofs.+tc_stmt.Goals as goal
 use Rattle.stmt.proofs.+tc_stmt.Goals.{block-in-Done, block-in-Wrong+else-not-drops}
 
@@ -60,7 +54,7 @@ block-over-passed-requires-clause-on t c =
 
 pub block-loop-left-preserved : goal.block-loop-left-preserved
 block-loop-left-preserved t c = (
-    loop_next c.loop-left.invariant.0 c.loop-left-test.true c.tc_stmt-r.ensures.0 (stops c.over-passed.ensures)
+  loop_next c.loop-left.invariant.0 c.loop-left-test.true c.tc_stmt-r.ensures.0 (stops c.over-passed.ensures)
       (elim c.match-r.branch [
         | block-in-Done w ↦ end_shallow _ w.in-Done.is
         | block-in-Wrong+else-not-drops w ↦ end_typing c.tc_stmt-r.ensures.1 w.in-Wrong.is
@@ -69,9 +63,9 @@ block-loop-left-preserved t c = (
         | block-in-Done w ↦ inl (end_well _ w.in-Done.is)
         | block-in-Wrong+else-not-drops w ↦ inr w.if-not-drops.false
       ]),
-    c.tc_stmt-r.ensures.1.noting,
-    c.over-passed.ensures.nodes,
-  )
+  c.tc_stmt-r.ensures.1.noting,
+  c.over-passed.ensures.nodes,
+)
 
 pub block-returns : goal.block-returns
 block-returns t c =
@@ -90,8 +84,7 @@ choices-loop-left-init t c =
     (choosing_begin _ (standing_nodes c.next-read.ensures.nodes (standing_as refl c.wide32-top.ensures.0 refl c.requires.1.0)) c.requires.1.1 c.next-read.ensures refl, sym c.wide32-top.ensures.0, c.requires.0, c.next-read.ensures.nodes)
 
 pub choices-one_arm-r-requires : goal.choices-one_arm-r-requires
-choices-one_arm-r-requires t c =
-    (
+choices-one_arm-r-requires t c = (
   omega (arith, c.decreases),
   (
     c.loop-left.invariant.2,
@@ -107,8 +100,7 @@ choices-small-requires t c =
     omega (arith, c.loop-left.invariant.0.spent.fit.high)
 
 pub choices-returns-in_default : goal.choices-returns-in_default
-choices-returns-in_default t c =
-    (
+choices-returns-in_default t c = (
   rw (← (parent_of c.next-read.ensures)) (acted_from _ _ _ _ _ _ _ c.wide32-top.ensures.0 (done_moved (top_set c.one_arm-r.ensures.1.noting c.small.ensures).moved c.one_arm-r.ensures.1 (top_set c.one_arm-r.ensures.1.noting c.small.ensures).top_is (top_set c.one_arm-r.ensures.1.noting c.small.ensures).ret_kept (choosing_out c.loop-left.invariant.0 c.loop-left-test.true (armed_from _ _ _ _ _ _ _ _ c.loop-left.invariant.1 c.one_arm-r.ensures.0) (end_other _ c.one_arm-r.ensures.1 c.in_default.not-Done)))),
   tells_moved (top_set c.one_arm-r.ensures.1.noting c.small.ensures).moved c.one_arm-r.ensures.1,
 )
@@ -133,8 +125,7 @@ choices-loop-left-smaller t c =
     omega (arith, c.fewer-left.ensures, c.loop-left-test.true)
 
 pub choices-loop-left-preserved : goal.choices-loop-left-preserved
-choices-loop-left-preserved t c =
-    (
+choices-loop-left-preserved t c = (
   choosing_as (tab_moved (top_set c.one_arm-r.ensures.1.noting c.small.ensures).moved _) (top_set c.one_arm-r.ensures.1.noting c.small.ensures).ret_kept
       (choosing_next c.loop-left.invariant.0 c.loop-left-test.true (armed_from _ _ _ _ _ _ _ _ c.loop-left.invariant.1 c.one_arm-r.ensures.0) c.after_arm-next.ensures.0 c.fewer-left.ensures (end_well _ c.in-Done.is) c.wide32-high.ensures.0 c.note_branch.ensures),
   (top_set c.one_arm-r.ensures.1.noting c.small.ensures).top_is,
@@ -151,8 +142,7 @@ choices-conflict-requires t c =
     (c.loop-left.invariant.2, rw c.in-Clash.is at c.commit-merge.ensures.near)
 
 pub choices-returns-in-Whole : goal.choices-returns-in-Whole
-choices-returns-in-Whole t c =
-    (
+choices-returns-in-Whole t c = (
   rw (← (parent_of c.next-read.ensures)) (acted_from _ _ _ _ _ _ _ c.wide32-top.ensures.0 (done_any refl refl (done_ends refl c.loop-left.invariant.1 refl
       (choosing_end {n = 0} (stmt_at_lem (parent_of c.next-read.ensures) c.requires.1.1) c.loop-left.invariant.0 c.loop-left-test.false (rw c.in-Whole.is at c.commit-merge.ensures) tt)))),
   tells_ok c.loop-left.invariant.2 (λ e. done_apart e),
@@ -218,8 +208,7 @@ define-small-requires t c =
     omega (arith, c.if-top-ge-LAST_FRAME.false)
 
 pub define-block-r-requires : goal.define-block-r-requires
-define-block-r-requires t c =
-    (
+define-block-r-requires t c = (
   omega (arith, c.decreases),
   (
     moved_noting (moved_trans (top_set c.requires.0 c.small.ensures).moved (ret_clear (moved_noting (top_set c.requires.0 c.small.ensures).moved)).moved),
@@ -231,8 +220,7 @@ define-block-r-requires t c =
 )
 
 pub define-returns-in_default : goal.define-returns-in_default
-define-returns-in_default t c =
-    (
+define-returns-in_default t c = (
   (λ loop. acted_from _ _ _ _ _ _ _ c.wide32-top.ensures.0 (done_moved (ret_back c.requires.0 c.block-r.ensures.1.noting).moved c.block-r.ensures.1 (ret_back c.requires.0 c.block-r.ensures.1.noting).top_kept (ret_back c.requires.0 c.block-r.ensures.1.noting).ret_is (def_bad (standing_as refl c.wide32-top.ensures.0 refl c.requires.1.0) c.requires.1.1 (ap (λ d. d.children) c.next-read.ensures.node) c.if-top-ge-LAST_FRAME.false c.clear.ensures c.next-read.ensures.at c.parameters-body.ensures.1 c.parameters-body.ensures.0.0 _ (body_from _ _ _ _ _ _ _ (tab_moved (moved_trans (top_set c.requires.0 c.small.ensures).moved (ret_clear (moved_noting (top_set c.requires.0 c.small.ensures).moved)).moved) _) ((ret_clear (moved_noting (top_set c.requires.0 c.small.ensures).moved)).top_kept ∙ (top_set c.requires.0 c.small.ensures).top_is) (ret_clear (moved_noting (top_set c.requires.0 c.small.ensures).moved)).ret_is c.block-r.ensures.0) (end_other _ c.block-r.ensures.1 c.in_default.not-Done) loop))),
   tells_moved (ret_back c.requires.0 c.block-r.ensures.1.noting).moved c.block-r.ensures.1,
 )
@@ -268,8 +256,7 @@ each-elements-v-requires t c =
     (c.requires.0, rw c.next-read.ensures.at (ready_nodes c.next-read.ensures.nodes (first_ready (standing_as refl c.wide32-top.ensures.0 refl c.requires.1.0) (pair_for c.requires.1.0.ready.sound c.requires.1.1)), (pair_for c.requires.1.0.ready.sound c.requires.1.1).first))
 
 pub each-returns-in_default : goal.each-returns-in_default
-each-returns-in_default t c =
-    (
+each-returns-in_default t c = (
   (λ loop. acted_from _ _ _ _ _ _ _ c.wide32-top.ensures.0 (done_ends refl (c.elements-v.ensures.1.top ∙ sym c.wide32-top.ensures.0) c.elements-v.ensures.1.ret (for_bad (standing_as refl c.wide32-top.ensures.0 refl c.requires.1.0) c.requires.1.1 (ap (λ d. d.arg) c.next-read.ensures.node) (iterated_err _ c.in_default.is (rw c.next-read.ensures.at at c.elements-v.ensures.0)) (c.elements-v.ensures.1.coded c.in_default.is) _ loop))),
   tells_kept (kept_as (λ _. c.in_default.is) c.elements-v.ensures.1) (λ _. (iterated_err _ c.in_default.is (rw c.next-read.ensures.at at c.elements-v.ensures.0)).typing),
 )
@@ -291,8 +278,7 @@ each-over-passed-requires-clause-on t c =
     record { nodes = c.next-read.ensures.nodes; within = rw c.next-read.ensures.at (pair_for c.requires.1.0.ready.sound c.requires.1.1).first.there }
 
 pub each-block-r-requires : goal.each-block-r-requires
-each-block-r-requires t c =
-    (
+each-block-r-requires t c = (
   omega (arith, c.decreases),
   (
     kept_noting c.elements-v.ensures.1,
@@ -309,8 +295,7 @@ each-small-requires t c =
     omega (arith, c.wide32-top.ensures.0, c.requires.1.0.ready.fit.high)
 
 pub each-returns : goal.each-returns
-each-returns t c =
-    (
+each-returns t c = (
   (λ loop. acted_from _ _ _ _ _ _ _ c.wide32-top.ensures.0 (done_moved (top_set c.block-r.ensures.1.noting c.small.ensures).moved c.block-r.ensures.1 (top_set c.block-r.ensures.1.noting c.small.ensures).top_is (top_set c.block-r.ensures.1.noting c.small.ensures).ret_kept (for_done (standing_as refl c.wide32-top.ensures.0 refl c.requires.1.0) c.requires.1.1 (ap (λ d. d.arg) c.next-read.ensures.node) (iterated_ok _ c.in-Ok.is (rw c.next-read.ensures.at at c.elements-v.ensures.0)) refl c.next-read.ensures.at c.since.ensures c.bind.ensures _ (second_of c.next-read.ensures c.over-passed.ensures) (body_from _ _ _ _ _ _ _ refl (c.elements-v.ensures.1.top ∙ sym c.wide32-top.ensures.0) c.elements-v.ensures.1.ret c.block-r.ensures.0) loop))),
   tells_moved (top_set c.block-r.ensures.1.noting c.small.ensures).moved c.block-r.ensures.1,
 )
@@ -320,8 +305,7 @@ one_arm-ensure_bool-o-requires t c =
     (c.requires.0, (when_ready true (standing_as refl c.wide32-top.ensures.0 refl c.requires.1.0) c.requires.1.1 c.if-left-gt1.true, c.requires.1.1.first))
 
 pub one_arm-returns-in_default : goal.one_arm-returns-in_default
-one_arm-returns-in_default t c =
-    (
+one_arm-returns-in_default t c = (
   armed_from _ _ _ _ _ _ _ _ c.wide32-top.ensures.0 (done_ends refl (c.ensure_bool-o.ensures.1.top ∙ sym c.wide32-top.ensures.0) c.ensure_bool-o.ensures.1.ret (arm_bad _ (standing_as refl c.wide32-top.ensures.0 refl c.requires.1.0) c.requires.1.1 c.if-left-gt1.true (assigned_err _ c.in_default.is c.ensure_bool-o.ensures.0) _ (c.ensure_bool-o.ensures.1.coded c.in_default.is))),
   tells_kept (kept_as (λ _. c.in_default.is) c.ensure_bool-o.ensures.1) (λ _. (assigned_err _ c.in_default.is c.ensure_bool-o.ensures.0).typing),
 )
@@ -335,8 +319,7 @@ one_arm-over-passed-requires-clause-on t c =
     record { nodes = c.requires.1.0.ready.nodes_at; within = c.requires.1.1.first.there }
 
 pub one_arm-block-requires : goal.one_arm-block-requires
-one_arm-block-requires t c =
-    (
+one_arm-block-requires t c = (
   omega (arith, c.decreases),
   (
     kept_noting c.ensure_bool-o.ensures.1,
@@ -372,8 +355,7 @@ repeat-ensure_bool-o-requires t c =
     (c.requires.0, rw c.next-read.ensures.at (ready_nodes c.next-read.ensures.nodes (first_ready (standing_as refl c.wide32-top.ensures.0 refl c.requires.1.0) (pair_while c.requires.1.0.ready.sound c.requires.1.1)), (pair_while c.requires.1.0.ready.sound c.requires.1.1).first))
 
 pub repeat-returns-in_default : goal.repeat-returns-in_default
-repeat-returns-in_default t c =
-    (
+repeat-returns-in_default t c = (
   (λ loop. acted_from _ _ _ _ _ _ _ c.wide32-top.ensures.0 (done_ends refl (c.ensure_bool-o.ensures.1.top ∙ sym c.wide32-top.ensures.0) c.ensure_bool-o.ensures.1.ret (while_bad (standing_as refl c.wide32-top.ensures.0 refl c.requires.1.0) c.requires.1.1 (assigned_err _ c.in_default.is (rw c.next-read.ensures.at at c.ensure_bool-o.ensures.0)) (c.ensure_bool-o.ensures.1.coded c.in_default.is) _ loop))),
   tells_kept (kept_as (λ _. c.in_default.is) c.ensure_bool-o.ensures.1) (λ _. (assigned_err _ c.in_default.is (rw c.next-read.ensures.at at c.ensure_bool-o.ensures.0)).typing),
 )
@@ -387,8 +369,7 @@ repeat-over-passed-requires-clause-on t c =
     record { nodes = c.next-read.ensures.nodes; within = rw c.next-read.ensures.at (pair_while c.requires.1.0.ready.sound c.requires.1.1).first.there }
 
 pub repeat-block-r-requires : goal.repeat-block-r-requires
-repeat-block-r-requires t c =
-    (
+repeat-block-r-requires t c = (
   omega (arith, c.decreases),
   (
     kept_noting c.ensure_bool-o.ensures.1,
@@ -405,8 +386,7 @@ repeat-small-requires t c =
     omega (arith, c.wide32-top.ensures.0, c.requires.1.0.ready.fit.high)
 
 pub repeat-returns : goal.repeat-returns
-repeat-returns t c =
-    (
+repeat-returns t c = (
   (λ loop. acted_from _ _ _ _ _ _ _ c.wide32-top.ensures.0 (done_moved (top_set c.block-r.ensures.1.noting c.small.ensures).moved c.block-r.ensures.1 (top_set c.block-r.ensures.1.noting c.small.ensures).top_is (top_set c.block-r.ensures.1.noting c.small.ensures).ret_kept (while_done (standing_as refl c.wide32-top.ensures.0 refl c.requires.1.0) c.requires.1.1 (assigned_ok _ c.in-Ok.is (rw c.next-read.ensures.at at c.ensure_bool-o.ensures.0)) _ (drops_if _) refl (second_of c.next-read.ensures c.over-passed.ensures) (body_from _ _ _ _ _ _ _ refl (c.ensure_bool-o.ensures.1.top ∙ sym c.wide32-top.ensures.0) c.ensure_bool-o.ensures.1.ret c.block-r.ensures.0) loop))),
   tells_moved (top_set c.block-r.ensures.1.noting c.small.ensures).moved c.block-r.ensures.1,
 )

@@ -27,8 +27,7 @@ refuse-requires c =
     kept_noting c.tc_expr-v.ensures.1
 
 pub returns : goal.returns
-returns c =
-    (
+returns c = (
   iterated_refused c.refuse.ensures (small_node c.requires.1.0.sound c.requires.1.1.there) (small_type (checks_ok _ c.in-Ok.is c.tc_expr-v.ensures.0) refl) (omega arith)
       (elements_none c.requires.1.0 c.requires.1.1 (checks_ok _ c.in-Ok.is c.tc_expr-v.ensures.0) refl c.element_of-element.ensures c.if-element.false),
   kept_trans c.tc_expr-v.ensures.1 (refused_kept (λ z. omega arith) c.refuse.ensures),

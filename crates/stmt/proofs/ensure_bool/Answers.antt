@@ -19,8 +19,7 @@ refuse-requires c =
     kept_noting c.tc_expr-v.ensures.1
 
 pub returns-then-ty-ne-BOOL : goal.returns-then-ty-ne-BOOL
-returns-then-ty-ne-BOOL c =
-    (
+returns-then-ty-ne-BOOL c = (
   assigned_refused c.refuse.ensures (small_node c.requires.1.0.sound c.requires.1.1.there) (omega arith) (omega arith) (condition_other c.requires.1.0 c.requires.1.1 (checks_ok _ c.in-Ok.is c.tc_expr-v.ensures.0) refl c.if-ty-ne-BOOL.true),
   kept_trans c.tc_expr-v.ensures.1 (refused_kept (λ z. omega arith) c.refuse.ensures),
 )

@@ -11,8 +11,7 @@ tc_expr-v-requires c =
     (c.requires.0, (c.requires.1.0.ready, c.requires.1.1.0))
 
 pub returns-in_default : goal.returns-in_default
-returns-in_default c =
-    (
+returns-in_default c = (
   done_ends refl (c.tc_expr-v.ensures.1.top ∙ (sym c.requires.1.1.1)) c.tc_expr-v.ensures.1.ret (give_bad c.requires.1.0.ready c.requires.1.1.0 (checks_err _ c.in_default.is c.tc_expr-v.ensures.0) c.requires.1.0.kept (c.tc_expr-v.ensures.1.coded c.in_default.is)),
   tells_kept (kept_as (λ _. c.in_default.is) c.tc_expr-v.ensures.1) (λ _. typing _ c.requires.1.0.ready.fit (checks_err _ c.in_default.is c.tc_expr-v.ensures.0)),
 )

@@ -44,16 +44,14 @@ give-requires c =
     )
 
 pub returns-in-1 : goal.returns-in-1
-returns-in-1 c =
-    (
+returns-in-1 c = (
   λ setting. done_settled c.outside.ensures (small_node c.requires.1.0.ready.sound c.requires.1.1.0.there)
       (done_ends refl (sym c.requires.1.1.1.1) refl (simple_break _ c.requires.1.0 c.requires.1.1.0 setting (sym (ap (λ d. d.kind) c.next-read.ensures.node) ∙ c.in-1.is) refl)),
   tells_outside c.args.looped 20 c.outside.ensures c.requires.0 (λ z. omega arith),
 )
 
 pub returns-in-2 : goal.returns-in-2
-returns-in-2 c =
-    (
+returns-in-2 c = (
   λ setting. done_settled c.outside-in-2.ensures (small_node c.requires.1.0.ready.sound c.requires.1.1.0.there)
       (done_ends refl (sym c.requires.1.1.1.1) refl (simple_continue _ c.requires.1.0 c.requires.1.1.0 setting (sym (ap (λ d. d.kind) c.next-read.ensures.node) ∙ c.in-2.is) refl)),
   tells_outside c.args.looped 21 c.outside-in-2.ensures c.requires.0 (λ z. omega arith),

@@ -27,8 +27,7 @@ loop-left-init c =
     )
 
 pub tc_stmt-r-requires : goal.tc_stmt-r-requires
-tc_stmt-r-requires c =
-    (
+tc_stmt-r-requires c = (
   moved_noting (ret_clear c.loop-left.invariant.1).moved,
   (
     standing_as (tab_moved (ret_clear c.loop-left.invariant.1).moved _) (ret_clear c.loop-left.invariant.1).top_kept (ret_clear c.loop-left.invariant.1).ret_is
@@ -40,7 +39,7 @@ tc_stmt-r-requires c =
 pub returns-in_default-clause-ran : goal.returns-in_default-clause-ran
 returns-in_default-clause-ran c =
     ran_first (points_ended _ _ c.tc_stmt-r.result c.first_place.result c.first_place.ensures) (ran_as c.tc_stmt-r.ensures.1.noting c.counts_of.ensures.0 c.counts_of.ensures.1 c.wide32-in_default-3.ensures.0 (end_handed c.tc_stmt-r.ensures.1) c.wide32.ensures.0 c.wide32-in_default.ensures.0 c.wide32-in_default-2.ensures.0
-      (running_out c.loop-left.invariant.0 c.loop-left-test.true (walked_from _ _ _ _ _ _ (tab_moved (ret_clear c.loop-left.invariant.1).moved _) (ret_clear c.loop-left.invariant.1).top_kept (ret_clear c.loop-left.invariant.1).ret_is c.tc_stmt-r.ensures.0) (end_other _ c.tc_stmt-r.ensures.1 c.in_default.not-Done)))
+    (running_out c.loop-left.invariant.0 c.loop-left-test.true (walked_from _ _ _ _ _ _ (tab_moved (ret_clear c.loop-left.invariant.1).moved _) (ret_clear c.loop-left.invariant.1).top_kept (ret_clear c.loop-left.invariant.1).ret_is c.tc_stmt-r.ensures.0) (end_other _ c.tc_stmt-r.ensures.1 c.in_default.not-Done)))
 
 pub returns-in_default-clause-refuses : goal.returns-in_default-clause-refuses
 returns-in_default-clause-refuses c =

@@ -8,7 +8,6 @@ use mathlib.Core.Path.{◌∙◌, refl, sym}
 use native.Mathlib.Numerals.{add-one}
 use native.Mathlib.Omega.{arith}
 use borrow.Author.Rules.{rules}
-use Prim.Native.Nat.{◌-◌}
 use Rattle.targets.proofs.+tc_assign_target.Goals as goal
 
 pub assign_each-next-read-requires-clause-headed : goal.assign_each-next-read-requires-clause-headed
@@ -32,8 +31,7 @@ assign_each-tc_assign_target-r-requires t c =
     (omega (arith, c.decreases), (kept_noting c.loop-j.invariant.1, (rw c.loop-j.invariant.2 (loop_ready c.loop-j.invariant.0 c.loop-j-test.true), (loop_at c.loop-j.invariant.0 c.loop-j-test.true, part_below c.loop-j.invariant.0 c.loop-j-test.true c.part_for-part.ensures))))
 
 pub assign_each-returns-in_default : goal.assign_each-returns-in_default
-assign_each-returns-in_default t c =
-    (
+assign_each-returns-in_default t c = (
   rw (← (parent_of c.next-read.ensures)) (loop_wrong c.loop-j.invariant.0 c.loop-j-test.true c.part_for-part.ensures c.tc_assign_target-r.ensures.0 (ill c.tc_assign_target-r.ensures.1 c.in_default.is)),
   kept_trans c.loop-j.invariant.1 c.tc_assign_target-r.ensures.1,
 )
@@ -51,8 +49,7 @@ assign_each-overflow_add-j t c =
     let h = c.loop-j-test.true in let f = c.ranges in search rules
 
 pub assign_each-loop-j-preserved : goal.assign_each-loop-j-preserved
-assign_each-loop-j-preserved t c =
-    (
+assign_each-loop-j-preserved t c = (
   loop_next c.loop-j.invariant.0 c.loop-j-test.true c.part_for-part.ensures c.tc_assign_target-r.ensures.0 (well _ c.in-Ok.is) _ _ (stops c.over-passed.ensures) (add-one _),
   kept_ok (λ e. e) (kept_trans c.loop-j.invariant.1 c.tc_assign_target-r.ensures.1),
   c.over-passed.ensures.nodes ∙ sym c.loop-j.invariant.0.ready.nodes_at,

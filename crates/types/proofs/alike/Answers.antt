@@ -1,7 +1,6 @@
 use Rattle.types.proofs.Searching.{told_no, told_yes}
 use Rattle.types.specs.Steps.{Equal}
 use borrow.Author.Count.{below_more}
-use Prim.Native.Nat.{◌-◌}
 use mathlib.Core.Path.{subst}
 use native.Mathlib.Omega.{arith}
 use borrow.Author.Rules.{rules}

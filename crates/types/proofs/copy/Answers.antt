@@ -1,6 +1,5 @@
 use Rattle.types.proofs.Tuples.{copied_none, copied_more}
 use Rattle.types.specs.Steps.{Copied}
-use Prim.Native.Nat.{◌-◌}
 use mathlib.Core.Path.{subst}
 use native.Mathlib.Omega.{arith}
 use borrow.Author.Rules.{rules}

@@ -1,5 +1,4 @@
 use Rattle.types.proofs.Chains.{hashing_none, hashing_more, hashing_all}
-use Prim.Native.Nat.{◌-◌}
 use native.Mathlib.Omega.{arith}
 use borrow.Author.Rules.{rules}
 use Rattle.types.proofs.hash_of.Goals as goal

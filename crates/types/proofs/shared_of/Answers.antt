@@ -1,6 +1,5 @@
 use Rattle.types.proofs.Sharing.{share_first, share_more, share_not, share_all}
 use Rattle.types.specs.Reading.{shared}
-use Prim.Native.Nat.{◌-◌}
 use native.Mathlib.Omega.{arith}
 use borrow.Author.Rules.{rules}
 use Rattle.types.proofs.shared_of.Goals as goal

@@ -1,7 +1,6 @@
 use Rattle.types.proofs.Room.{capacity_within}
 use Rattle.types.proofs.Writing.{started_none, started_more, started_wf}
 use Rattle.types.specs.Steps.{Started}
-use Prim.Native.Nat.{◌-◌}
 use mathlib.Core.Path.{refl, subst, ◌∙◌}
 use native.Mathlib.Omega.{arith}
 use borrow.Author.Rules.{rules}

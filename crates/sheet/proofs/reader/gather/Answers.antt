@@ -1,5 +1,4 @@
 use Rattle.sheet.proofs.Reading.{gather_first, gather_next, gather_end}
-use Prim.Native.Nat.{◌-◌}
 use native.Mathlib.Omega.{arith}
 use Rattle.sheet.proofs.reader.gather.Goals as goal
 

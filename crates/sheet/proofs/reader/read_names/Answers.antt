@@ -1,6 +1,5 @@
 use Rattle.sheet.proofs.Reading.{told_yes, told_not}
 use Rattle.sheet.proofs.Naming.{names_first, names_naming, names_next, names_end}
-use Prim.Native.Nat.{◌-◌}
 use native.Mathlib.Omega.{arith}
 use Rattle.sheet.proofs.reader.read_names.Goals as goal
 

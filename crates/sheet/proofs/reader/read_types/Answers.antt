@@ -1,6 +1,5 @@
 use Rattle.sheet.proofs.Reading.{told_yes, told_not, not-true, not-false}
 use Rattle.sheet.proofs.Typing.{loop_first, loop_typing, loop_small, loop_next, loop_end}
-use Prim.Native.Nat.{◌-◌}
 use mathlib.Core.Path.{refl, ◌∙◌}
 use native.Mathlib.Omega.{arith}
 use Rattle.sheet.proofs.reader.read_types.Goals as goal

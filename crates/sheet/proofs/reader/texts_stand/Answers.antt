@@ -1,5 +1,4 @@
 use Rattle.sheet.proofs.Ending.{stand_first, stand_inside, stand_not, stand_next, stand_end}
-use Prim.Native.Nat.{◌-◌}
 use native.Mathlib.Omega.{arith}
 use Rattle.sheet.proofs.reader.texts_stand.Goals as goal
 

@@ -1,5 +1,4 @@
 use Rattle.sheet.proofs.Sizes.{sum_first, sum_number, sum_room, sum_next, sum_end}
-use Prim.Native.Nat.{◌-◌}
 use native.Mathlib.Omega.{arith}
 use Rattle.sheet.proofs.writer.elements_of.Goals as goal
 

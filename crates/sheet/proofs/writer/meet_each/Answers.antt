@@ -1,6 +1,5 @@
 use Rattle.sheet.proofs.Names.{meet_first, meet_visit, meet_next, meet_end}
 use mathlib.Core.Path.{refl, ◌∙◌}
-use Prim.Native.Nat.{◌-◌}
 use native.Mathlib.Omega.{arith}
 use Rattle.sheet.proofs.writer.meet_each.Goals as goal
 

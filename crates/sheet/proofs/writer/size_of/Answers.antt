@@ -1,5 +1,4 @@
 use Rattle.sheet.proofs.Names.{size_first, size_room, size_next, size_end}
-use Prim.Native.Nat.{◌-◌}
 use native.Mathlib.Omega.{arith}
 use Rattle.sheet.proofs.writer.size_of.Goals as goal
 

@@ -1,5 +1,4 @@
 use Rattle.sheet.proofs.Areas.{elements_first, elements_met, elements_room, elements_next, elements_end}
-use Prim.Native.Nat.{◌-◌}
 use native.Mathlib.Omega.{arith}
 use Rattle.sheet.proofs.writer.write_elements.Goals as goal
 

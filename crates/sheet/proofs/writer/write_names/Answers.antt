@@ -1,5 +1,4 @@
 use Rattle.sheet.proofs.Areas.{names_first, names_known, names_room, names_small, names_sum, names_next, names_end}
-use Prim.Native.Nat.{◌-◌}
 use native.Mathlib.Omega.{arith}
 use Rattle.sheet.proofs.writer.write_names.Goals as goal
 

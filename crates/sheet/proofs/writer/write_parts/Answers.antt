@@ -1,5 +1,4 @@
 use Rattle.sheet.proofs.Areas.{parts_first, parts_place, parts_small, parts_room, parts_next, parts_end, put_one, met_room}
-use Prim.Native.Nat.{◌-◌}
 use native.Mathlib.Omega.{arith}
 use Rattle.sheet.proofs.writer.write_parts.Goals as goal
 

@@ -1,5 +1,4 @@
 use Rattle.sheet.proofs.Areas.{texts_first, texts_inside, texts_room, texts_next, texts_end}
-use Prim.Native.Nat.{◌-◌}
 use native.Mathlib.Omega.{arith}
 use Rattle.sheet.proofs.writer.write_texts.Goals as goal
 

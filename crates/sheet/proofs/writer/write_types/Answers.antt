@@ -1,5 +1,4 @@
 use Rattle.sheet.proofs.Areas.{types_first, types_met, types_room, types_sum, types_next, types_end, met_room}
-use Prim.Native.Nat.{◌-◌}
 use native.Mathlib.Omega.{arith}
 use Rattle.sheet.proofs.writer.write_types.Goals as goal
 
