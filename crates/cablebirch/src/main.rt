@@ -1,24 +1,86 @@
 // The program: an image checked, its sheet written, a sheet shown, two compared, the load rule, and a stored image
 // converted, over files. What is asked and what is said stands in `verbs`; here files are read and the answers written.
 // All of it is proved safe and ending, and no more, since no contract can say what is read or written. The status goes
-// to descriptor 3 as one digit, since `main` returns nothing.
+// to descriptor 3 as one digit, and `main` ends with 0.
 #![tactic(auto)]
+
 ghost use Rattle.std.specs.Prelude.{◌≡◌, ◌≤◌, length};
 ghost use Rattle.cablebirch.specs.Files.{length_read};
 
 use checker::{Reading, read_sheet};
-use libc::{EACCES, EISDIR, ENOENT, ENOTDIR, STDERR_FILENO, STDIN_FILENO, STDOUT_FILENO};
 use limits::{LARGEST_CHANGES, LARGEST_SHOW, READ_AT_MOST, SHEET_BUFFER};
+use std::fs::File;
+use std::io::{Cursor, Error, Read, Write};
+use system::{Word, read_full, word_at, word_given};
 use verbs::{
     Asked, Command, Files, KNOWN, LINE, LOAD, Status, Verb, command_of, digit_of, kind_of, renew,
     say_changes, say_check, say_known, say_load, say_show, verb_told, with_word, write_sheet,
 };
 use words::{same, text};
 
+// ---- the system's numbers of errors
+
+// "No such file or directory"
+const ENOENT: i32 = 2;
+
+// "Permission denied"
+const EACCES: i32 = 13;
+
+// "Not a directory"
+const ENOTDIR: i32 = 20;
+
+// "Is a directory"
+const EISDIR: i32 = 21;
+
+// What a name is refused for that is no text, since std opens files by text alone.
+const EILSEQ: i32 = 84;
+
+// An error that has no number of the system's counts as this one: "Input/output error".
+const EIO: i32 = 5;
+
+fn number_of(error: &Error) -> i32 {
+    match error.raw_os_error() {
+        Some(number) => number,
+        None => EIO,
+    }
+}
+
 // ---- files
 
+const STDERR: i32 = 2;
+
 fn say(text: &[u8]) {
-    io::write_all(STDERR_FILENO, text);
+    io::write_all(STDERR, text);
+}
+
+// Where ` (os error 2)` begins behind the system's words, or where the text ends.
+fn words_end(text: &[u8]) -> usize
+    ensures { result ≤ length text.now }
+{
+    let mark = b" (os error ";
+    for i in 0..text.len() {
+        if mark.len() <= text.len() - i && same(&text[i..i + mark.len()], mark) {
+            return i;
+        }
+    }
+    text.len()
+}
+
+// What failed, a colon and the system's words for the error.
+fn say_failed(what: &[u8], number: i32) {
+    say(what);
+    say(b": ");
+    let mut words = Cursor::new([0u8; 256]);
+    if write!(words, "{}", Error::from_raw_os_error(number)).is_ok() {
+        let told = words.into_inner();
+        let length = told
+            .iter()
+            .position(|byte| *byte == 0)
+            .unwrap_or(told.len());
+        let written = &told[..length];
+        say(&written[..words_end(written)]);
+    }
+    say(b"\n");
 }
 
 // A file was read, and so many bytes of it stand at the front of the buffer; or it was not, by the error of the system;
@@ -45,9 +107,9 @@ fn length_of(got: Got) -> usize
 fn say_unread(name: &[u8], got: Got) {
     match got {
         Got::Read(_) => {}
-        Got::Failed(_) => {
+        Got::Failed(number) => {
             say(b"cablebirch: ");
-            os::fail(name);
+            say_failed(name, number);
         }
         Got::Grew => {
             say(b"cablebirch: ");
@@ -58,57 +120,58 @@ fn say_unread(name: &[u8], got: Got) {
 }
 
 // `read_full` stops short at the end and at a read that fails: one more read tells them apart.
-fn read_from(fd: i32, buf: &mut [u8]) -> Got
+fn read_from<R: Read>(from: &mut R, buf: &mut [u8]) -> Got
     ensures { length_read result ≤ length buf.new }
 {
-    let length = io::read_full(fd, buf);
+    let length = read_full(from, buf);
     if length == buf.len() {
         return Got::Read(length);
     }
     let mut more = [0u8; 1];
-    let got = libc::read(fd, &mut more);
-    if got == 0 {
-        return Got::Read(length);
+    match from.read(&mut more) {
+        Ok(0) => Got::Read(length),
+        Ok(_) => Got::Grew,
+        Err(e) => Got::Failed(number_of(&e)),
     }
-    if got < 0 {
-        return Got::Failed(os::errno());
+}
+
+// Reads the file of this name.
+fn read_named(rt: &HostRuntime, name: &[u8], buf: &mut [u8]) -> Got
+    ensures { length_read result ≤ length buf.new }
+{
+    let Ok(path) = str::from_utf8(name) else {
+        return Got::Failed(EILSEQ);
+    };
+    match File::open(rt, path) {
+        Ok(mut file) => read_from(&mut file, buf),
+        Err(e) => Got::Failed(number_of(&e)),
     }
-    Got::Grew
 }
 
 // Reads the file that an argument names. If it cannot be read, `tells` asks to say why at once.
-fn read_file(a: usize, buf: &mut [u8], tells: bool) -> Got
+fn read_file(rt: &HostRuntime, a: usize, buf: &mut [u8], tells: bool) -> Got
     ensures { length_read result ≤ length buf.new }
 {
     let mut name = io::buffer();
-    let n = os::arg(a, &mut name);
+    let n = word_at(rt, a, &mut name);
     if same(&name[..n], b"-") {
-        let got = read_from(STDIN_FILENO, buf);
+        let got = read_from(&mut rt.stdin(), buf);
         if tells {
             say_unread(b"standard input", got);
         }
         return got;
     }
-    let fd = os::open_read(&name[..n]);
-    if fd < 0 {
-        let got = Got::Failed(os::errno());
-        if tells {
-            say_unread(&name[..n], got);
-        }
-        return got;
-    }
-    let got = read_from(fd, buf);
+    let got = read_named(rt, &name[..n], buf);
     if tells {
         say_unread(&name[..n], got);
     }
-    libc::close(fd);
     got
 }
 
 // The name of a file as it was given, for standard error.
-fn say_name(a: usize) {
+fn say_name(rt: &HostRuntime, a: usize) {
     let mut name = io::buffer();
-    let n = os::arg(a, &mut name);
+    let n = word_at(rt, a, &mut name);
     say(b"cablebirch: ");
     if same(&name[..n], b"-") {
         say(b"standard input");
@@ -118,43 +181,45 @@ fn say_name(a: usize) {
 }
 
 // Output that cannot be written in full counts as nothing done.
-fn print(text: &[u8], status: Status) -> Status {
-    if io::write_all(STDOUT_FILENO, text) {
-        return status;
+fn print(rt: &HostRuntime, text: &[u8], status: Status) -> Status {
+    match rt.stdout().write_all(text) {
+        Ok(()) => status,
+        Err(e) => {
+            say_failed(b"cablebirch: standard output", number_of(&e));
+            Status::Misused
+        }
     }
-    os::fail(b"cablebirch: standard output");
-    Status::Misused
 }
 
 // ---- the verbs
 
-fn run_check(setting: u32, a: usize) -> Status {
+fn run_check(rt: &HostRuntime, setting: u32, a: usize) -> Status {
     let mut image = [0u8; READ_AT_MOST];
-    let got = read_file(a, &mut image, true);
+    let got = read_file(rt, a, &mut image, true);
     let Got::Read(_) = got else {
         return Status::Misused;
     };
     let mut out = [0u8; LINE];
     let done = say_check(setting, text(&image, 0, length_of(got)), &mut out);
     let status = done.status;
-    print(text(&out, 0, done.length), status)
+    print(rt, text(&out, 0, done.length), status)
 }
 
-fn run_known(setting: u32, a: usize) -> Status {
+fn run_known(rt: &HostRuntime, setting: u32, a: usize) -> Status {
     let mut image = [0u8; READ_AT_MOST];
-    let got = read_file(a, &mut image, true);
+    let got = read_file(rt, a, &mut image, true);
     let Got::Read(_) = got else {
         return Status::Misused;
     };
     let mut out = [0u8; KNOWN];
     let done = say_known(setting, text(&image, 0, length_of(got)), &mut out);
     let status = done.status;
-    print(text(&out, 0, done.length), status)
+    print(rt, text(&out, 0, done.length), status)
 }
 
-fn run_sheet(setting: u32, a: usize) -> Status {
+fn run_sheet(rt: &HostRuntime, setting: u32, a: usize) -> Status {
     let mut image = [0u8; READ_AT_MOST];
-    let got = read_file(a, &mut image, true);
+    let got = read_file(rt, a, &mut image, true);
     let Got::Read(_) = got else {
         return Status::Misused;
     };
@@ -168,7 +233,7 @@ fn run_sheet(setting: u32, a: usize) -> Status {
     );
     say(text(&out, 0, w.line));
     let status = w.status;
-    print(text(&sheet, 0, w.sheet), status)
+    print(rt, text(&sheet, 0, w.sheet), status)
 }
 
 fn is_sheet(bytes: &[u8]) -> bool {
@@ -179,54 +244,54 @@ fn is_sheet(bytes: &[u8]) -> bool {
     }
 }
 
-fn say_no_sheet(a: usize) {
-    say_name(a);
+fn say_no_sheet(rt: &HostRuntime, a: usize) {
+    say_name(rt, a);
     say(b" is no type sheet (12)\n");
 }
 
-fn run_show(a: usize) -> Status {
+fn run_show(rt: &HostRuntime, a: usize) -> Status {
     let mut sheet = [0u8; READ_AT_MOST];
-    let got = read_file(a, &mut sheet, true);
+    let got = read_file(rt, a, &mut sheet, true);
     let Got::Read(_) = got else {
         return Status::Misused;
     };
     let shown = text(&sheet, 0, length_of(got));
     if !is_sheet(shown) {
-        say_no_sheet(a);
+        say_no_sheet(rt, a);
     }
     let mut out = [0u8; LARGEST_SHOW];
     let done = say_show(shown, &mut out);
     let status = done.status;
-    print(text(&out, 0, done.length), status)
+    print(rt, text(&out, 0, done.length), status)
 }
 
 // The first of the two that is no sheet is told.
-fn say_if_no_sheet(a: usize, old: &[u8], b: usize, new: &[u8]) {
+fn say_if_no_sheet(rt: &HostRuntime, a: usize, old: &[u8], b: usize, new: &[u8]) {
     if !is_sheet(old) {
-        say_no_sheet(a);
+        say_no_sheet(rt, a);
     } else if !is_sheet(new) {
-        say_no_sheet(b);
+        say_no_sheet(rt, b);
     }
 }
 
-fn run_changes(a: usize, b: usize) -> Status {
+fn run_changes(rt: &HostRuntime, a: usize, b: usize) -> Status {
     let mut old = [0u8; READ_AT_MOST];
-    let was = read_file(a, &mut old, true);
+    let was = read_file(rt, a, &mut old, true);
     let Got::Read(_) = was else {
         return Status::Misused;
     };
     let mut new = [0u8; READ_AT_MOST];
-    let is = read_file(b, &mut new, true);
+    let is = read_file(rt, b, &mut new, true);
     let Got::Read(_) = is else {
         return Status::Misused;
     };
     let before = text(&old, 0, length_of(was));
     let after = text(&new, 0, length_of(is));
-    say_if_no_sheet(a, before, b, after);
+    say_if_no_sheet(rt, a, before, b, after);
     let mut out = [0u8; LARGEST_CHANGES];
     let done = say_changes(before, after, &mut out);
     let status = done.status;
-    print(text(&out, 0, done.length), status)
+    print(rt, text(&out, 0, done.length), status)
 }
 
 // The system's words for what keeps an approved sheet from being read, of which `os` has no text to go on behind.
@@ -241,8 +306,8 @@ fn say_reason(error: i32) {
 }
 
 // Why every name counts as new: nothing was approved yet, or what was is no sheet.
-fn say_all_new(a: usize, was: Got) {
-    say_name(a);
+fn say_all_new(rt: &HostRuntime, a: usize, was: Got) {
+    say_name(rt, a);
     match was {
         Got::Read(_) => say(b" is no type sheet (12)"),
         Got::Failed(error) => {
@@ -254,22 +319,22 @@ fn say_all_new(a: usize, was: Got) {
     say(b": every name is new\n");
 }
 
-fn run_load(setting: u32, a: usize, b: usize) -> Status {
+fn run_load(rt: &HostRuntime, setting: u32, a: usize, b: usize) -> Status {
     let mut image = [0u8; READ_AT_MOST];
-    let got = read_file(b, &mut image, true);
+    let got = read_file(rt, b, &mut image, true);
     let Got::Read(_) = got else {
         return Status::Misused;
     };
     let mut sheet = [0u8; READ_AT_MOST];
-    let was = read_file(a, &mut sheet, false);
+    let was = read_file(rt, a, &mut sheet, false);
     let approved = text(&sheet, 0, length_of(was));
     let mut out = [0u8; LOAD];
     let done = say_load(setting, text(&image, 0, length_of(got)), approved, &mut out);
     let status = done.status;
     if is_changed(status) && !is_sheet(approved) {
-        say_all_new(a, was);
+        say_all_new(rt, a, was);
     }
-    print(text(&out, 0, done.length), status)
+    print(rt, text(&out, 0, done.length), status)
 }
 
 fn is_changed(status: Status) -> bool {
@@ -279,9 +344,9 @@ fn is_changed(status: Status) -> bool {
     }
 }
 
-fn run_convert(a: usize) -> Status {
+fn run_convert(rt: &HostRuntime, a: usize) -> Status {
     let mut image = [0u8; READ_AT_MOST];
-    let got = read_file(a, &mut image, true);
+    let got = read_file(rt, a, &mut image, true);
     let Got::Read(_) = got else {
         return Status::Misused;
     };
@@ -290,11 +355,12 @@ fn run_convert(a: usize) -> Status {
     let w = renew(text(&image, 0, length_of(got)), &mut new, &mut out);
     say(text(&out, 0, w.line));
     let status = w.status;
-    print(text(&new, 0, w.image), status)
+    print(rt, text(&new, 0, w.image), status)
 }
 
-fn run_help() -> Status {
+fn run_help(rt: &HostRuntime) -> Status {
     print(
+        rt,
         b"usage: cablebirch VERB ..   (a file `-` is standard input)\n  \
           check [--strict] [--known] IMAGE  accepted, or why not, and where a type was first set\n  \
           sheet [--strict] IMAGE            the type sheet of an accepted script\n  \
@@ -312,46 +378,50 @@ fn run_help() -> Status {
 // ---- the words of the program
 
 // What the word at this place adds, if there is one.
-fn asked_at(w: Asked, a: usize) -> Asked {
-    if os::arg_count() <= a {
+fn asked_at(rt: &HostRuntime, w: Asked, a: usize) -> Asked {
+    let mut word = io::buffer();
+    if let Word::Absent = word_given(rt, a, &mut word) {
         return w;
     }
-    let mut word = io::buffer();
-    let n = os::arg(a, &mut word);
+    let n = word_at(rt, a, &mut word);
     with_word(w, a, kind_of(&word[..n]))
 }
 
 // The words behind the verb. No verb takes more than three, so that a fourth settles it (`five_words` in `verbs`).
-fn words_asked() -> Asked {
+fn words_asked(rt: &HostRuntime) -> Asked {
     let none = Asked {
         strict: false,
         known: false,
         input: false,
         files: Files::None,
     };
-    asked_at(asked_at(asked_at(asked_at(none, 2), 3), 4), 5)
+    asked_at(
+        rt,
+        asked_at(rt, asked_at(rt, asked_at(rt, none, 2), 3), 4),
+        5,
+    )
 }
 
-fn is_too_long(a: usize) -> bool {
-    if os::arg_count() <= a {
-        return false;
+fn is_too_long(rt: &HostRuntime, a: usize) -> bool {
+    let mut word = io::buffer();
+    match word_given(rt, a, &mut word) {
+        Word::Long => true,
+        _ => false,
     }
-    let mut word = io::buffer();
-    os::arg(a, &mut word);
-    os::errno() != 0
 }
 
-fn verb_given() -> Verb {
+fn verb_given(rt: &HostRuntime) -> Verb {
     let mut word = io::buffer();
-    let n = os::arg(1, &mut word);
+    let n = word_at(rt, 1, &mut word);
     verb_told(&word[..n])
 }
 
-fn say_no_verb() {
-    if os::arg_count() < 2 {
+fn say_no_verb(rt: &HostRuntime) {
+    let mut word = io::buffer();
+    if let Word::Absent = word_given(rt, 1, &mut word) {
         say(b"cablebirch: a verb is missing; try cablebirch help\n");
     } else {
-        say_name(1);
+        say_name(rt, 1);
         say(b" is no verb; try cablebirch help\n");
     }
 }
@@ -374,18 +444,18 @@ fn say_bad_words(verb: Verb) {
     }
 }
 
-fn run(verb: Verb) -> Status {
-    match command_of(verb, words_asked()) {
-        Command::CheckImage(setting, a) => run_check(setting, a),
-        Command::CheckKnown(setting, a) => run_known(setting, a),
-        Command::WriteSheet(setting, a) => run_sheet(setting, a),
-        Command::ShowSheet(a) => run_show(a),
-        Command::TellChanges(a, b) => run_changes(a, b),
-        Command::LoadImage(setting, a, b) => run_load(setting, a, b),
-        Command::ConvertImage(a) => run_convert(a),
-        Command::Usage => run_help(),
+fn run(rt: &HostRuntime, verb: Verb) -> Status {
+    match command_of(verb, words_asked(rt)) {
+        Command::CheckImage(setting, a) => run_check(rt, setting, a),
+        Command::CheckKnown(setting, a) => run_known(rt, setting, a),
+        Command::WriteSheet(setting, a) => run_sheet(rt, setting, a),
+        Command::ShowSheet(a) => run_show(rt, a),
+        Command::TellChanges(a, b) => run_changes(rt, a, b),
+        Command::LoadImage(setting, a, b) => run_load(rt, setting, a, b),
+        Command::ConvertImage(a) => run_convert(rt, a),
+        Command::Usage => run_help(rt),
         Command::NoVerb => {
-            say_no_verb();
+            say_no_verb(rt);
             Status::Misused
         }
         Command::BadWords => {
@@ -395,18 +465,18 @@ fn run(verb: Verb) -> Status {
     }
 }
 
-fn status_told() -> Status {
-    if is_too_long(1) || is_too_long(2) || is_too_long(3) || is_too_long(4) {
+fn status_told(rt: &HostRuntime) -> Status {
+    if is_too_long(rt, 1) || is_too_long(rt, 2) || is_too_long(rt, 3) || is_too_long(rt, 4) {
         say(b"cablebirch: a word is longer than 4,096 bytes; try cablebirch help\n");
         return Status::Misused;
     }
-    run(verb_given())
+    run(rt, verb_given(rt))
 }
 
 // Where the status goes.
 const STATUS_FD: i32 = 3;
 
-fn main() {
-    let digit = [digit_of(status_told())];
+fn main(rt: HostRuntime) {
+    let digit = [digit_of(status_told(&rt))];
     io::write_all(STATUS_FD, &digit);
 }

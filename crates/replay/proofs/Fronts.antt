@@ -1,5 +1,5 @@
 -- The lines: digits, a checksum or a second span in the place of a line's end, and what the check left in the buffers. Assumes nothing.
-use Rattle.std.proofs.Common.{◌≡◌, ℕ, suc, ◌+◌, ◌-◌, ◌^◌, ◌<◌, ◌≤◌, Bool, true, false, eqb, leb, ◌⊎◌, List, [], ◌∷◌, ◌++◌, length, take, drop, replicate, sym, refl, ap, ◌∙◌, inl, inr, zero-add, arith, length-append, length-take-le, drop-drop, eq-eqb, ne_eqb}
+use Rattle.std.proofs.Common.{◌≡◌, ℕ, ◌+◌, ◌-◌, ◌^◌, ◌<◌, ◌≤◌, Bool, true, false, eqb, leb, ◌⊎◌, List, [], ◌∷◌, ◌++◌, length, take, drop, replicate, sym, refl, ap, ◌∙◌, inl, inr, zero-add, arith, length-append, length-take-le, drop-drop, eq-eqb, ne_eqb}
 use mathlib.Core.Option.{Option, none, some}
 use native.Mathlib.Nat.{pow-le-pow_right}
 use native.Mathlib.Decide.{dec_lt}
@@ -9,10 +9,9 @@ use Rattle.io.specs.Digits.{last_digits, IsDigitCount}
 use Rattle.meaning.specs.Base.{if◌then◌else◌, choose, if_some, bytes, decimal, word}
 use Rattle.meaning.specs.Sheet.{Entry, sheet_of}
 use Rattle.meaning.specs.Read.{read_sheet}
-use Rattle.meaning.specs.Answer.{Answer, answer, bare, written, write_answer, overlaid}
+use Rattle.meaning.specs.Answer.{Answer, bare, written, write_answer, overlaid}
 use Rattle.meaning.specs.Line.{spaced, accepted_line, refused_line, line_of}
 use Rattle.meaning.proofs.Answers.{overlaid_length, written_answered, overlaid_front}
-use Rattle.meaning.proofs.Answers.{answered as bounds}
 use Rattle.meaning.proofs.SheetForm.{sheet_size}
 use Rattle.words.specs.Words.{put_at, Wrote}
 use Rattle.words.proofs.Laws.{decimal_length, put_overlaid, wrote, and_then}

@@ -1,5 +1,5 @@
 -- The checksum: the product taken apart, a turn of the loop, and sums that are known. Assumes nothing.
-use Rattle.std.proofs.Common.{◌≡◌, ℕ, suc, ◌+◌, ◌*◌, ◌/◌, ◌%◌, ◌^◌, ◌<◌, ◌≤◌, List, [], ◌∷◌, length, get_or, drop, sym, refl, ap, ◌∙◌, add-one, arith, drop_of_length-le, drop-cons}
+use Rattle.std.proofs.Common.{◌≡◌, ℕ, ◌+◌, ◌*◌, ◌/◌, ◌%◌, ◌^◌, ◌<◌, ◌≤◌, List, [], ◌∷◌, length, get_or, drop, sym, refl, ap, ◌∙◌, add-one, arith, drop_of_length-le, drop-cons}
 use native.Mathlib.Nat.{mod-add-mod, mul-add-mod_self_right}
 use lib.Bits.{bit_xor}
 use Rattle.replay.specs.Lines.{fnv_start, fnv_prime, fnv_from, fnv_of}

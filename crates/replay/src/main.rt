@@ -4,6 +4,7 @@
 // `replay tight` in the rooms of the tight list, and `replay sheets` the line of each sheet. Behind document 01's
 // printed line an image's has what that does not tell: the checksum of the sheet, and of 25 and 23 the second span.
 #![tactic(auto)]
+
 ghost use Rattle.std.specs.Prelude.{◌≡◌, ◌+◌, ◌*◌, ◌%◌, ◌^◌, ◌<◌, ◌≤◌, min, true, length};
 ghost use Rattle.line.specs.Printing.{Fronted};
 ghost use Rattle.words.specs.Words.{Wrote};
@@ -12,12 +13,13 @@ ghost use Rattle.replay.specs.Lines.{line_room, fnv_of, hex_of, checksum, second
 ghost use Rattle.replay.specs.Lines.{read_line, sheet_line, line_for};
 
 use checker::{PLAIN, STRICT, cablebirch_write_sheet};
-use libc::{STDIN_FILENO, STDOUT_FILENO};
 use limits::{LARGEST_SHEET, MESSAGE_BUFFER, READ_AT_MOST, SHEET_BUFFER};
 use line::put_spaced;
 use rules::codes;
 use sheet::header;
-use std::num::wrapping_add_u64;
+use std::fs::File;
+use std::io::{Read, Seek, SeekFrom};
+use system::{Word, read_full, word_at, word_given};
 use words::{get_word, put, put_decimal, same, text, wide8};
 
 // Room for a line: what stands around its message has fewer than 128 bytes.
@@ -53,7 +55,7 @@ fn times_prime(h: u64) -> u64
     let high = h % KEPT * HIGH;
     let middle = h / HALF * LOW % HALF * HALF;
     let low = h % HALF * LOW;
-    wrapping_add_u64(wrapping_add_u64(high, middle), low)
+    high.wrapping_add(middle).wrapping_add(low)
 }
 
 fn fnv(s: &[u8]) -> u64
@@ -235,20 +237,19 @@ fn least(a: usize, b: usize) -> usize
     if a < b { a } else { b }
 }
 
-fn skip_some(fd: i32, wanted: usize) -> bool
+fn skip_some<R: Read>(from: &mut R, wanted: usize) -> bool
     requires { wanted ≤ 4096 }
 {
     let mut block = io::buffer();
-    let n = io::count(wanted as isize, &block);
-    io::read_full(fd, &mut block[..n]) == wanted
+    read_full(from, &mut block[..wanted]) == wanted
 }
 
 // Reads over the bytes of a record for which there was no room, and answers whether they were there.
-fn skip(fd: i32, from: usize, to: usize) -> bool {
-    let mut at = from;
+fn skip<R: Read>(from: &mut R, start: usize, to: usize) -> bool {
+    let mut at = start;
     while at < to {
         let wanted = least(to - at, BLOCK);
-        if !skip_some(fd, wanted) {
+        if !skip_some(from, wanted) {
             return false;
         }
         at += wanted;
@@ -256,17 +257,13 @@ fn skip(fd: i32, from: usize, to: usize) -> bool {
     true
 }
 
-fn signed(n: u32) -> isize {
-    n as isize
-}
-
 // A record that is longer than the buffer is cut. Its line is the same, if the buffer has 59,937 bytes: `line_cut` in
 // proofs/Cutting.antt. That what stands in the buffer is the record's front is believed, as `io` promises no bytes.
-fn next(fd: i32, buf: &mut [u8]) -> Got
+fn next<R: Read>(from: &mut R, buf: &mut [u8]) -> Got
     ensures { result.length ≤ length buf.new }
 {
     let mut head = [0u8; HEAD];
-    let n = io::read_full(fd, &mut head);
+    let n = read_full(from, &mut head);
     if n < HEAD {
         return Got {
             is_there: 0 < n,
@@ -275,9 +272,9 @@ fn next(fd: i32, buf: &mut [u8]) -> Got
         };
     }
     let length = get_word(&head, 0);
-    let kept = io::count(signed(length), buf);
-    let m = io::read_full(fd, &mut buf[..kept]);
-    let is_whole = m == kept && skip(fd, kept, length as usize);
+    let kept = least(length as usize, buf.len());
+    let m = read_full(from, &mut buf[..kept]);
+    let is_whole = m == kept && skip(from, kept, length as usize);
     Got {
         is_there: true,
         is_whole,
@@ -285,15 +282,17 @@ fn next(fd: i32, buf: &mut [u8]) -> Got
     }
 }
 
+const STDOUT: i32 = 1;
+
 fn say(text: &[u8]) {
-    io::write_all(STDOUT_FILENO, text);
+    io::write_all(STDOUT, text);
 }
 
 // The line of the next record of standard input; whether to go on.
-fn print_next(task: Task, buf: &mut [u8], out: &mut [u8]) -> bool
+fn print_next<R: Read>(task: Task, input: &mut R, buf: &mut [u8], out: &mut [u8]) -> bool
     requires { line_room ≤ length out.old }
 {
-    let got = next(STDIN_FILENO, buf);
+    let got = next(input, buf);
     if !got.is_there {
         return false;
     }
@@ -303,16 +302,16 @@ fn print_next(task: Task, buf: &mut [u8], out: &mut [u8]) -> bool
     }
     let length = got.length;
     let n = line_of(task, text(buf, 0, length), out);
-    io::write_all(STDOUT_FILENO, text(out, 0, n))
+    io::write_all(STDOUT, text(out, 0, n))
 }
 
 // A proved loop has to end, and nothing says that the input does: it counts its turns down from a number that no batch
 // uses up.
-fn print_lines(task: Task) {
+fn print_lines<R: Read>(task: Task, input: &mut R) {
     let mut buf = [0u8; READ_AT_MOST];
     let mut out = [0u8; LINE];
     let mut turns = u64::MAX;
-    while turns > 0 && print_next(task, &mut buf, &mut out) {
+    while turns > 0 && print_next(task, input, &mut buf, &mut out) {
         turns -= 1;
     }
 }
@@ -340,14 +339,26 @@ struct Line {
     length: usize,
 }
 
-fn offset(at: u32) -> i64 {
-    at as i64
+// How much of a file stands in the buffer, from there on: nothing of a file that is not open or cannot be read.
+fn read_at(file: &mut Option<File>, at: u32, buf: &mut [u8]) -> usize
+    ensures { result ≤ length buf.new }
+{
+    let Some(open) = file else {
+        return 0;
+    };
+    match open.seek(SeekFrom::Start(u64::from(at))) {
+        Ok(_) => match open.read(buf) {
+            Ok(n) => n,
+            Err(_) => 0,
+        },
+        Err(_) => 0,
+    }
 }
 
-fn line_at(fd: i32, at: u32, buf: &mut [u8]) -> Line
+fn line_at(answers: &mut Option<File>, at: u32, buf: &mut [u8]) -> Line
     ensures { result.length ≤ length buf.new }
 {
-    let n = io::count(libc::pread(fd, buf, offset(at)), buf);
+    let n = read_at(answers, at, buf);
     Line {
         is_there: 0 < n,
         length: line_length(&buf[..n]),
@@ -394,7 +405,7 @@ fn say_judge(task: Task) {
 // As `image 17: ours accepted 0 0 40 #41d22a8c2066ae0c / T refused 7 0 0 0 -`. The judge's line brings the line's end.
 fn tell(task: Task, number: u32, ours: &[u8], theirs: &[u8]) {
     say_record(task);
-    io::print_decimal(STDOUT_FILENO, number as u64);
+    io::print_decimal(STDOUT, number as u64);
     say(b": ours ");
     if 0 < ours.len() {
         say(text(ours, 0, ours.len() - 1));
@@ -411,13 +422,34 @@ struct Step {
     at: u32,
 }
 
-fn replay_next(task: Task, records: i32, answers: i32, number: u32, at: u32, buf: &mut [u8]) -> Step
+// The next record of a file; of one that is not open there is none.
+fn next_of(records: &mut Option<File>, buf: &mut [u8]) -> Got
+    ensures { result.length ≤ length buf.new }
+{
+    let Some(open) = records else {
+        return Got {
+            is_there: false,
+            is_whole: false,
+            length: 0,
+        };
+    };
+    next(open, buf)
+}
+
+fn replay_next(
+    task: Task,
+    records: &mut Option<File>,
+    answers: &mut Option<File>,
+    number: u32,
+    at: u32,
+    buf: &mut [u8],
+) -> Step
     requires { at + line_room < 4294967296 }
     ensures { result.at ≤ at + line_room }
 {
     let mut ours = [0u8; LINE];
     let mut theirs = [0u8; LINE];
-    let got = next(records, buf);
+    let got = next_of(records, buf);
     let line = line_at(answers, at, &mut theirs);
     if !are_there(got, line) {
         return Step {
@@ -451,7 +483,7 @@ struct Tally {
 // A proved loop has to end: the list has some thousands of entries, far from this limit.
 const MOST_ENTRIES: u32 = 1000000;
 
-fn replay_all(task: Task, records: i32, answers: i32) -> Tally
+fn replay_all(task: Task, records: &mut Option<File>, answers: &mut Option<File>) -> Tally
     ensures { (result.agreed ≤ 1000000) × (result.differ ≤ 1000000) }
 {
     let mut buf = [0u8; READ_AT_MOST];
@@ -475,51 +507,57 @@ fn replay_all(task: Task, records: i32, answers: i32) -> Tally
     }
 }
 
-fn opened(path: &[u8]) -> i32 {
-    let fd = os::open_read(path);
-    if fd < 0 {
-        say(path);
-        say(b" cannot be opened\n");
+fn opened(rt: &HostRuntime, path: &str) -> Option<File> {
+    match File::open(rt, path) {
+        Ok(file) => Some(file),
+        Err(_) => {
+            say(path.as_bytes());
+            say(b" cannot be opened\n");
+            None
+        }
     }
-    fd
 }
 
-fn replay_files(task: Task, records: &[u8], answers: &[u8]) -> Tally
+fn replay_files(rt: &HostRuntime, task: Task, records: &str, answers: &str) -> Tally
     ensures { (result.agreed ≤ 1000000) × (result.differ ≤ 1000000) }
 {
-    replay_all(task, opened(records), opened(answers))
+    let mut records = opened(rt, records);
+    let mut answers = opened(rt, answers);
+    replay_all(task, &mut records, &mut answers)
 }
 
-fn replay_stored() {
-    let images = replay_files(Task::Images, b"images.batch", b"answers.txt");
-    let strict = replay_files(Task::Strict, b"images.batch", b"strict-answers.txt");
-    let tight = replay_files(Task::Tight, b"tight-images.batch", b"tight-answers.txt");
-    let sheets = replay_files(Task::Sheets, b"sheets.batch", b"sheets-answers.txt");
+fn replay_stored(rt: &HostRuntime) {
+    let images = replay_files(rt, Task::Images, "images.batch", "answers.txt");
+    let strict = replay_files(rt, Task::Strict, "images.batch", "strict-answers.txt");
+    let tight = replay_files(rt, Task::Tight, "tight-images.batch", "tight-answers.txt");
+    let sheets = replay_files(rt, Task::Sheets, "sheets.batch", "sheets-answers.txt");
     io::print_decimal(
-        STDOUT_FILENO,
+        STDOUT,
         (images.agreed + strict.agreed + tight.agreed + sheets.agreed) as u64,
     );
     say(b" agreed, ");
     io::print_decimal(
-        STDOUT_FILENO,
+        STDOUT,
         (images.differ + strict.differ + tight.differ + sheets.differ) as u64,
     );
     say(b" differ\n");
 }
 
-fn main() {
+fn main(rt: HostRuntime) {
     let mut word = io::buffer();
-    let n = os::arg(1, &mut word);
-    if os::arg_count() < 2 {
-        print_lines(Task::Images);
-    } else if same(&word[..n], b"strict") {
-        print_lines(Task::Strict);
+    if let Word::Absent = word_given(&rt, 1, &mut word) {
+        print_lines(Task::Images, &mut rt.stdin());
+        return;
+    }
+    let n = word_at(&rt, 1, &mut word);
+    if same(&word[..n], b"strict") {
+        print_lines(Task::Strict, &mut rt.stdin());
     } else if same(&word[..n], b"tight") {
-        print_lines(Task::Tight);
+        print_lines(Task::Tight, &mut rt.stdin());
     } else if same(&word[..n], b"sheets") {
-        print_lines(Task::Sheets);
+        print_lines(Task::Sheets, &mut rt.stdin());
     } else if same(&word[..n], b"stored") {
-        replay_stored();
+        replay_stored(&rt);
     } else {
         say(b"usage: replay [strict | tight | sheets | stored]\n");
     }

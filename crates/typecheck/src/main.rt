@@ -1,11 +1,13 @@
 // Reads a program image on standard input and prints the one line of its answer. The word behind the program's name is
 // the setting: none or `plain`, or `strict`; anything else gets code 13.
 #![tactic(auto)]
+
 ghost use Rattle.std.specs.Prelude.{◌≤◌, length};
 ghost use Rattle.typecheck.specs.Words.{Told, line_room, Shows};
 
 use checker::{PLAIN, STRICT};
 use limits::{MESSAGE_BUFFER, READ_AT_MOST, SHEET_BUFFER};
+use system::{count_up_to, word_at};
 use words::{same, text};
 
 // A number that is none of the two settings.
@@ -52,12 +54,20 @@ fn print_line(arguments: usize, word: &[u8], input: &[u8], out: &mut [u8]) -> us
     p.length
 }
 
-fn main() {
+// No more arguments than these are told apart: none, one word behind the program's name, or more.
+const TOLD_APART: usize = 3;
+
+fn main(rt: HostRuntime) {
     let mut word = io::buffer();
-    let w = os::arg(1, &mut word);
+    let w = word_at(&rt, 1, &mut word);
     let mut input = [0u8; READ_AT_MOST];
     let n = io::read_full(STDIN, &mut input);
     let mut out = [0u8; LINE];
-    let length = print_line(os::arg_count(), &word[..w], &input[..n], &mut out);
+    let length = print_line(
+        count_up_to(&rt, TOLD_APART),
+        &word[..w],
+        &input[..n],
+        &mut out,
+    );
     io::write_all(STDOUT, text(&out, 0, length));
 }
