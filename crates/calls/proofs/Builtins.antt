@@ -6,7 +6,7 @@ use Prim.Native.Nat.{ℕ, ◌<◌}
 use Prim.Native.String.{String}
 use native.Mathlib.Omega.{arith}
 use native.Mathlib.Decide.{ℕ_discrete}
-use Rattle.meaning.specs.Base.{◌or◌, if◌then◌else◌, bytes, same_text, is_one_of}
+use Rattle.meaning.specs.Base.{◌or◌, test◌then◌else◌, bytes, same_text, is_one_of}
 use Rattle.meaning.specs.Types.{plain}
 use Rattle.meaning.specs.Image.{Name, allows, safe}
 use Rattle.meaning.specs.Operators.{Checked}
@@ -35,17 +35,17 @@ builtins =
 -- the rule of the row that has the text
 unfoldable pub rule_in : List ℕ → List (List ℕ × Rule) → Rule
 rule_in s [] = Each 0
-rule_in s (r ∷ rs) = let later = rule_in s rs in if same_text s r.0 then r.1 else later
+rule_in s (r ∷ rs) = let later = rule_in s rs in test same_text s r.0 then r.1 else later
 
 -- ---- the code's way through the rows
 
 module _ (s x : List ℕ) (k : Rule) (ks : List (List ℕ × Rule)) {q : Bool} (compared : q ≡ same_text s x) where
   pub row_is : q ≡ true → k ≡ rule_in s ((x, k) ∷ ks)
-  unfolding rule_in if◌then◌else◌
+  unfolding rule_in test◌then◌else◌
   row_is e = rw (sym compared ∙ e)
 
   pub row_not : q ≡ false → {r : Rule} → r ≡ rule_in s ks → r ≡ rule_in s ((x, k) ∷ ks)
-  unfolding rule_in if◌then◌else◌
+  unfolding rule_in test◌then◌else◌
   row_not e h = rw (sym compared ∙ e) h
 
 pub no_rows : (s : List ℕ) → Each 0 ≡ rule_in s []
@@ -56,10 +56,10 @@ no_rows s = refl
 
 one_row : (f : Rule → Checked) (s x : List ℕ) (k : Rule) (ks : List (List ℕ × Rule)) (d : Checked) (rs : List (List ℕ × Checked))
     → choose_text s d rs ≡ f (rule_in s ks) → choose_text s d ((x, f k) ∷ rs) ≡ f (rule_in s ((x, k) ∷ ks))
-unfolding choose_text rule_in if◌then◌else◌
+unfolding choose_text rule_in test◌then◌else◌
 one_row f s x k ks d rs e = by (same_text s x)
   where
-    by : (q : Bool) → (if q then f k else choose_text s d rs) ≡ f (if q then k else rule_in s ks)
+    by : (q : Bool) → (test q then f k else choose_text s d rs) ≡ f (test q then k else rule_in s ks)
     by true = refl
     by false = e
 
@@ -109,10 +109,10 @@ clash false e h = false≢true e
 -- what holds of a row's rule where the text is the row's, and of the rule of the other rows
 by_row : (P : Rule → Type 0) (s x : List ℕ) (k : Rule) (ks : List (List ℕ × Rule)) → (same_text s x ≡ true → P k) → P (rule_in s ks)
     → P (rule_in s ((x, k) ∷ ks))
-unfolding rule_in if◌then◌else◌
+unfolding rule_in test◌then◌else◌
 by_row P s x k ks p q = by (same_text s x) refl
   where
-    by : (b : Bool) → same_text s x ≡ b → P (if b then k else rule_in s ks)
+    by : (b : Bool) → same_text s x ≡ b → P (test b then k else rule_in s ks)
     by true e = p e
     by false e = q
 

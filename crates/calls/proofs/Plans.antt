@@ -7,7 +7,7 @@ use native.Mathlib.Omega.{arith}
 use native.Mathlib.Decide.{ℕ_discrete}
 use borrow.Author.Tests.{eq-eqb, ne_eqb}
 use lib.ListN.{length}
-use Rattle.meaning.specs.Base.{if◌then◌else◌, choose, base_open}
+use Rattle.meaning.specs.Base.{test◌then◌else◌, choose, base_open}
 use Rattle.meaning.specs.Types.{unknown}
 use Rattle.meaning.specs.Types.{plain as plain_type}
 use Rattle.meaning.specs.Image.{NameRecord, takes, role_of, Name, name_of, names_of, name_records, name_count, allows, safe, unsafe_name}
@@ -58,28 +58,28 @@ by_not_refused e = absurd (false≢true (sym (ap is_by e)))
 
 module _ (n : ℕ) (w : Name) (cs : Children) where
   builtin_counted : allows w.role (length cs) ≡ true → builtin_call n w cs ≡ builtin_rule n w.spelling cs
-  unfolding builtin_call when if◌then◌else◌ ◌>>=◌
+  unfolding builtin_call when test◌then◌else◌ ◌>>=◌
   builtin_counted e = rw e
 
   builtin_miscounted : allows w.role (length cs) ≡ false
       → builtin_call n w cs ≡ refused (refusal 37 n (a_text w.spelling ∷ a_text (described w.role) ∷ a_number (length cs) ∷ []))
-  unfolding builtin_call when if◌then◌else◌ ◌>>=◌
+  unfolding builtin_call when test◌then◌else◌ ◌>>=◌
   builtin_miscounted e = rw e
 
   function_counted : (p : ℕ) → length cs ≡ p → function_call n w p cs ≡ each_then unknown cs
-  unfolding function_call when if◌then◌else◌ ◌>>=◌
+  unfolding function_call when test◌then◌else◌ ◌>>=◌
   function_counted p e = rw (eq-eqb (length cs) p e)
 
   function_miscounted : (p : ℕ) → (length cs ≡ p → ⊥)
       → function_call n w p cs ≡ refused (refusal 38 n (a_text w.spelling ∷ a_number p ∷ a_number (length cs) ∷ []))
-  unfolding function_call when if◌then◌else◌ ◌>>=◌
+  unfolding function_call when test◌then◌else◌ ◌>>=◌
   function_miscounted p d = rw (ne_eqb (length cs) p d)
 
 -- ---- what a role makes of a call
 
 module _ (n : ℕ) (w : Name) (cs : Children) (r : NameRecord) where
   role_builtin : 1 ≤ r.role → r.role ≤ 3 → name_rule n w (role_of r) cs ≡ builtin_call n w cs
-  unfolding role_of choose if◌then◌else◌ name_rule
+  unfolding role_of choose test◌then◌else◌ name_rule
   role_builtin l m = elim (ℕ_discrete r.role 1) [
     | yes e ↦ rw e
     | no a ↦ elim (ℕ_discrete r.role 2) [
@@ -89,15 +89,15 @@ module _ (n : ℕ) (w : Name) (cs : Children) (r : NameRecord) where
   ]
 
   role_function : r.role ≡ 4 → name_rule n w (role_of r) cs ≡ function_call n w r.p cs
-  unfolding role_of choose if◌then◌else◌ name_rule
+  unfolding role_of choose test◌then◌else◌ name_rule
   role_function e = rw e
 
   role_none : r.role < 1 → name_rule n w (role_of r) cs ≡ each_then unknown cs
-  unfolding role_of choose if◌then◌else◌ name_rule
+  unfolding role_of choose test◌then◌else◌ name_rule
   role_none l = let e : r.role ≡ 0 = omega arith in rw e
 
   role_other : 4 < r.role → name_rule n w (role_of r) cs ≡ each_then unknown cs
-  unfolding role_of choose if◌then◌else◌ name_rule
+  unfolding role_of choose test◌then◌else◌ name_rule
   role_other l =
       let a : r.role ≡ 1 → ⊥ = λ e. absurd (omega arith) in
       let b : r.role ≡ 2 → ⊥ = λ e. absurd (omega arith) in
@@ -106,7 +106,7 @@ module _ (n : ℕ) (w : Name) (cs : Children) (r : NameRecord) where
       rw (ne_eqb r.role 1 a, ne_eqb r.role 2 b, ne_eqb r.role 3 c, ne_eqb r.role 4 d)
 
 role_takes : (r : NameRecord) → r.role ≡ 4 → role_of r ≡ takes r.p
-unfolding role_of choose if◌then◌else◌
+unfolding role_of choose test◌then◌else◌
 role_takes r e = rw e
 
 each_unknown : (n : ℕ) (cs : Children) → each_then unknown cs ≡ rule_of (Each 0) n cs

@@ -9,7 +9,7 @@ use native.Mathlib.Omega.{arith}
 use native.Mathlib.Decide.{ℕ_discrete}
 use borrow.Author.Tests.{eq-eqb, ne_eqb}
 use lib.ListN.{length, get_or}
-use Rattle.meaning.specs.Base.{if◌then◌else◌, if_some}
+use Rattle.meaning.specs.Base.{test◌then◌else◌, if_some}
 use Rattle.meaning.specs.Image.{node_count, nodes_of, node_of, names_of}
 use Rattle.meaning.specs.Image.{Node as ImageNode}
 use Rattle.meaning.specs.Message.{message, conflict}
@@ -48,8 +48,8 @@ pub newest_row : (t : Tab) (fs : Rows) (top : ℕ) → newest (frames_of t fs to
 unfolding newest frames_of below
 newest_row t fs top = refl
 
-if_yes : (b : Bool) (x y : Answer) → b ≡ true → (if b then x else y) ≡ x
-unfolding if◌then◌else◌
+if_yes : (b : Bool) (x y : Answer) → b ≡ true → (test b then x else y) ≡ x
+unfolding test◌then◌else◌
 if_yes b x y e = rw e
 
 module _ {bs : List ℕ} {t : Tab} {fs : Rows} {top : ℕ} {cells : List ℕ} {n : ℕ} (a : Accepting bs t fs top) (l : Names bs fs top cells n) where
@@ -61,7 +61,7 @@ module _ {bs : List ℕ} {t : Tab} {fs : Rows} {top : ℕ} {cells : List ℕ} {n
 
   module _ {fits : Bool} {long : ℕ} {old new : List ℕ} (w : Laid (listed bs t cells n) fits long old new) where
     pub accepted : fits ≡ true → Wrote (written (length old) (sheet_of (listing_of bs (newest (frames_of t fs top))))) (Accepted long) old new
-    unfolding written if◌then◌else◌
+    unfolding written test◌then◌else◌
     accepted e =
         let f = sym w.fits_is ∙ e in
         record {
@@ -71,7 +71,7 @@ module _ {bs : List ℕ} {t : Tab} {fs : Rows} {top : ℕ} {cells : List ℕ} {n
         }
 
     pub short : fits ≡ false → Wrote (written (length old) (sheet_of (listing_of bs (newest (frames_of t fs top))))) ShortBuffer old new
-    unfolding written if◌then◌else◌
+    unfolding written test◌then◌else◌
     short e =
         let f = sym w.fits_is ∙ e in
         record {
@@ -125,17 +125,17 @@ points_code code n m e = elim (ℕ_discrete code 23) [
 module _ {bs : List ℕ} {setting : Setting} {t u : Tab} {gs : Rows} {top : ℕ} {su : List ℕ} {code place a b : ℕ} (first : First) (s : Sound bs)
     (r : Ran bs setting t u gs top su code (places place (first_number first)) a b) where
   pub ran_well : code ≡ 0 → (x y : ℕ) → walk_answer setting bs x y ≡ written x (sheet_of (listing_of bs (newest (frames_of u gs top))))
-  unfolding walk_answer concluded ended if◌then◌else◌
+  unfolding walk_answer concluded ended test◌then◌else◌
   ran_well z x y = rw (r.says, eq-eqb code 0 z)
 
   pub ran_deep : (code ≡ 0 → ⊥) → code ≡ 9 → (x y : ℕ) → walk_answer setting bs x y ≡ bare 9 place
-  unfolding walk_answer concluded ended if◌then◌else◌
+  unfolding walk_answer concluded ended test◌then◌else◌
   ran_deep z n x y = rw (r.says, ne_eqb code 0 z, eq-eqb code 9 n)
 
   module _ (z : code ≡ 0 → ⊥) (n : code ≡ 9 → ⊥) where
     wrong_is : walked setting bs
         ≡ wrong (conflict code place (first_at code (first_number first)) (pieces (names_of bs) u code a b)) (state (frames_of u gs top) r.returns)
-    unfolding ended if◌then◌else◌
+    unfolding ended test◌then◌else◌
     wrong_is = r.says ∙ rw (ne_eqb code 0 z, ne_eqb code 9 n)
 
     -- a refusal of the walk has a typing code

@@ -7,7 +7,7 @@ use mathlib.Core.List.{List, [], ◌++◌, Memᴰ}
 use Prim.Native.Nat.{ℕ, ◌≤◌, ◌<◌}
 use native.Mathlib.Omega.{arith}
 use lib.ListN.{length, drop}
-use Rattle.meaning.specs.Base.{if◌then◌else◌, if_some}
+use Rattle.meaning.specs.Base.{test◌then◌else◌, if_some}
 use Rattle.meaning.specs.Types.{Ty}
 use Rattle.meaning.specs.Sheet.{Entry, sheet_of, texts_stand, within_limits}
 use Rattle.meaning.specs.Read.{entries_in, is_sheet, read_sheet, SheetOf}
@@ -28,19 +28,19 @@ IsSheet bs = (es : List Entry) × SheetOf bs es
 
 module _ (bs : List ℕ) where
   pub read_yes : is_sheet bs ≡ true → read_answer bs ≡ bare 0 0
-  unfolding read_answer read_sheet if_some if◌then◌else◌
+  unfolding read_answer read_sheet if_some test◌then◌else◌
   read_yes e = rw e
 
   read_no : is_sheet bs ≡ false → read_answer bs ≡ bare 12 0
-  unfolding read_answer read_sheet if_some if◌then◌else◌
+  unfolding read_answer read_sheet if_some test◌then◌else◌
   read_no e = rw e
 
   again_yes : is_sheet bs ≡ true → (room : ℕ) → rewritten bs room ≡ written room bs
-  unfolding rewritten read_sheet write_answer if_some if◌then◌else◌
+  unfolding rewritten read_sheet write_answer if_some test◌then◌else◌
   again_yes e room = rw e (ap (written room) (sym (sheet_is bs e).written))
 
   again_no : is_sheet bs ≡ false → (room : ℕ) → rewritten bs room ≡ bare 12 0
-  unfolding rewritten read_sheet if_some if◌then◌else◌
+  unfolding rewritten read_sheet if_some test◌then◌else◌
   again_no e room = rw e
 
   no_sheet : is_sheet bs ≡ false → IsSheet bs → ⊥

@@ -8,7 +8,7 @@ use native.Mathlib.Omega.{arith}
 use borrow.Author.Tests.{ne_eqb}
 use lib.Dec.{eqb}
 use lib.ListN.{length}
-use Rattle.meaning.specs.Base.{choose, if◌then◌else◌, all}
+use Rattle.meaning.specs.Base.{choose, test◌then◌else◌, all}
 use Rattle.meaning.specs.Image.{Fault, image_fault, first_tree_set, nodes_from}
 use Rattle.meaning.specs.Frames.{newest}
 use Rattle.meaning.specs.Sheet.{sheet_of, within_limits}
@@ -144,11 +144,11 @@ module _ {bs : List ℕ} {setting : Setting} {t u : Tab} {gs : Rows} {top : ℕ}
 
 module _ {n : ℕ} (bs : List ℕ) (x y : ℕ) {q : Answer} {s s₁ m m₁ : List ℕ} where
   pub answers_plain : n ≡ 0 → Answers (answer_under (setting_if true) bs x y) q s s₁ m m₁ → Answers (answer n bs x y) q s s₁ m m₁
-  unfolding if◌then◌else◌
+  unfolding test◌then◌else◌
   answers_plain e a = rw (e, plain_is bs x y) a
 
   pub answers_strict : n ≡ 1 → Answers (answer_under (setting_if false) bs x y) q s s₁ m m₁ → Answers (answer n bs x y) q s s₁ m m₁
-  unfolding if◌then◌else◌
+  unfolding test◌then◌else◌
   answers_strict e a = rw (e, strict_is bs x y) a
 
 -- "before code 1": whatever the image
@@ -171,7 +171,7 @@ not_below : (c k : ℕ) → 20 ≤ c → k ≤ 14 → eqb c k ≡ false
 not_below c k h l = ne_eqb c k (λ e. absurd (omega arith))
 
 answer_back : (r : Answer) → Stands r → answer_from (numbers_of r) ≡ r
-unfolding answer_from choose if◌then◌else◌
+unfolding answer_from choose test◌then◌else◌
 answer_back (Accepted n) s = refl
 answer_back BadHead s = refl
 answer_back BadCount s = refl

@@ -6,14 +6,14 @@ use mathlib.Core.Option.{Option, none, some, none-ne-some, some-injective}
 use Prim.Native.Nat.{ℕ, suc, ◌+◌, ◌≤◌, ◌<◌}
 use native.Mathlib.Omega.{arith}
 use lib.ListN.{length}
-use Rattle.meaning.specs.Base.{if◌then◌else◌, if_some}
+use Rattle.meaning.specs.Base.{test◌then◌else◌, if_some}
 use Rattle.meaning.specs.Image.{Fault, NameRecord, name_records, names_of, nodes_of, wrong_name, first_not, first_found, unless, head_stands, counts_stand, offsets_stand, image_fault, head_fault, body_fault, broken_name, unsafe_name, broken_node, badly_nested, too_deep_node, first_tree_set}
 use Rattle.meaning.proofs.Faults.{Headed, sizes, fault_1, fault_2, fault_3}
 use Rattle.meaning.proofs.Nesting.{nodes_many}
 use Rattle.meaning.proofs.Nesting.{records_count, names_many}
 
-pick_near : (b : Bool) (o : Option ℕ) (i n j : ℕ) → (if b then o else some i) ≡ some j → (o ≡ some j → j ≤ suc i + n) → j ≤ i + suc n
-unfolding if◌then◌else◌
+pick_near : (b : Bool) (o : Option ℕ) (i n j : ℕ) → (test b then o else some i) ≡ some j → (o ≡ some j → j ≤ suc i + n) → j ≤ i + suc n
+unfolding test◌then◌else◌
 pick_near true o i n j e h = omega (arith, h e)
 pick_near false o i n j e h = omega (arith, some-injective i j e)
 
@@ -22,8 +22,8 @@ unfolding first_not
 first_near f i [] j e = absurd (none-ne-some j e)
 first_near f i (x ∷ xs) j e = pick_near (f i x) (first_not f (suc i) xs) i (length xs) j e (λ p. first_near f (suc i) xs j p)
 
-last_near : (b : Bool) (i j : ℕ) → (if b then none else some i) ≡ some j → j ≤ i + 0
-unfolding if◌then◌else◌
+last_near : (b : Bool) (i j : ℕ) → (test b then none else some i) ≡ some j → j ≤ i + 0
+unfolding test◌then◌else◌
 last_near true i j e = absurd (none-ne-some j e)
 last_near false i j e = omega (arith, some-injective i j e)
 
@@ -77,7 +77,7 @@ module _ (bs : List ℕ) where
   zero_near c f e = let p : 0 ≡ f.place = ap (λ x. x.place) (some-injective _ _ e) in omega arith
 
   only_body : Headed bs → image_fault bs ≡ body_fault bs
-  unfolding image_fault head_fault first_found unless if_some if◌then◌else◌
+  unfolding image_fault head_fault first_found unless if_some test◌then◌else◌
   only_body h = rw (h.head, h.counts, h.offsets)
 
   by_offsets : (b : Bool) → offsets_stand bs ≡ b → head_stands bs ≡ true → counts_stand bs ≡ true → (f : Fault) → image_fault bs ≡ some f → f.place < 4294967296

@@ -10,7 +10,7 @@ use native.Mathlib.Decide.{dec_lt}
 use borrow.Author.Tests.{eqb-true, leb-true, le-leb, lt-ltb, le-ltb}
 use lib.Dec.{eqb}
 use lib.ListN.{get_or, take, drop}
-use Rattle.meaning.specs.Base.{◌and◌, if◌then◌else◌, choose, all, bytes, digits, decimal}
+use Rattle.meaning.specs.Base.{◌and◌, test◌then◌else◌, choose, all, bytes, digits, decimal}
 use Rattle.meaning.specs.Types.{Ty, Tys, no_types, ◌⊕◌, unknown, int, bool, string, float, nonetype, range, function, list, dict, tuple, map_iter, filter_iter, text, texts, others}
 use Rattle.meaning.specs.Image.{NameRecord, Name, Role, plain, exactly, between, any, takes, printable, text_stands, wrong_name, broken_name, name_records, name_from, names_of, name_of, texts_of}
 use Rattle.meaning.specs.Rules.{described}
@@ -30,8 +30,8 @@ all_get f [] k d z h = z
 all_get f (x ∷ xs) zero d z h = and_left _ _ h
 all_get f (x ∷ xs) (suc k) d z h = all_get f xs k d z (and_right _ _ h)
 
-pub if_passes : {A : Type 0} (f : A → Bool) (b : Bool) (x y : A) → f x ≡ true → f y ≡ true → f (if b then x else y) ≡ true
-unfolding if◌then◌else◌
+pub if_passes : {A : Type 0} (f : A → Bool) (b : Bool) (x y : A) → f x ≡ true → f y ≡ true → f (test b then x else y) ≡ true
+unfolding test◌then◌else◌
 if_passes f true x y p q = p
 if_passes f false x y p q = q
 
@@ -90,7 +90,7 @@ mutual
   others_legible (t ⊕ ts) = amid (bytes ", ") (text t) (others ts) refl (text_legible t) (others_legible ts)
 
 digits_legible : (most n : ℕ) → Legible (digits most n)
-unfolding digits all if◌then◌else◌
+unfolding digits all test◌then◌else◌
 digits_legible zero n = refl
 digits_legible (suc most) n = elim (dec_lt n 10) [
   | yes h ↦ rw (lt-ltb n 10 h) (one (48 + n) (omega arith) (omega arith))

@@ -4,7 +4,7 @@ use mathlib.Core.Bool.{Bool, true, false}
 use mathlib.Core.List.{List, [], ◌∷◌}
 use Prim.Native.Nat.{ℕ}
 use lib.ListN.{length}
-use Rattle.meaning.specs.Base.{if◌then◌else◌, if_some, choose}
+use Rattle.meaning.specs.Base.{test◌then◌else◌, if_some, choose}
 use Rattle.meaning.specs.Sheet.{sheet_of}
 use Rattle.meaning.specs.Read.{entries_in, read_sheet}
 use Rattle.meaning.specs.Answer.{Answer as Meant, written, write_answer, read_answer}
@@ -23,31 +23,31 @@ use Rattle.checker.proofs.Outcomes.{same_reply}
 
 module _ {bs : List ℕ} {stands : Bool} {t : Tab} {cells : List ℕ} {n : ℕ} (r : Reads bs stands t cells n) where
   pub reading_yes : stands ≡ true → reading_numbers Sheet ≡ numbers_in (read_answer bs)
-  unfolding read_answer read_sheet if_some if◌then◌else◌
+  unfolding read_answer read_sheet if_some test◌then◌else◌
   reading_yes e = rw (sym r.stands_is ∙ e)
 
   pub reading_no : stands ≡ false → reading_numbers NoSheet ≡ numbers_in (read_answer bs)
-  unfolding read_answer read_sheet if_some if◌then◌else◌
+  unfolding read_answer read_sheet if_some test◌then◌else◌
   reading_no e = rw (sym r.stands_is ∙ e)
 
   again : stands ≡ true → (room : ℕ) → rewritten bs room ≡ written room (sheet_of (entries_in bs))
-  unfolding rewritten read_sheet write_answer if_some if◌then◌else◌
+  unfolding rewritten read_sheet write_answer if_some test◌then◌else◌
   again e room = rw (sym r.stands_is ∙ e)
 
   pub not_read : {out : List ℕ} → stands ≡ false → Relaid (rewritten bs (length out)) (rewriting_numbers NotRead) out out
-  unfolding rewritten read_sheet if_some if◌then◌else◌
+  unfolding rewritten read_sheet if_some test◌then◌else◌
   not_read {out} e =
       rw (sym r.stands_is ∙ e) record { numbers = refl; sheet = sym (overlaid_none out) }
 
   module _ {fits : Bool} {long : ℕ} {old new : List ℕ} (s : stands ≡ true) (w : Laid (listed bs t cells n) fits long old new) where
     pub rewritten_yes : fits ≡ true → Relaid (rewritten bs (length old)) (rewriting_numbers (Written long)) old new
-    unfolding written if◌then◌else◌
+    unfolding written test◌then◌else◌
     rewritten_yes e =
         let f = sym w.fits_is ∙ e in
         rw (again s (length old), ← r.listed_is s) record { numbers = rw (w.length_is, f); sheet = w.out_is }
 
     pub rewritten_no : fits ≡ false → Relaid (rewritten bs (length old)) (rewriting_numbers NoRoom) old new
-    unfolding written if◌then◌else◌
+    unfolding written test◌then◌else◌
     rewritten_no e =
         let f = sym w.fits_is ∙ e in
         rw (again s (length old), ← r.listed_is s) record { numbers = rw f; sheet = w.out_is }
@@ -66,7 +66,7 @@ unfoldable reading_from : Numbers → Reading
 reading_from n = choose n.code NoSheet ((0, Sheet) ∷ [])
 
 reading_back : (r : Reading) → reading_from (reading_numbers r) ≡ r
-unfolding reading_from choose if◌then◌else◌
+unfolding reading_from choose test◌then◌else◌
 reading_back Sheet = refl
 reading_back NoSheet = refl
 
@@ -77,7 +77,7 @@ unfoldable rewriting_from : Numbers → Rewriting
 rewriting_from n = choose n.code NotRead ((0, Written n.sheet) ∷ (10, NoRoom) ∷ [])
 
 rewriting_back : (r : Rewriting) → rewriting_from (rewriting_numbers r) ≡ r
-unfolding rewriting_from choose if◌then◌else◌
+unfolding rewriting_from choose test◌then◌else◌
 rewriting_back (Written n) = refl
 rewriting_back NoRoom = refl
 rewriting_back NotRead = refl

@@ -8,7 +8,7 @@ use borrow.Author.Tests.{leb-true, leb-false}
 use lib.Dec.{leb}
 use lib.ListN.{length}
 use Rattle.meaning.specs.Limits.{largest_sheet}
-use Rattle.meaning.specs.Base.{if◌then◌else◌}
+use Rattle.meaning.specs.Base.{test◌then◌else◌}
 use Rattle.meaning.specs.Sheet.{Entry, sheet_of, within_limits}
 use Rattle.meaning.specs.Read.{is_sheet}
 use Rattle.meaning.specs.Answer.{Answer, bare, written}
@@ -18,11 +18,11 @@ use Rattle.meaning.proofs.SheetForm.{is_sheet_lem, sheet_length}
 pub by_room : (P : Answer → Type 0) (room : ℕ) (bs : List ℕ)
     → (length bs ≤ room → P (record { code = 0; place = 0; span_start = 0; span_end = 0; second_start = 0; second_end = 0; sheet = bs; message = [] }))
     → (room < length bs → P (bare 10 0)) → P (written room bs)
-unfolding written if◌then◌else◌
+unfolding written test◌then◌else◌
 by_room P room bs f g = by (leb (length bs) room) refl
   where
     by : (b : Bool) → leb (length bs) room ≡ b
-        → P (if b then record { code = 0; place = 0; span_start = 0; span_end = 0; second_start = 0; second_end = 0; sheet = bs; message = [] } else bare 10 0)
+        → P (test b then record { code = 0; place = 0; span_start = 0; span_end = 0; second_start = 0; second_end = 0; sheet = bs; message = [] } else bare 10 0)
     by true e = f (leb-true (length bs) room e)
     by false e = g (leb-false (length bs) room e)
 

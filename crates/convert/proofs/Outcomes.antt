@@ -4,7 +4,7 @@ use mathlib.Core.List.{List, [], ◌∷◌}
 use mathlib.Core.Option.{Option, none, some, none-ne-some, some-injective}
 use Prim.Native.Nat.{ℕ, ◌≤◌, ◌<◌}
 use lib.ListN.{length}
-use Rattle.meaning.specs.Base.{choose, if◌then◌else◌, if_some}
+use Rattle.meaning.specs.Base.{choose, test◌then◌else◌, if_some}
 use Rattle.meaning.specs.Image.{Fault, image_fault}
 use Rattle.meaning.specs.Answer.{overlaid}
 use Rattle.meaning.specs.Convert.{converted, convert_answer}
@@ -50,7 +50,7 @@ answer_from n =
     ∷ (5, Faulty (UnsafeName n.place)) ∷ (6, Faulty (BadNode n.place)) ∷ (7, Faulty (BadNesting n.place)) ∷ (8, Faulty (TooDeep n.place)) ∷ [])
 
 answer_back : (r : Conversion) (n : Numbers) → numbers_of r ≡ some n → answer_from n ≡ r
-unfolding answer_from choose if◌then◌else◌ if_some
+unfolding answer_from choose test◌then◌else◌ if_some
 answer_back (Converted k) n e = rw (← some-injective _ _ e)
 answer_back ShortOutput n e = rw (← some-injective _ _ e)
 answer_back (Faulty WellFormed) n e = absurd (none-ne-some n e)

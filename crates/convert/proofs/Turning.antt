@@ -7,7 +7,7 @@ use native.Mathlib.Numerals.{add-one}
 use native.Mathlib.Omega.{arith}
 use lib.ListN.{length, get_or, set, drop, length-append, length-set, get_or-append}
 use lib.Seq.{get_or-set_other, set-append_left, set-get_or, drop_at}
-use Rattle.meaning.specs.Base.{if◌then◌else◌, words}
+use Rattle.meaning.specs.Base.{test◌then◌else◌, words}
 use Rattle.meaning.specs.Image.{node_count, nodes_from, nodes_of, node_of, is_tree_set}
 use Rattle.meaning.specs.Answer.{overlaid}
 use Rattle.meaning.specs.Convert.{kind_from, converted_to, converted}
@@ -47,7 +47,7 @@ module _ (bs old : List ℕ) where
 
   module _ (i : ℕ) where
     pub turned_other : is_tree_set (node_of (nodes_of bs) i) ≡ false → overlaid (converted_to bs i) old ≡ overlaid (converted_to bs (i + 1)) old
-    unfolding converted_to if◌then◌else◌
+    unfolding converted_to test◌then◌else◌
     turned_other e = rw (add-one, e)
 
     module _ (h : Headed bs) (l : i < node_count bs) where
@@ -61,7 +61,7 @@ module _ (bs old : List ℕ) where
 
       pub turned_tree_set : is_tree_set (node_of (nodes_of bs) i) ≡ true
           → put_at (overlaid (converted_to bs i) old) (nodes_from bs + 24 * i) (words (29 ∷ [])) ≡ overlaid (converted_to bs (i + 1)) old
-      unfolding kind_from converted_to if◌then◌else◌ overlaid
+      unfolding kind_from converted_to test◌then◌else◌ overlaid
       turned_tree_set e =
           let xs : List ℕ = converted_to bs i in
           let at : ℕ = kind_from bs i in

@@ -9,7 +9,7 @@ use native.Mathlib.Numerals.{sub-one}
 use native.Mathlib.Omega.{arith}
 use borrow.Author.Tests.{ne_eqb}
 use lib.ListN.{length}
-use Rattle.meaning.specs.Base.{choose, if◌then◌else◌}
+use Rattle.meaning.specs.Base.{choose, test◌then◌else◌}
 use Rattle.meaning.specs.Types.{Ty, function, plain}
 use Rattle.meaning.specs.Tree.{Expr, lambda}
 use Rattle.meaning.specs.Image.{Name, Node, node_count, nodes_of, node_of, names_of, name_count, arg_below}
@@ -53,7 +53,7 @@ not_in k m h a b = ⊎_elim (λ l. ne_eqb k m (λ e. absurd (omega arith))) (λ 
 
 -- every other kind
 no_other : (ds : List Node) (e : ℕ → Expr) (i : ℕ) → ((node_of ds i).kind < 20) ⊎ (31 < (node_of ds i).kind) → form_at ds e i ≡ lambda
-unfolding form_at choose if◌then◌else◌
+unfolding form_at choose test◌then◌else◌
 no_other ds e i h =
     let k = (node_of ds i).kind in
     rw (
@@ -96,7 +96,7 @@ module _ {bs : List ℕ} {nodes : ℕ} {fs : Rows} {top : ℕ} {t : Tab} {st : L
 
   pub literal_done : {code place number a b : ℕ} → node.kind ≡ 20 → code ≡ 0 → number ≡ literal_number node.arg
       → Done (names_of bs) (check (names_of bs) (frames_of t fs top) (expr_at (nodes_of bs) d i)) t t st st sp i (stop_of (nodes_of bs) i) (node_count bs) code place number a b
-  unfolding check_form arg_below choose if◌then◌else◌
+  unfolding check_form arg_below choose test◌then◌else◌
   literal_done k z e =
       let w : (node_of (nodes_of bs) i).kind ≡ 20 = rw o at k in
       let q : (node_of (nodes_of bs) i).arg < 5 = rw w at (node_stands_lem (sound_nested r.sound) i inside).arg in
@@ -104,7 +104,7 @@ module _ {bs : List ℕ} {nodes : ℕ} {fs : Rows} {top : ℕ} {t : Tab} {st : L
       (rw (literal_at (nodes_of bs) (λ j. expr_at (nodes_of bs) (d - 1) j) i w))
 
   pub variable_there : {x : ℕ} → node.kind ≡ 21 → x ≡ node.arg → (top < 8) × (x < 128)
-  unfolding arg_below choose if◌then◌else◌
+  unfolding arg_below choose test◌then◌else◌
   variable_there k e =
       let w : (node_of (nodes_of bs) i).kind ≡ 21 = rw o at k in
       let q : (node_of (nodes_of bs) i).arg < name_count bs = rw w at (node_stands_lem (sound_nested r.sound) i inside).arg in

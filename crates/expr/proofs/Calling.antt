@@ -8,7 +8,7 @@ use lib.ListN.{length, take, drop}
 use Rattle.meaning.specs.Types.{unknown}
 use Rattle.meaning.specs.Tree.{place}
 use Rattle.meaning.specs.Image.{Node, node_count, nodes_of, node_of, names_of, name_of, name_count, arg_below}
-use Rattle.meaning.specs.Base.{choose, if◌then◌else◌}
+use Rattle.meaning.specs.Base.{choose, test◌then◌else◌}
 use Rattle.meaning.specs.Decode.{expr_at, form_at, stop_of, past}
 use Rattle.meaning.specs.Frames.{Frames}
 use Rattle.meaning.specs.Operators.{Checked}
@@ -170,7 +170,7 @@ module _ {bs : List ℕ} {i d : ℕ} {node : Node} (s : Sound bs) (o : Inner bs 
       }
 
       pub name_there : callee.kind ≡ 21 → callee.arg < name_count bs
-      unfolding arg_below choose if◌then◌else◌
+      unfolding arg_below choose test◌then◌else◌
       name_there e =
           let w = (node_stands_lem (sound_nested s) (suc i) (rw (nodes_many bs) callee_there)).arg in
           rw (← c, e) at w

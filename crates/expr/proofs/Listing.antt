@@ -4,7 +4,7 @@ use mathlib.Core.Bool.{Bool, true, false}
 use mathlib.Core.List.{List, ◌∷◌}
 use Prim.Native.Nat.{ℕ, ◌-◌, ◌≤◌, ◌<◌}
 use native.Mathlib.Omega.{arith}
-use Rattle.meaning.specs.Base.{if◌then◌else◌}
+use Rattle.meaning.specs.Base.{test◌then◌else◌}
 use Rattle.meaning.specs.Types.{Ty, unknown, list}
 use Rattle.meaning.specs.Image.{nodes_of, names_of}
 use Rattle.meaning.specs.Decode.{expr_at, stop_of, past}
@@ -58,7 +58,7 @@ module _ {bs : List ℕ} {nodes : ℕ} {fs : Rows} {top : ℕ} {t : Tab} {st : L
 
     turned : {stop : Bool} {next : ℕ} → code ≡ 0 → ListStep element number stop next
         → list_rule unknown (checks bs (frames_of t fs top) d n from)
-        ≡ (if stop then ok (list (denote v next)) else list_rule (denote v next) (checks bs (frames_of t fs top) d (left - 1) (stop_of (nodes_of bs) i)))
+        ≡ (test stop then ok (list (denote v next)) else list_rule (denote v next) (checks bs (frames_of t fs top) d (left - 1) (stop_of (nodes_of bs) i)))
     unfolding step
     turned z s =
         told.well z
@@ -71,13 +71,13 @@ module _ {bs : List ℕ} {nodes : ℕ} {fs : Rows} {top : ℕ} {t : Tab} {st : L
     pub listing_stop : {stop : Bool} {next r : ℕ} {x : Tab} {place' a' b' : ℕ} {code' : ℕ} → code ≡ 0 → ListStep element number stop next → stop ≡ true
         → code' ≡ 0 → Made v x r (list (denote v next)) 0
         → Done (names_of bs) (list_rule unknown (checks bs (frames_of t fs top) d n from)) t x st sv sp (from - 1) (past (nodes_of bs) n from) M code' place' r a' b'
-    unfolding if◌then◌else◌
+    unfolding test◌then◌else◌
     listing_stop z s e c m =
         done_as (turned z s ∙ rw e) (done_made (from - 1) (omega (arith, l.loop.start)) (loop_stop l.loop 1 h (one_fine bs w.fine)) c m)
 
     pub listing_next : {stop : Bool} {next j : ℕ} → code ≡ 0 → ListStep element number stop next → stop ≡ false → j ≡ stop_of (nodes_of bs) i
         → Listing bs nodes fs top t st sp from n d v sv j (left - 1) next
-    unfolding if◌then◌else◌
+    unfolding test◌then◌else◌
     listing_next {stop} {next} {j} z s e p = record {
       loop = rw p (loop_next l.loop 1 h (one_fine bs w.fine) (stop_of (nodes_of bs) i) (sym (past_one bs i)) (turned z s ∙ rw e));
       known = s.below v w.fine.grown.wf (w.below z);

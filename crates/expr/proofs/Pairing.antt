@@ -4,7 +4,7 @@ use mathlib.Core.Bool.{Bool, true, false}
 use mathlib.Core.List.{List, ◌∷◌}
 use Prim.Native.Nat.{ℕ, zero, suc, ◌-◌, ◌≤◌, ◌<◌}
 use native.Mathlib.Omega.{arith}
-use Rattle.meaning.specs.Base.{if◌then◌else◌}
+use Rattle.meaning.specs.Base.{test◌then◌else◌}
 use Rattle.meaning.specs.Types.{Ty, unknown, dict}
 use Rattle.meaning.specs.Image.{nodes_of, names_of}
 use Rattle.meaning.specs.Decode.{expr_at, stop_of, past}
@@ -147,7 +147,7 @@ module _ {bs : List ℕ} {nodes : ℕ} {fs : Rows} {top : ℕ} {t : Tab} {st : L
           next = (i, ok (denote v number)) ∷ (stop_of (nodes_of bs) i, ok (denote x number₂)) ∷ rest
 
           turned : dict_rule unknown unknown (checks bs (frames_of t fs top) d n from)
-              ≡ (if stop then ok (dict (denote x k) (denote x o)) else dict_rule (denote x k) (denote x o) rest)
+              ≡ (test stop then ok (dict (denote x k) (denote x o)) else dict_rule (denote x k) (denote x o) rest)
           unfolding both next
           turned =
               told₂.well y
@@ -167,11 +167,11 @@ module _ {bs : List ℕ} {nodes : ℕ} {fs : Rows} {top : ℕ} {t : Tab} {st : L
 
           pub pairing_stop : {r : ℕ} {m : Tab} {place' a' b' code' : ℕ} → stop ≡ true → code' ≡ 0 → Made x m r (dict (denote x k) (denote x o)) 0
               → Done (names_of bs) (dict_rule unknown unknown (checks bs (frames_of t fs top) d n from)) t m st sx sp (from - 1) (past (nodes_of bs) n from) M code' place' r a' b'
-          unfolding if◌then◌else◌
+          unfolding test◌then◌else◌
           pairing_stop e c m = done_as (turned ∙ rw e) (done_made (from - 1) (omega (arith, l.loop.start)) stopped c m)
 
           pub pairing_next : {g : ℕ} → stop ≡ false → g ≡ stop_of (nodes_of bs) j → Pairing bs nodes fs top t st sp from n d x sx g (left - 2) k o
-          unfolding if◌then◌else◌ rest
+          unfolding test◌then◌else◌ rest
           pairing_next {g} e p = record {
             loop = rw (p, s, ← past_two bs i) (loop_next l.loop 2 h fine₂ (past (nodes_of bs) 2 i) refl (turned ∙ rw e));
             key_known = q.key_below x wf known;

@@ -4,7 +4,7 @@ use mathlib.Core.Bool.{Bool, true, false}
 use mathlib.Core.List.{List}
 use Prim.Native.Nat.{ℕ, ◌+◌, ◌-◌, ◌≤◌, ◌<◌}
 use native.Mathlib.Omega.{arith}
-use Rattle.meaning.specs.Base.{if◌then◌else◌}
+use Rattle.meaning.specs.Base.{test◌then◌else◌}
 use Rattle.meaning.specs.Image.{node_count, nodes_of, names_of}
 use Rattle.meaning.specs.Decode.{expr_at, stop_of, past}
 use Rattle.meaning.specs.Operators.{Checked, ◌>>=◌}
@@ -24,7 +24,7 @@ use Rattle.expr.proofs.Telling.{told_as, told_bind, told_ill, checks_first, chec
 
 two_rules : (filters : Bool) (cs : Children) → stream_of filters cs
     ≡ ((child 0 cs).1 >>= λ a. callable_rule (first_code filters) (child 0 cs).0 a >>= λ x. (child 1 cs).1 >>= λ b. second_rule filters (child 1 cs).0 b)
-unfolding stream_of first_code if◌then◌else◌
+unfolding stream_of first_code test◌then◌else◌
 two_rules true cs = filter_two cs
 two_rules false cs = map_two cs
 

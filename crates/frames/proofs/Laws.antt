@@ -13,7 +13,7 @@ use lib.Seq.{get_or-set_same, get_or-set_other}
 use borrow.Author.Tests.{eq-eqb, ne_eqb}
 use Rattle.types.specs.Table.{Tab, denote, Wf, Means, Grown}
 use Rattle.types.proofs.Laws.{unknown_number, same_unknown}
-use Rattle.meaning.specs.Base.{if◌then◌else◌, if_some, or_else}
+use Rattle.meaning.specs.Base.{test◌then◌else◌, if_some, or_else}
 use Rattle.meaning.specs.Frames.{Binding, binding, blank, since, newest, slot_in, find, lookup, write, empty}
 use Rattle.frames.specs.Env.{Rows, cell_room, type_in, node_in, absent_row, cell, put, pick, look, node_from, slot_as, slot, frame_of, below, frames_of, Fit, slot_type, Holds, first_node, first_number, FirstBelow, binding_in, Known, Looked, Bound}
 use Rattle.frames.specs.declared.Held.TheVariants.{Absent, OfType}
@@ -266,7 +266,7 @@ known_kept = record { type_is = refl; says = λ t w h. refl; near = λ h l. h }
 
 -- "Unknown has none"
 pub known_none : {n i : ℕ} {b : Found} → i ≡ 0 → b.ty ≡ 0 → first_node b.first ≡ none → Known Nowhere n i b
-unfolding since if_some if◌then◌else◌
+unfolding since if_some test◌then◌else◌
 known_none {n} {i} {b} z e f = record {
   type_is = e ∙ sym z;
   says = λ t w l. rw (same_unknown w i l, eq-eqb i 0 z) (ap (λ k. binding (denote t k) (first_node b.first)) (e ∙ sym z) ∙ ap (binding (denote t i)) f);
@@ -274,7 +274,7 @@ known_none {n} {i} {b} z e f = record {
 }
 
 pub known_new : {n i : ℕ} → (i ≡ 0 → ⊥) → Known Nowhere n i (record { ty = i; first = At n })
-unfolding since if_some if◌then◌else◌
+unfolding since if_some test◌then◌else◌
 known_new {n} {i} z = record {
   type_is = refl;
   says = λ t w l. rw (same_unknown w i l, ne_eqb i 0 z);

@@ -17,7 +17,7 @@ use Rattle.meaning.proofs.Choices.{same_yes, same_no, and_true, and_false}
 use Rattle.types.specs.Table.{Tab, denote, Wf, Grown}
 use Rattle.types.proofs.Laws.{unknown_number, same_number}
 use Rattle.meaning.specs.Limits.{most_names}
-use Rattle.meaning.specs.Base.{◌and◌, ◌or◌, if◌then◌else◌, if_some, or_else, all, count}
+use Rattle.meaning.specs.Base.{◌and◌, ◌or◌, test◌then◌else◌, if_some, or_else, all, count}
 use Rattle.meaning.specs.Image.{Name, name_of}
 use Rattle.meaning.specs.Message.{a_text, conflict}
 use Rattle.meaning.specs.Frames.{Binding, binding, blank, Frames, slot_in}
@@ -46,11 +46,11 @@ differs [] = false
 differs (b ∷ bs) = not (all (same_type b) bs)
 
 merge_name_lem : (ws : List Name) (c x : ℕ) (bs : List Binding) (s : State) → merge_name ws c x bs s ≡ settle_name ws c x (first_of bs) (differs bs) s
-unfolding merge_name settle_name first_of differs if◌then◌else◌
+unfolding merge_name settle_name first_of differs test◌then◌else◌
 merge_name_lem ws c x [] s = refl
 merge_name_lem ws c x (b ∷ bs) s = by (all (same_type b) bs)
   where
-    by : (q : Bool) → (if q then done (bind x b s) else wrong (conflict 23 c b.first (a_text (name_of ws x).spelling ∷ [])) s) ≡ settle_name ws c x (some b) (not q) s
+    by : (q : Bool) → (test q then done (bind x b s) else wrong (conflict 23 c b.first (a_text (name_of ws x).spelling ∷ [])) s) ≡ settle_name ws c x (some b) (not q) s
     by true = refl
     by false = refl
 
@@ -66,16 +66,16 @@ merge_settle ws c Γ Δs f g i (suc n) s h p q =
 
 -- ---- one more branch
 snoc_by : (p q : Bool) (a b : Binding) (ts : List Binding)
-    → (if p then a ∷ (if q then ts ++ (b ∷ []) else ts) else (if q then ts ++ (b ∷ []) else ts))
-    ≡ (if q then (if p then a ∷ ts else ts) ++ (b ∷ []) else (if p then a ∷ ts else ts))
-unfolding if◌then◌else◌
+    → (test p then a ∷ (test q then ts ++ (b ∷ []) else ts) else (test q then ts ++ (b ∷ []) else ts))
+    ≡ (test q then (test p then a ∷ ts else ts) ++ (b ∷ []) else (test p then a ∷ ts else ts))
+unfolding test◌then◌else◌
 snoc_by true true a b ts = refl
 snoc_by true false a b ts = refl
 snoc_by false true a b ts = refl
 snoc_by false false a b ts = refl
 
 assigned_snoc : (Γ : Frames) (x : ℕ) (Δs : List Frames) (Δ : Frames)
-    → assigned Γ x (Δs ++ (Δ ∷ [])) ≡ (if tells (slot_in Γ x) (slot_in Δ x) then assigned Γ x Δs ++ (or_else (slot_in Δ x) blank ∷ []) else assigned Γ x Δs)
+    → assigned Γ x (Δs ++ (Δ ∷ [])) ≡ (test tells (slot_in Γ x) (slot_in Δ x) then assigned Γ x Δs ++ (or_else (slot_in Δ x) blank ∷ []) else assigned Γ x Δs)
 unfolding assigned
 assigned_snoc Γ x [] Δ = refl
 assigned_snoc Γ x (E ∷ Δs) Δ = rw (assigned_snoc Γ x Δs Δ) (snoc_by (tells (slot_in Γ x) (slot_in E x)) (tells (slot_in Γ x) (slot_in Δ x)) _ _ _)
@@ -91,8 +91,8 @@ module _ {t : Tab} (w : Wf t) where
       by true e = sym (eq-eqb (suc k) (suc j) (ap suc (eqb-true k j e)))
       by false e = sym (ne_eqb (suc k) (suc j) (λ z. eqb-false k j e (omega arith)))
 
-  tells_halves : (b m k n : ℕ) → b ≤ t.n → k ≤ t.n → tells (slot_as t b m) (slot_as t k n) ≡ (if ltb 1 k then (if eqb k b then false else true) else false)
-  unfolding tells slot_as ◌or◌ if◌then◌else◌
+  tells_halves : (b m k n : ℕ) → b ≤ t.n → k ≤ t.n → tells (slot_as t b m) (slot_as t k n) ≡ (test ltb 1 k then (test eqb k b then false else true) else false)
+  unfolding tells slot_as ◌or◌ test◌then◌else◌
   tells_halves b m zero n h l = refl
   tells_halves b m (suc zero) n h l = rw (same_yes (denote t 0) unknown (unknown_number w))
   tells_halves b m (suc (suc k)) n h l =
@@ -128,20 +128,20 @@ all_snoc f (t ∷ ts) u = rw (all_snoc f ts u) (by (f t))
 -- what a cell more does to the first and the flag is what a binding more does: j and k are types' halves, m and n those of their nodes
 module _ (t : Tab) (w : Wf t) where
   note_new : (j k : ℕ) (m n : Option ℕ) (c : Bool) (bs : List Binding) → j < t.n → k < t.n → c ≡ differs (binding (denote t j) m ∷ bs)
-      → (if eqb (suc j) (suc k) then c else true) ≡ differs (binding (denote t j) m ∷ (bs ++ (binding (denote t k) n ∷ [])))
-  unfolding differs if◌then◌else◌ ◌and◌ same_type same_slot slot_as
+      → (test eqb (suc j) (suc k) then c else true) ≡ differs (binding (denote t j) m ∷ (bs ++ (binding (denote t k) n ∷ [])))
+  unfolding differs test◌then◌else◌ ◌and◌ same_type same_slot slot_as
   note_new j k m n c bs a b e =
       let d : same (denote t j) (denote t k) ≡ eqb (suc j) (suc k) = same_slot_lem w j (suc k) 0 none a b in
       rw (all_snoc (same_type (binding (denote t j) m)) bs (binding (denote t k) n), d) (by (eqb (suc j) (suc k)))
     where
-      by : (q : Bool) → (if q then c else true) ≡ not (all (same_type (binding (denote t j) m)) bs and q)
+      by : (q : Bool) → (test q then c else true) ≡ not (all (same_type (binding (denote t j) m)) bs and q)
       by true = rw (and_true (all (same_type (binding (denote t j) m)) bs)) e
       by false = rw (and_false (all (same_type (binding (denote t j) m)) bs))
 
   note_told : (k n j m : ℕ) (c : Bool) (bs : List Binding) → 0 < k → k ≤ t.n → j ≤ t.n → slot_as t j m ≡ first_of bs → c ≡ differs bs
-      → ((if eqb j 0 then slot_as t k n else slot_as t j m) ≡ first_of (bs ++ (or_else (slot_as t k n) blank ∷ [])))
-      × ((if eqb j 0 then c else if eqb j k then c else true) ≡ differs (bs ++ (or_else (slot_as t k n) blank ∷ [])))
-  unfolding first_of differs slot_as or_else if◌then◌else◌ all
+      → ((test eqb j 0 then slot_as t k n else slot_as t j m) ≡ first_of (bs ++ (or_else (slot_as t k n) blank ∷ [])))
+      × ((test eqb j 0 then c else test eqb j k then c else true) ≡ differs (bs ++ (or_else (slot_as t k n) blank ∷ [])))
+  unfolding first_of differs slot_as or_else test◌then◌else◌ all
   note_told zero n j m c bs p h l e f = absurd (omega arith)
   note_told (suc k) n zero m c [] p h l e f = (refl, f)
   note_told (suc k) n zero m c (a ∷ bs) p h l e f = no_some a e
@@ -150,33 +150,33 @@ module _ (t : Tab) (w : Wf t) where
       let i : binding (denote t j) (node_from m) ≡ a = ap (λ o. or_else o blank) e in
       rw (ne_eqb (suc j) 0 (λ z. omega arith)) (
         e,
-        subst (λ (x : Binding). (if eqb (suc j) (suc k) then c else true) ≡ differs (x ∷ (bs ++ (binding (denote t k) (node_from n) ∷ [])))) i
+        subst (λ (x : Binding). (test eqb (suc j) (suc k) then c else true) ≡ differs (x ∷ (bs ++ (binding (denote t k) (node_from n) ∷ [])))) i
             (note_new j k (node_from m) (node_from n) c bs l h (subst (λ (x : Binding). c ≡ differs (x ∷ bs)) (sym i) f)),
       )
 
   note_cell_lem : (b v m : ℕ) (c : Bool) (bs : List Binding) → type_in v ≤ t.n → type_in m ≤ t.n → slot t m ≡ first_of bs → c ≡ differs bs
-      → (slot t (note_cell b v m) ≡ first_of (if tells_cell b v then bs ++ (or_else (slot t v) blank ∷ []) else bs))
-      × (clash_cell b v m c ≡ differs (if tells_cell b v then bs ++ (or_else (slot t v) blank ∷ []) else bs))
-  unfolding note_cell clash_cell tells_cell if◌then◌else◌
+      → (slot t (note_cell b v m) ≡ first_of (test tells_cell b v then bs ++ (or_else (slot t v) blank ∷ []) else bs))
+      × (clash_cell b v m c ≡ differs (test tells_cell b v then bs ++ (or_else (slot t v) blank ∷ []) else bs))
+  unfolding note_cell clash_cell tells_cell test◌then◌else◌
   note_cell_lem b v m c bs h l e f = by (tells_cell b v) (told (ltb 1 (type_in v)) refl)
     where
-      told : (q : Bool) → ltb 1 (type_in v) ≡ q → (if q then (if eqb (type_in v) (type_in b) then false else true) else false) ≡ true → 0 < type_in v
+      told : (q : Bool) → ltb 1 (type_in v) ≡ q → (test q then (test eqb (type_in v) (type_in b) then false else true) else false) ≡ true → 0 < type_in v
       told true z y = let p = ltb-true 1 (type_in v) z in omega arith
       told false z y = never y
 
-      chosen : (q : Bool) → slot t (if q then v else m) ≡ (if q then slot t v else slot t m)
+      chosen : (q : Bool) → slot t (test q then v else m) ≡ (test q then slot t v else slot t m)
       chosen true = refl
       chosen false = refl
 
       by : (q : Bool) → (q ≡ true → 0 < type_in v)
-          → (slot t (if q then (if eqb (type_in m) 0 then v else m) else m) ≡ first_of (if q then bs ++ (or_else (slot t v) blank ∷ []) else bs))
-          × ((if q then (if eqb (type_in m) 0 then c else if eqb (type_in m) (type_in v) then c else true) else c) ≡ differs (if q then bs ++ (or_else (slot t v) blank ∷ []) else bs))
+          → (slot t (test q then (test eqb (type_in m) 0 then v else m) else m) ≡ first_of (test q then bs ++ (or_else (slot t v) blank ∷ []) else bs))
+          × ((test q then (test eqb (type_in m) 0 then c else test eqb (type_in m) (type_in v) then c else true) else c) ≡ differs (test q then bs ++ (or_else (slot t v) blank ∷ []) else bs))
       by true p =
           let n = note_told (type_in v) (node_in v) (type_in m) (node_in m) c bs (p refl) h l e f in (chosen (eqb (type_in m) 0) ∙ n.0, n.1)
       by false p = (e, f)
 
-if_has : (P : ℕ → Type 0) (q : Bool) {a b : ℕ} → P a → P b → P (if q then a else b)
-unfolding if◌then◌else◌
+if_has : (P : ℕ → Type 0) (q : Bool) {a b : ℕ} → P a → P b → P (test q then a else b)
+unfolding test◌then◌else◌
 if_has P true p q = p
 if_has P false p q = q
 
@@ -210,7 +210,7 @@ pub tally_next : {t : Tab} {base branch : Rows} {top high : ℕ} {Γ : Frames} {
 tally_next {t} {base} {branch} {top} {high} {Γ} {Δs} {ms} {ns} {cs} {ds} w f g e a n =
     let lm : length ns ≡ 128 = n.lm ∙ a.lm in
     let told : (x : ℕ) → assigned Γ x (Δs ++ (frames_of t branch high ∷ []))
-    ≡ (if tells_cell (cell base top x) (cell branch high x) then assigned Γ x Δs ++ (or_else (slot t (cell branch high x)) blank ∷ []) else assigned Γ x Δs) =
+    ≡ (test tells_cell (cell base top x) (cell branch high x) then assigned Γ x Δs ++ (or_else (slot t (cell branch high x)) blank ∷ []) else assigned Γ x Δs) =
     λ x. assigned_snoc Γ x Δs (frames_of t branch high)
     ∙ rw (
       slot_frames t branch high x,

@@ -4,7 +4,7 @@ use Rattle.std.proofs.Math.Option.{Option, none, some}
 use Rattle.meaning.specs.Limits.{most_names, most_frames}
 use Rattle.meaning.specs.Types.{Ty}
 use Rattle.types.specs.Table.{Tab, Wf, denote}
-use Rattle.meaning.specs.Base.{if◌then◌else◌, count}
+use Rattle.meaning.specs.Base.{test◌then◌else◌, count}
 use Rattle.meaning.specs.Image.{Name, name_of}
 use Rattle.meaning.specs.Message.{a_text, conflict}
 use Rattle.meaning.specs.Frames.{Binding, binding, since, Frame, Frames, slot_in, lookup, write}
@@ -141,13 +141,13 @@ pub record Bound (fs gs : Rows) (top x : ℕ) (b : Found) : Type 0 where
 -- ---- merging: what a name is first known as, and whether a later type differs
 -- a branch's cell v tells of a type over the cell b at entry: "Whether a branch assigned a name still goes by type alone."
 unfoldable pub tells_cell : ℕ → ℕ → Bool
-tells_cell b v = if ltb 1 (type_in v) then (if eqb (type_in v) (type_in b) then false else true) else false
+tells_cell b v = test ltb 1 (type_in v) then (test eqb (type_in v) (type_in b) then false else true) else false
 
 unfoldable pub note_cell : ℕ → ℕ → ℕ → ℕ
-note_cell b v m = if tells_cell b v then (if eqb (type_in m) 0 then v else m) else m
+note_cell b v m = test tells_cell b v then (test eqb (type_in m) 0 then v else m) else m
 
 unfoldable pub clash_cell : ℕ → ℕ → ℕ → Bool → Bool
-clash_cell b v m c = if tells_cell b v then (if eqb (type_in m) 0 then c else if eqb (type_in m) (type_in v) then c else true) else c
+clash_cell b v m c = test tells_cell b v then (test eqb (type_in m) 0 then c else test eqb (type_in m) (type_in v) then c else true) else c
 
 -- ns and ds are ms and cs with the cells of a branch's row told of, over the row at entry, for the first n names
 pub record Noted (base branch ms : List ℕ) (cs : List Bool) (ns : List ℕ) (ds : List Bool) (n : ℕ) : Type 0 where

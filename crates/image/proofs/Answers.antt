@@ -4,7 +4,7 @@ use mathlib.Core.Logic.{◌↔◌}
 use mathlib.Core.Option.{Option, none, some}
 use mathlib.Core.List.{List, [], ◌∷◌}
 use Prim.Native.Nat.{ℕ}
-use Rattle.meaning.specs.Base.{choose, if◌then◌else◌}
+use Rattle.meaning.specs.Base.{choose, test◌then◌else◌}
 use Rattle.meaning.specs.Image.{Fault, image_fault}
 use Rattle.meaning.proofs.Faults.{Sound, sound}
 use Rattle.image.specs.declared.Found.{Found}
@@ -30,7 +30,7 @@ answer_of (some f) =
     ∷ (7, BadNesting f.place) ∷ (8, TooDeep f.place) ∷ [])
 
 answer_back : (r : Judged) → answer_of (fault_of r) ≡ r
-unfolding answer_of choose if◌then◌else◌
+unfolding answer_of choose test◌then◌else◌
 answer_back WellFormed = refl
 answer_back BadHead = refl
 answer_back BadCount = refl

@@ -8,49 +8,49 @@ use native.Mathlib.Decide.{dec_lt}
 use native.Mathlib.Omega.{arith}
 use lib.Dec.{eqb, leb, ltb}
 use borrow.Author.Tests.{eq-eqb, ne_eqb, le-leb, lt-leb, lt-ltb, le-ltb}
-use Rattle.meaning.specs.Base.{◌and◌, ◌or◌, choose, if◌then◌else◌, base_open}
+use Rattle.meaning.specs.Base.{◌and◌, ◌or◌, choose, test◌then◌else◌, base_open}
 use Rattle.meaning.specs.Image.{NameRecord, Name, Node, plain, takes, role_stands, role_of, allows, safe, is_statement, is_spanless, is_expression, node_stands, belongs, image_open}
 use Rattle.meaning.proofs.Choices.{and_true, and_false}
 use Rattle.image.specs.Kinds.{record_stands}
 
 module _ (r : NameRecord) where
   pub role_unused : (r.role ≡ 0) ⊎ (r.role ≡ 3) → role_stands r ≡ (eqb r.p 0 and eqb r.q 0)
-  unfolding role_stands choose if◌then◌else◌
+  unfolding role_stands choose test◌then◌else◌
   role_unused (inl e) = rw e
   role_unused (inr e) = rw e
 
   pub role_p : (r.role ≡ 1) ⊎ (r.role ≡ 4) → role_stands r ≡ eqb r.q 0
-  unfolding role_stands choose if◌then◌else◌
+  unfolding role_stands choose test◌then◌else◌
   role_p (inl e) = rw e
   role_p (inr e) = rw e
 
   pub role_both : r.role ≡ 2 → role_stands r ≡ true
-  unfolding role_stands choose if◌then◌else◌
+  unfolding role_stands choose test◌then◌else◌
   role_both e = rw e
 
   pub role_none : ((r.role ≡ 0) ⊎ (r.role ≡ 3) → ⊥) → ((r.role ≡ 1) ⊎ (r.role ≡ 4) → ⊥) → (r.role ≡ 2 → ⊥) → role_stands r ≡ false
-  unfolding role_stands choose if◌then◌else◌
+  unfolding role_stands choose test◌then◌else◌
   role_none a b c =
       rw (ne_eqb r.role 0 (λ e. a (inl e)), ne_eqb r.role 1 (λ e. b (inl e)), ne_eqb r.role 2 c, ne_eqb r.role 3 (λ e. a (inr e)), ne_eqb r.role 4 (λ e. b (inr e)))
 
   -- a builtin's role: "p above q admits no count"
   pub allows_p : (k : ℕ) → r.role ≡ 1 → allows (role_of r) k ≡ eqb k r.p
-  unfolding role_of allows choose if◌then◌else◌
+  unfolding role_of allows choose test◌then◌else◌
   allows_p k e = rw e
 
   pub allows_range : (k : ℕ) → r.role ≡ 2 → allows (role_of r) k ≡ (leb r.p k and leb k r.q)
-  unfolding role_of allows choose if◌then◌else◌
+  unfolding role_of allows choose test◌then◌else◌
   allows_range k e = rw e
 
   pub allows_all : (k : ℕ) → r.role ≡ 3 → allows (role_of r) k ≡ true
-  unfolding role_of allows choose if◌then◌else◌
+  unfolding role_of allows choose test◌then◌else◌
   allows_all k e = rw e
 
   pub allows_none : (k : ℕ) → (r.role ≡ 1 → ⊥) → (r.role ≡ 2 → ⊥) → (r.role ≡ 3 → ⊥) → allows (role_of r) k ≡ false
-  unfolding role_of allows choose if◌then◌else◌
+  unfolding role_of allows choose test◌then◌else◌
   allows_none k a b c = rw (ne_eqb r.role 1 a, ne_eqb r.role 2 b, ne_eqb r.role 3 c) (by (eqb r.role 4))
     where
-      by : (t : Bool) → allows (if t then takes r.p else plain) k ≡ false
+      by : (t : Bool) → allows (test t then takes r.p else plain) k ≡ false
       by true = refl
       by false = refl
 
@@ -184,29 +184,29 @@ or_true false = refl
 
 module _ (p c j k : ℕ) where
   pub below_if_odd : p ≡ 8 → j % 2 ≡ 1 → belongs p c j k ≡ eqb k 12
-  unfolding belongs choose if◌then◌else◌
+  unfolding belongs choose test◌then◌else◌
   below_if_odd e o = rw (e, eq-eqb (j % 2) 1 o, or_true)
 
-  pub below_if : p ≡ 8 → (j % 2 ≡ 1 → ⊥) → belongs p c j k ≡ (if eqb (j + 1) c then eqb k 12 else is_expression k)
-  unfolding belongs choose if◌then◌else◌
+  pub below_if : p ≡ 8 → (j % 2 ≡ 1 → ⊥) → belongs p c j k ≡ (test eqb (j + 1) c then eqb k 12 else is_expression k)
+  unfolding belongs choose test◌then◌else◌
   below_if e o = rw (e, ne_eqb (j % 2) 1 o, or_false)
 
-  pub below_loop : (p ≡ 8 → ⊥) → 8 ≤ p → p < 11 → belongs p c j k ≡ (if eqb (j + 1) c then eqb k 12 else is_expression k)
-  unfolding belongs choose if◌then◌else◌
+  pub below_loop : (p ≡ 8 → ⊥) → 8 ≤ p → p < 11 → belongs p c j k ≡ (test eqb (j + 1) c then eqb k 12 else is_expression k)
+  unfolding belongs choose test◌then◌else◌
   below_loop n l u = elim (dec_lt p 10) [
     | yes a ↦ let e : p ≡ 9 = omega arith in rw e
     | no a ↦ let e : p ≡ 10 = omega arith in rw e
   ]
 
-  pub below_def : p ≡ 11 → belongs p c j k ≡ (if eqb (j + 1) c then eqb k 12 else eqb k 13)
-  unfolding belongs choose if◌then◌else◌
+  pub below_def : p ≡ 11 → belongs p c j k ≡ (test eqb (j + 1) c then eqb k 12 else eqb k 13)
+  unfolding belongs choose test◌then◌else◌
   below_def e = rw e
 
   pub below_block : p ≡ 12 → belongs p c j k ≡ is_statement k
-  unfolding belongs choose if◌then◌else◌
+  unfolding belongs choose test◌then◌else◌
   below_block e = rw e
 
   pub below_other : (p ≡ 8 → ⊥) → (p ≡ 11 → ⊥) → (p ≡ 12 → ⊥) → (8 ≤ p → p < 11 → ⊥) → belongs p c j k ≡ is_expression k
-  unfolding belongs choose if◌then◌else◌
+  unfolding belongs choose test◌then◌else◌
   below_other a b d o =
       rw (ne_eqb p 8 a, ne_eqb p 9 (λ e. o (omega arith) (omega arith)), ne_eqb p 10 (λ e. o (omega arith) (omega arith)), ne_eqb p 11 b, ne_eqb p 12 d)

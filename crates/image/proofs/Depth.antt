@@ -12,32 +12,32 @@ use lib.Dec.{eqb, leb, ltb}
 use lib.ListN.{length, get_or, set, take, length-take, length-set, replicate, length-replicate, get_or-replicate}
 use lib.Seq.{take-nil, take-suc, get_or-set_same, get_or-set_other}
 use borrow.Author.Tests.{eq-eqb, ne_eqb, lt-ltb, le-ltb, le-leb, lt-leb, eqb-true, eqb-false}
-use Rattle.meaning.specs.Base.{◌and◌, if◌then◌else◌}
+use Rattle.meaning.specs.Base.{◌and◌, test◌then◌else◌}
 use Rattle.meaning.specs.Image.{Node, node_of, nodes_of, depth, first_not, too_deep_node}
 
 -- how many of these nodes end behind i, and how many end at e
 unfoldable pub held : ℕ → List Node → ℕ
 held i [] = 0
-held i (d ∷ ds) = (if ltb i d.stop then 1 else 0) + held i ds
+held i (d ∷ ds) = (test ltb i d.stop then 1 else 0) + held i ds
 
 unfoldable pub ends_at : ℕ → List Node → ℕ
 ends_at e [] = 0
-ends_at e (d ∷ ds) = (if eqb d.stop e then 1 else 0) + ends_at e ds
+ends_at e (d ∷ ds) = (test eqb d.stop e then 1 else 0) + ends_at e ds
 
 -- one node more
-held_snoc : (i : ℕ) (ds : List Node) (d : Node) → held i (ds ++ (d ∷ [])) ≡ held i ds + (if ltb i d.stop then 1 else 0)
+held_snoc : (i : ℕ) (ds : List Node) (d : Node) → held i (ds ++ (d ∷ [])) ≡ held i ds + (test ltb i d.stop then 1 else 0)
 unfolding held
 held_snoc i [] d = omega arith
 held_snoc i (x ∷ ds) d = rw (held_snoc i ds d, add_assoc)
 
-ends_snoc : (e : ℕ) (ds : List Node) (d : Node) → ends_at e (ds ++ (d ∷ [])) ≡ ends_at e ds + (if eqb d.stop e then 1 else 0)
+ends_snoc : (e : ℕ) (ds : List Node) (d : Node) → ends_at e (ds ++ (d ∷ [])) ≡ ends_at e ds + (test eqb d.stop e then 1 else 0)
 unfolding ends_at
 ends_snoc e [] d = omega arith
 ends_snoc e (x ∷ ds) d = rw (ends_snoc e ds d, add_assoc)
 
 -- what ends behind i ends at i + 1 or behind it
-one_further : (i s : ℕ) → (if ltb i s then 1 else 0) ≡ (if ltb (suc i) s then 1 else 0) + (if eqb s (suc i) then 1 else 0)
-unfolding if◌then◌else◌
+one_further : (i s : ℕ) → (test ltb i s then 1 else 0) ≡ (test ltb (suc i) s then 1 else 0) + (test eqb s (suc i) then 1 else 0)
+unfolding test◌then◌else◌
 one_further i s = elim (dec_lt i s) [
   | yes a ↦ elim (dec_lt (suc i) s) [
     | yes b ↦ rw (lt-ltb i s a, lt-ltb (suc i) s b, ne_eqb s (suc i) (λ e. omega arith))
@@ -51,8 +51,8 @@ unfolding held ends_at
 held_further i [] = refl
 held_further i (d ∷ ds) = omega (arith, one_further i d.stop, held_further i ds)
 
-at_most_one : (t : Bool) → (if t then 1 else 0) ≤ 1
-unfolding if◌then◌else◌
+at_most_one : (t : Bool) → (test t then 1 else 0) ≤ 1
+unfolding test◌then◌else◌
 at_most_one true = omega arith
 at_most_one false = omega arith
 
@@ -63,7 +63,7 @@ ends_few e (d ∷ ds) = omega (arith, at_most_one (eqb d.stop e), ends_few e ds)
 
 -- a node holds those from itself on that end before it does
 depth_held : (i j : ℕ) (ds : List Node) → depth i j ds ≡ held i (take (suc i - j) ds)
-unfolding depth held ◌and◌ if◌then◌else◌
+unfolding depth held ◌and◌ test◌then◌else◌
 depth_held i j [] = rw (take-nil (suc i - j))
 depth_held i j (d ∷ ds) = elim (dec_lt i j) [
   | yes a ↦
@@ -72,7 +72,7 @@ depth_held i j (d ∷ ds) = elim (dec_lt i j) [
       rw (lt-leb j i a, none, zero-add) (rw later at (depth_held i (suc j) ds))
   | no a ↦
       let some : suc i - j ≡ suc (suc i - suc j) = omega arith in
-      rw (le-leb j i (omega arith), some) (ap (λ (n : ℕ). (if ltb i d.stop then 1 else 0) + n) (depth_held i (suc j) ds))
+      rw (le-leb j i (omega arith), some) (ap (λ (n : ℕ). (test ltb i d.stop then 1 else 0) + n) (depth_held i (suc j) ds))
 ]
 
 module _ (ds : List Node) (i : ℕ) (inside : i < length ds) where
@@ -80,12 +80,12 @@ module _ (ds : List Node) (i : ℕ) (inside : i < length ds) where
   unfolding node_of
   one_more = rw add-one (take-suc ds i _ inside)
 
-  pub ends_next : (e : ℕ) → ends_at e (take (i + 1) ds) ≡ ends_at e (take i ds) + (if eqb (node_of ds i).stop e then 1 else 0)
+  pub ends_next : (e : ℕ) → ends_at e (take (i + 1) ds) ≡ ends_at e (take i ds) + (test eqb (node_of ds i).stop e then 1 else 0)
   ends_next e = rw one_more (ends_snoc e (take i ds) (node_of ds i))
 
   module _ (above : i < (node_of ds i).stop) where
     held_more : held i (take (i + 1) ds) ≡ held i (take i ds) + 1
-    unfolding if◌then◌else◌
+    unfolding test◌then◌else◌
     held_more = rw one_more (held_snoc i (take i ds) (node_of ds i) ∙ rw (lt-ltb i (node_of ds i).stop above))
 
     pub depth_here : depth i 0 ds ≡ held i (take i ds) + 1
@@ -108,7 +108,7 @@ counted_none = record { long = length-replicate {A = ℕ} 2049 1; each = λ e h.
 module _ (ds : List Node) (i : ℕ) (inside : i < length ds) (ends : List ℕ) (h : Counted ends (take i ds)) (s : ℕ) (same : s ≡ (node_of ds i).stop) (fits : s < 2049) where
   -- by whether node i ends at e
   counted_at : (e : ℕ) → e < 2049 → (t : Bool) → eqb s e ≡ t → get_or (set ends s (get_or ends s 0 + 1)) e 0 ≡ ends_at e (take (i + 1) ds) + 1
-  unfolding if◌then◌else◌
+  unfolding test◌then◌else◌
   counted_at e l true p =
       let here : s ≡ e = eqb-true s e p in
       let room : s < length ends = omega (arith, h.long) in
@@ -140,7 +140,7 @@ depth_few i j [] = omega arith
 depth_few i j (d ∷ ds) = omega (arith, at_most_one (leb j i and ltb i d.stop), depth_few i (suc j) ds)
 
 pass_all : {A : Type 0} (f : ℕ → A → Bool) (k : ℕ) (xs : List A) → ((i : ℕ) (x : A) → f i x ≡ true) → first_not f k xs ≡ none
-unfolding first_not if◌then◌else◌
+unfolding first_not test◌then◌else◌
 pass_all f k [] h = refl
 pass_all f k (x ∷ xs) h = rw (h k x) (pass_all f (suc k) xs h)
 

@@ -8,7 +8,7 @@ use native.Mathlib.Omega.{arith}
 use lib.ListN.{length, take, drop, get_or-map, length-drop}
 use lib.Seq.{drop-drop, take_all}
 use borrow.Author.Tests.{leb-true}
-use Rattle.meaning.specs.Base.{choose, if◌then◌else◌}
+use Rattle.meaning.specs.Base.{choose, test◌then◌else◌}
 use Rattle.meaning.specs.Image.{name_record, name_records, texts_of, name_from, role_of, names_of, name_of, name_count, node_count, text_count, names_from, nodes_from, texts_from, total, head_stands, broken_name}
 use Rattle.meaning.specs.Image.{Name}
 use Rattle.meaning.proofs.Choices.{and_left}
@@ -27,7 +27,7 @@ record_of_lem bs k h = record_at name_record 20 (name_count bs) names_from bs k 
 
 -- a name is what its record says, whatever its number
 pub name_of_lem : (bs : List ℕ) (k : ℕ) → name_of (names_of bs) k ≡ name_from (texts_of bs) (record_of (name_records bs) k)
-unfolding name_of names_of record_of name_from role_of choose if◌then◌else◌
+unfolding name_of names_of record_of name_from role_of choose test◌then◌else◌
 name_of_lem bs k = get_or-map (name_from (texts_of bs)) (name_records bs) k _
 
 -- ---- what the header gives

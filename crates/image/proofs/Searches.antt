@@ -11,7 +11,7 @@ use lib.ListN.{length, get_or, take, drop, length-take, length-drop, drop_of_len
 use lib.Seq.{drop-cons}
 use borrow.Author.Tests.{eq-eqb, ne_eqb, eqb-true, leb-true}
 use lib.Dec.{eqb}
-use Rattle.meaning.specs.Base.{if◌then◌else◌}
+use Rattle.meaning.specs.Base.{test◌then◌else◌}
 use Rattle.meaning.specs.Image.{NameRecord, first_not, wrong_name, text_stands, is_tree_set}
 use Rattle.meaning.specs.Image.{Node as ImageNode}
 use Rattle.meaning.proofs.Choices.{and_left, and_right, if_none}
@@ -26,11 +26,11 @@ module _ {A : Type 0} (f : ℕ → A → Bool) (xs : List A) (i : ℕ) where
   first_end h = rw (drop_of_length-le xs h)
 
   pub first_fails : (d : A) → i < length xs → f i (get_or xs i d) ≡ false → first_not f i (drop i xs) ≡ some i
-  unfolding first_not if◌then◌else◌
+  unfolding first_not test◌then◌else◌
   first_fails d h e = rw (drop-cons xs i d h, e)
 
   pub first_next : (d : A) → i < length xs → f i (get_or xs i d) ≡ true → first_not f i (drop i xs) ≡ first_not f (i + 1) (drop (i + 1) xs)
-  unfolding first_not if◌then◌else◌
+  unfolding first_not test◌then◌else◌
   first_next d h e = rw (drop-cons xs i d h, e, add-one)
 
 -- ---- whether a node that was read is a TreeSet
@@ -50,22 +50,22 @@ module _ (x : ImageNode) (d : Node) (e : node_means d ≡ x) where
 
 module _ (texts : List ℕ) (rs : List NameRecord) (i from : ℕ) (last : List ℕ) where
   pub wrong_short : length rs ≤ i → (from ≡ length texts → ⊥) → wrong_name texts i from last (drop i rs) ≡ some i
-  unfolding wrong_name if◌then◌else◌
+  unfolding wrong_name test◌then◌else◌
   wrong_short h e = rw (drop_of_length-le rs h, ne_eqb from _ e)
 
   pub wrong_end : length rs ≤ i → from ≡ length texts → wrong_name texts i from last (drop i rs) ≡ none
-  unfolding wrong_name if◌then◌else◌
+  unfolding wrong_name test◌then◌else◌
   wrong_end h e = rw (drop_of_length-le rs h, eq-eqb from _ e)
 
   pub wrong_here : i < length rs → name_stands texts from last (record_of rs i) ≡ false → wrong_name texts i from last (drop i rs) ≡ some i
-  unfolding wrong_name if◌then◌else◌ name_stands record_of
+  unfolding wrong_name test◌then◌else◌ name_stands record_of
   wrong_here h e = rw (drop-cons rs i no_record h, e)
 
   -- the text that was looked at is the last one now: it stands between the old place and the new
   pub wrong_next : i < length rs → name_stands texts from last (record_of rs i) ≡ true
       → wrong_name texts i from last (drop i rs)
       ≡ wrong_name texts (i + 1) (from + (record_of rs i).size) (take (from + (record_of rs i).size - from) (drop from texts)) (drop (i + 1) rs)
-  unfolding wrong_name if◌then◌else◌ name_stands record_of
+  unfolding wrong_name test◌then◌else◌ name_stands record_of
   wrong_next h e = rw (drop-cons rs i no_record h, e, add-one, add-sub_cancel_left)
 
 -- a text that stands lies within the area

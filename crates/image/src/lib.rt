@@ -9,7 +9,7 @@ ghost use Rattle.meaning.specs.Image.{role_of, allows, safe, broken_name, unsafe
 ghost use Rattle.meaning.specs.Image.{is_expression, node_stands, broken_node, belongs, lands};
 ghost use Rattle.meaning.specs.Image.{nests, badly_nested, too_deep_node, head_stands, counts_stand, offsets_stand};
 ghost use Rattle.meaning.specs.Image.{image_fault, first_tree_set};
-ghost use Rattle.meaning.specs.Base.{◌and◌, ◌or◌, if◌then◌else◌, is_one_of, words};
+ghost use Rattle.meaning.specs.Base.{◌and◌, ◌or◌, test◌then◌else◌, is_one_of, words};
 ghost use Rattle.meaning.proofs.Faults.{Headed};
 ghost use Rattle.image.specs.Kinds.{record_stands, root_stands};
 ghost use Rattle.words.specs.Words.{put_at};
@@ -606,7 +606,7 @@ fn is_expression(kind: u32) -> bool
 }
 
 fn block_or_expression(block: bool, kind: u32) -> bool
-    ensures { result ≡ (if block then eqb kind 12 else is_expression kind) }
+    ensures { result ≡ (test block then eqb kind 12 else is_expression kind) }
 {
     if block {
         return kind == kinds::BLOCK;

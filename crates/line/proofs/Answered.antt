@@ -8,7 +8,7 @@ use native.Mathlib.Omega.{arith}
 use lib.Dec.{leb}
 use lib.ListN.{length, take, drop, length-append}
 use lib.Seq.{length-take-le}
-use Rattle.meaning.specs.Base.{if◌then◌else◌, if_some}
+use Rattle.meaning.specs.Base.{test◌then◌else◌, if_some}
 use Rattle.meaning.specs.Image.{Fault, Name, Node, check_fault, names_of, nodes_of}
 use Rattle.meaning.specs.Decode.{tree_of}
 use Rattle.meaning.specs.Sheet.{listing, sheet_of}
@@ -35,10 +35,10 @@ pub bare_header : (c n : ℕ) → 1 ≤ c → Header (bare c n)
 bare_header c n h = record { forty = λ e. absurd (omega arith) }
 
 pub written_header : (room : ℕ) (bs : List ℕ) → 40 ≤ length bs → Header (written room bs)
-unfolding written if◌then◌else◌
+unfolding written test◌then◌else◌
 written_header room bs h = by (leb (length bs) room)
   where
-    by : (b : Bool) → Header (if b then record { code = 0; place = 0; span_start = 0; span_end = 0; second_start = 0; second_end = 0; sheet = bs; message = [] } else bare 10 0)
+    by : (b : Bool) → Header (test b then record { code = 0; place = 0; span_start = 0; span_end = 0; second_start = 0; second_end = 0; sheet = bs; message = [] } else bare 10 0)
     by true = record { forty = λ e. h }
     by false = bare_header 10 0 (omega arith)
 

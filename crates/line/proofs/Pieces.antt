@@ -7,7 +7,7 @@ use native.Mathlib.Omega.{arith}
 use lib.ListN.{length}
 use borrow.Author.Tests.{eq-eqb, ne_eqb}
 use Rattle.meaning.specs.Answer.{overlaid}
-use Rattle.meaning.specs.Base.{if◌then◌else◌, bytes, decimal, word}
+use Rattle.meaning.specs.Base.{test◌then◌else◌, bytes, decimal, word}
 use Rattle.meaning.specs.Line.{spaced, accepted_line, refused_line, line_of}
 use Rattle.words.specs.Words.{put_at, Wrote}
 use Rattle.words.proofs.Laws.{put_overlaid, decimal_length, wrote, and_then}
@@ -49,11 +49,11 @@ three_wrote x y z a b c = spaced_next x (y ∷ z ∷ []) a (spaced_next y (z ∷
 -- ---- the message or `-`
 
 pub dash : (message : List ℕ) → length message ≡ 0 → bytes "-" ≡ or_dash message
-unfolding or_dash if◌then◌else◌
+unfolding or_dash test◌then◌else◌
 dash message e = rw (eq-eqb _ _ e)
 
 pub no_dash : (message : List ℕ) → (length message ≡ 0 → ⊥) → message ≡ or_dash message
-unfolding or_dash if◌then◌else◌
+unfolding or_dash test◌then◌else◌
 no_dash message ne = rw (ne_eqb _ _ ne)
 
 -- ---- the two lines
@@ -78,11 +78,11 @@ whole {d} s a = (a.same ∙ put_overlaid d s, a.ends ∙ zero-add _)
 
 module _ (code place begins ends : ℕ) (sheet message : List ℕ) where
   is_accepted : code ≡ 0 → accepted_line sheet ≡ line_of (answered code place begins ends sheet message)
-  unfolding line_of if◌then◌else◌
+  unfolding line_of test◌then◌else◌
   is_accepted z = rw (eq-eqb _ _ z)
 
   is_refused : (code ≡ 0 → ⊥) → refused_line (answered code place begins ends [] message) ≡ line_of (answered code place begins ends sheet message)
-  unfolding line_of if◌then◌else◌ refused_line
+  unfolding line_of test◌then◌else◌ refused_line
   is_refused nz = rw (ne_eqb _ _ nz)
 
   pub accepted_whole : {d e : List ℕ} {r : ℕ} → code ≡ 0 → Wrote d 0 (accepted_line sheet) e r

@@ -2,7 +2,7 @@
 use Rattle.std.specs.Prelude.{◌≡◌, List, ℕ, ◌+◌, ◌<◌, ◌≤◌, eqb, length}
 use Rattle.meaning.specs.Limits.{largest_sheet}
 use Rattle.meaning.specs.Answer.{Answer, overlaid}
-use Rattle.meaning.specs.Base.{if◌then◌else◌, bytes}
+use Rattle.meaning.specs.Base.{test◌then◌else◌, bytes}
 use Rattle.meaning.specs.Line.{line_of}
 
 -- an accepted image has a sheet with a header, whose length is a word; the line finds room whatever its numbers are
@@ -18,7 +18,7 @@ answered code place begins ends sheet message =
 
 -- "message or `-`"
 unfoldable pub or_dash : List ℕ → List ℕ
-or_dash message = if eqb (length message) 0 then bytes "-" else message
+or_dash message = test eqb (length message) 0 then bytes "-" else message
 
 -- a line stands at the front of a buffer that is as long as it was, and the rest is kept
 pub record Fronted (w old new : List ℕ) (size : ℕ) : Type 0 where

@@ -10,7 +10,7 @@ use borrow.Author.Tests.{leb-true, ne_eqb}
 use lib.Dec.{leb}
 use lib.ListN.{length, take, drop, length-append, length-drop}
 use lib.Seq.{take-append_seam}
-use Rattle.meaning.specs.Base.{if◌then◌else◌, choose, if_some}
+use Rattle.meaning.specs.Base.{test◌then◌else◌, choose, if_some}
 use Rattle.meaning.specs.Image.{Fault, Name, Node, image_fault, first_tree_set, check_fault, names_of, nodes_of}
 use Rattle.meaning.specs.Message.{Refusal}
 use Rattle.meaning.specs.Walk.{Setting, plain, strict, State, End, done, wrong, too_deep}
@@ -68,8 +68,8 @@ module _ (sheet_room message_room : ℕ) where
       }
 
   if_answered : (b : Bool) (x y : Answer) → (b ≡ true → Answered sheet_room message_room x) → Answered sheet_room message_room y
-      → Answered sheet_room message_room (if b then x else y)
-  unfolding if◌then◌else◌
+      → Answered sheet_room message_room (test b then x else y)
+  unfolding test◌then◌else◌
   if_answered true x y f g = f refl
   if_answered false x y f g = g
 
@@ -79,10 +79,10 @@ module _ (sheet_room message_room : ℕ) where
       if_answered _ _ _ (λ e. full_answered bs (leb-true (length bs) sheet_room e)) (bare_answered 10 0 (inl (omega arith)) (λ l. refl))
 
   fitting_fits : (bs : List ℕ) → length (fitting message_room bs) ≤ message_room
-  unfolding fitting if◌then◌else◌
+  unfolding fitting test◌then◌else◌
   fitting_fits bs = by (leb (length bs) message_room) refl
     where
-      by : (b : Bool) → leb (length bs) message_room ≡ b → length (if b then bs else []) ≤ message_room
+      by : (b : Bool) → leb (length bs) message_room ≡ b → length (test b then bs else []) ≤ message_room
       by true e = leb-true (length bs) message_room e
       by false e = omega arith
 
@@ -138,15 +138,15 @@ module _ (sheet_room message_room : ℕ) where
 
 module _ (bs : List ℕ) (sheet_room message_room : ℕ) where
   pub plain_is : answer 0 bs sheet_room message_room ≡ answer_under plain bs sheet_room message_room
-  unfolding answer setting_of choose if_some if◌then◌else◌
+  unfolding answer setting_of choose if_some test◌then◌else◌
   plain_is = refl
 
   pub strict_is : answer 1 bs sheet_room message_room ≡ answer_under strict bs sheet_room message_room
-  unfolding answer setting_of choose if_some if◌then◌else◌
+  unfolding answer setting_of choose if_some test◌then◌else◌
   strict_is = refl
 
   pub no_setting : (n : ℕ) → 2 ≤ n → answer n bs sheet_room message_room ≡ bare 13 0
-  unfolding answer setting_of choose if_some if◌then◌else◌
+  unfolding answer setting_of choose if_some test◌then◌else◌
   no_setting n h = rw (ne_eqb n 0 (λ e. omega (arith, e)), ne_eqb n 1 (λ e. omega (arith, e)))
 
 -- ---- the order of the codes: 13, then 1 to 8, then 14, then what the walk says, 10 last
@@ -220,13 +220,13 @@ module _ (bs : List ℕ) (sheet_room message_room : ℕ) where
   Fourteen a = a.code ≡ 14 → Sound bs × (first_tree_set bs ≡ some a.place)
 
   written_fourteen : (xs : List ℕ) → Fourteen (written sheet_room xs)
-  unfolding Fourteen written if◌then◌else◌
+  unfolding Fourteen written test◌then◌else◌
   written_fourteen xs = by (leb (length xs) sheet_room)
     where
       full : Answer
       full = record { code = 0; place = 0; span_start = 0; span_end = 0; second_start = 0; second_end = 0; sheet = xs; message = [] }
 
-      by : (q : Bool) → Fourteen (if q then full else bare 10 0)
+      by : (q : Bool) → Fourteen (test q then full else bare 10 0)
       by true c = absurd (omega arith)
       by false c = absurd (omega arith)
 

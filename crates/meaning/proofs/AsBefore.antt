@@ -12,7 +12,7 @@ use Prim.Native.Nat.{ℕ, zero, suc}
 use lib.Dec.{eqb, leb, ltb}
 use lib.ListN.{length, get_or, set, replicate, take, length-map, get_or-map}
 use Rattle.meaning.specs.Limits.{most_names, most_frames, read_at_most, sheet_buffer, message_buffer}
-use Rattle.meaning.specs.Base.{if◌then◌else◌, if_some, or_else, is_in, all, count}
+use Rattle.meaning.specs.Base.{test◌then◌else◌, if_some, or_else, is_in, all, count}
 use Rattle.meaning.specs.Types.{Ty, unknown, bool, same}
 use Rattle.meaning.specs.Tree.{Expr, at, Form, literal, variable, unary, binary, call, attribute, list_of, dict_of, tuple_of, set_of, index, lambda, Exprs, no_exprs, ◌also◌, place, size, Stmt, line, Act, break, continue, pass, class, assign, expr, return, if_then, while, for, def, Stmts, no_stmts, ◌next◌, Arms, no_arms, ◌else_arms◌, Arm, on, otherwise, first_condition}
 use Rattle.meaning.specs.Bound.{may_bind}
@@ -180,8 +180,8 @@ popped_only (done s) d p = rw (← p) (ap (λ Γ. B.done (B.state Γ s.returns))
 popped_only (wrong r s) d p = rw (← p)
 popped_only (too_deep n) d p = rw (← p)
 
-if_only : (b : Bool) (d e : End) (d₁ e₁ : B.End) → forget d ≡ d₁ → forget e ≡ e₁ → forget (if b then d else e) ≡ (if b then d₁ else e₁)
-unfolding if◌then◌else◌
+if_only : (b : Bool) (d e : End) (d₁ e₁ : B.End) → forget d ≡ d₁ → forget e ≡ e₁ → forget (test b then d else e) ≡ (test b then d₁ else e₁)
+unfolding test◌then◌else◌
 if_only true d e d₁ e₁ p q = p
 if_only false d e d₁ e₁ p q = q
 
@@ -267,8 +267,8 @@ tells_only (some a) (some b) = refl
 abbrev types_in : List Binding → List Ty
 types_in bs = map (λ b. b.type) bs
 
-if_types : (q : Bool) (b : Binding) (bs : List Binding) → types_in (if q then b ∷ bs else bs) ≡ (if q then b.type ∷ types_in bs else types_in bs)
-unfolding if◌then◌else◌
+if_types : (q : Bool) (b : Binding) (bs : List Binding) → types_in (test q then b ∷ bs else bs) ≡ (test q then b.type ∷ types_in bs else types_in bs)
+unfolding test◌then◌else◌
 if_types true b bs = refl
 if_types false b bs = refl
 
@@ -431,13 +431,13 @@ unfolding listing B.listing listed_frame B.listed_frame
 listing_only ws b f = entries_only ws _ ∙ ap (B.entries ws) (listed_slots_only (may_bind b) f (count 0 most_names))
 
 written_only : (room : ℕ) (bs : List ℕ) → as_before (written room bs) ≡ written room bs
-unfolding written if◌then◌else◌
+unfolding written test◌then◌else◌
 written_only room bs = by (leb (length bs) room)
   where
     full : Answer
     full = record { code = 0; place = 0; span_start = 0; span_end = 0; second_start = 0; second_end = 0; sheet = bs; message = [] }
 
-    by : (q : Bool) → as_before (if q then full else bare 10 0) ≡ (if q then full else bare 10 0)
+    by : (q : Bool) → as_before (test q then full else bare 10 0) ≡ (test q then full else bare 10 0)
     by true = refl
     by false = refl
 

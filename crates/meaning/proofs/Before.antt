@@ -7,7 +7,7 @@ use mathlib.Core.Bool.{Bool, true, false}
 use mathlib.Core.List.{List, [], ◌∷◌, ◌++◌}
 use mathlib.Core.Option.{Option, none, some}
 use Prim.Native.Nat.{ℕ}
-use Rattle.meaning.specs.Base.{if◌then◌else◌, choose, if_some}
+use Rattle.meaning.specs.Base.{test◌then◌else◌, choose, if_some}
 use Rattle.meaning.specs.Types.{Ty, unknown}
 use Rattle.meaning.specs.Tree.{Expr, place, Stmt, line, Act, break, continue, pass, class, assign, expr, return, if_then, while, for, def, Stmts, no_stmts, ◌next◌, Arms, no_arms, ◌else_arms◌, Arm, on, otherwise, first_condition}
 use Rattle.meaning.specs.Image.{Name, image_fault, names_of, nodes_of}
@@ -93,8 +93,8 @@ unfolding Still typed
 typed_still (ok t) s k h = h t
 typed_still (refused r) s k h = refl
 
-if_still : (b : Bool) (s : State) (r : Refusal) → Still s (if b then done s else wrong r s)
-unfolding Still if◌then◌else◌
+if_still : (b : Bool) (s : State) (r : Refusal) → Still s (test b then done s else wrong r s)
+unfolding Still test◌then◌else◌
 if_still true s r = tt
 if_still false s r = refl
 
@@ -189,7 +189,7 @@ module _ (ws : List Name) where
       then_same (walk ws plain false a _) _ _ (λ s₁. program_same b s₁) ∙ ap (λ e. e >>= λ s₁. program₀ ws b s₁) (walk_same false a _)
 
 pub plain_unchanged : (bs : List ℕ) (sheet_room message_room : ℕ) → answer 0 bs sheet_room message_room ≡ answer_before bs sheet_room message_room
-unfolding answer setting_of choose if_some if◌then◌else◌ answer_under walked answer_before
+unfolding answer setting_of choose if_some test◌then◌else◌ answer_under walked answer_before
 plain_unchanged bs sheet_room message_room = rw (program_same (names_of bs) (tree_of (nodes_of bs)) start)
 
 -- and today's, which has a second span beside it, and refuses TreeSets

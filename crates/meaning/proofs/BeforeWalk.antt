@@ -8,7 +8,7 @@ use Prim.Native.Nat.{ℕ}
 use lib.Dec.{eqb, ltb}
 use lib.ListN.{length, get_or, set}
 use Rattle.meaning.specs.Limits.{most_names, most_frames}
-use Rattle.meaning.specs.Base.{◌or◌, if◌then◌else◌, if_some, or_else, is_in, all, count}
+use Rattle.meaning.specs.Base.{◌or◌, test◌then◌else◌, if_some, or_else, is_in, all, count}
 use Rattle.meaning.specs.Types.{Ty, unknown, bool, same}
 use Rattle.meaning.specs.Tree.{Expr, at, Form, literal, variable, unary, binary, call, attribute, list_of, dict_of, tuple_of, set_of, index, lambda, Exprs, no_exprs, ◌also◌, place, size, Stmt, line, Act, break, continue, pass, class, assign, expr, return, if_then, while, for, def, Stmts, no_stmts, ◌next◌, Arms, no_arms, ◌else_arms◌, Arm, on, otherwise, first_condition}
 use Rattle.meaning.specs.Bound.{may_bind}
@@ -88,7 +88,7 @@ assign_name n x t s =
 unfoldable pub unpack_into : ℕ → ℕ → Ty → State → (List Ty → End) → End
 unpack_into n k t s go =
     if_some (unpacked k t)
-    (λ ts. if eqb (length ts) k then go ts else refuse 26 n (a_number (length ts) ∷ a_number k ∷ []) s)
+    (λ ts. test eqb (length ts) k then go ts else refuse 26 n (a_number (length ts) ∷ a_number k ∷ []) s)
     (refuse 27 n (a_type t ∷ []) s)
 
 -- ---- "A return type is kept per Def, and afresh for each module statement."
@@ -111,19 +111,19 @@ same_slot (some a) (some b) = same a b
 -- a branch's slot tells of a type: it is there, it is known, and it is not what the base's slot has
 unfoldable pub tells : Option Ty → Option Ty → Bool
 tells base none = false
-tells base (some t) = if same t unknown or same_slot (some t) base then false else true
+tells base (some t) = test same t unknown or same_slot (some t) base then false else true
 
 -- the known types that the branches Δs assign to x, over the base Γ
 unfoldable pub assigned : Frames → ℕ → List Frames → List Ty
 assigned Γ x [] = []
 assigned Γ x (Δ ∷ Δs) =
     let later : List Ty = assigned Γ x Δs in
-    if tells (slot_in Γ x) (slot_in Δ x) then or_else (slot_in Δ x) unknown ∷ later else later
+    test tells (slot_in Γ x) (slot_in Δ x) then or_else (slot_in Δ x) unknown ∷ later else later
 
 -- c is the first condition's node
 unfoldable pub merge_name : List Name → ℕ → ℕ → List Ty → State → End
 merge_name ws c x [] s = done s
-merge_name ws c x (t ∷ ts) s = if all (same t) ts then done (bind x t s) else refuse 23 c (a_text (name_of ws x).spelling ∷ []) s
+merge_name ws c x (t ∷ ts) s = test all (same t) ts then done (bind x t s) else refuse 23 c (a_text (name_of ws x).spelling ∷ []) s
 
 unfoldable pub merge_names : List Name → ℕ → Frames → List Frames → List ℕ → State → End
 merge_names ws c Γ Δs [] s = done s
@@ -150,12 +150,12 @@ popped (too_deep n) = too_deep n
 
 -- "a Def needs a ninth frame (module included)": judged before its parameters and body
 unfoldable pub if_room : ℕ → State → End → End
-if_room n s e = if ltb (length s.frames) most_frames then e else too_deep n
+if_room n s e = test ltb (length s.frames) most_frames then e else too_deep n
 
 -- ---- Break, Continue and For
 
 unfoldable pub only_in : Bool → ℕ → ℕ → State → End
-only_in loop c n s = if loop then done s else refuse c n [] s
+only_in loop c n s = test loop then done s else refuse c n [] s
 
 unfoldable pub over_elements : ℕ → Ty → State → (Ty → End) → End
 over_elements n t s k = if_some (element_of t) k (refuse 24 n (a_type t ∷ []) s)
@@ -168,7 +168,7 @@ module _ (ws : List Name) where
 
   -- "A condition must be Bool itself"
   unfoldable pub condition : Expr → State → End
-  condition e s = checked e s λ t. if same t bool then done s else refuse 36 (place e) [] s
+  condition e s = checked e s λ t. test same t bool then done s else refuse 36 (place e) [] s
 
   unfoldable mutual
     pub assign_to : Expr → Ty → State → End

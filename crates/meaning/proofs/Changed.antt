@@ -11,7 +11,7 @@ use native.Mathlib.Omega.{arith}
 use native.Mathlib.Decide.{ℕ_discrete}
 use borrow.Author.Tests.{eq-eqb, ne_eqb, ltb-false}
 use lib.ListN.{length}
-use Rattle.meaning.specs.Base.{if◌then◌else◌, same_text, before, bytes}
+use Rattle.meaning.specs.Base.{test◌then◌else◌, same_text, before, bytes}
 use Rattle.meaning.specs.Types.{Ty, Ty-discrete, same}
 use Rattle.meaning.specs.Image.{text_stands}
 use Rattle.meaning.specs.Sheet.{Entry, texts_stand, within_limits}
@@ -26,14 +26,14 @@ use Rattle.meaning.proofs.SheetSame.{before_not, all_after, told_by_members}
 
 unfoldable pub type_in : List Entry → List ℕ → Option Ty
 type_in [] s = none
-type_in (e ∷ es) s = let later = type_in es s in if same_text e.0 s then some e.1 else later
+type_in (e ∷ es) s = let later = type_in es s in test same_text e.0 s then some e.1 else later
 
 -- "in one only, or with another type"
 unfoldable pub change_of : List ℕ → Option Ty → Option Ty → Option Change
 change_of s none none = none
 change_of s none (some u) = some (came (s, u))
 change_of s (some t) none = some (went (s, t))
-change_of s (some t) (some u) = if same t u then none else some (turned s t u)
+change_of s (some t) (some u) = test same t u then none else some (turned s t u)
 
 -- the name that a change is about
 unfoldable pub about : Change → List ℕ
@@ -44,24 +44,24 @@ about (turned s t u) = s
 -- the change that is told of a name
 unfoldable pub change_for : List Change → List ℕ → Option Change
 change_for [] s = none
-change_for (c ∷ cs) s = let later = change_for cs s in if same_text (about c) s then some c else later
+change_for (c ∷ cs) s = let later = change_for cs s in test same_text (about c) s then some c else later
 
 -- ---- names and texts
 
 name_here : (e : Entry) (es : List Entry) (s : List ℕ) → e.0 ≡ s → type_in (e ∷ es) s ≡ some e.1
-unfolding type_in if◌then◌else◌
+unfolding type_in test◌then◌else◌
 name_here e es s p = rw (← p, text_same e.0)
 
 name_later : (e : Entry) (es : List Entry) (s : List ℕ) → (e.0 ≡ s → ⊥) → type_in (e ∷ es) s ≡ type_in es s
-unfolding type_in if◌then◌else◌
+unfolding type_in test◌then◌else◌
 name_later e es s n = rw (not_so (same_text e.0 s) (λ h. n (same_text_lem e.0 s h)))
 
 change_here : (c : Change) (cs : List Change) (s : List ℕ) → about c ≡ s → change_for (c ∷ cs) s ≡ some c
-unfolding change_for if◌then◌else◌
+unfolding change_for test◌then◌else◌
 change_here c cs s p = rw (← p, text_same (about c))
 
 change_later : (c : Change) (cs : List Change) (s : List ℕ) → (about c ≡ s → ⊥) → change_for (c ∷ cs) s ≡ change_for cs s
-unfolding change_for if◌then◌else◌
+unfolding change_for test◌then◌else◌
 change_later c cs s n = rw (not_so (same_text (about c) s) (λ h. n (same_text_lem (about c) s h)))
 
 -- a text is another or not
@@ -92,12 +92,12 @@ unfolding change_of
 change_went s t y e = rw e
 
 change_same : (s : List ℕ) (x : Option Ty) → change_of s x x ≡ none
-unfolding change_of if◌then◌else◌
+unfolding change_of test◌then◌else◌
 change_same s none = refl
 change_same s (some t) = rw (same_yes t t refl)
 
 change_turned : (s : List ℕ) (t u : Ty) → (t ≡ u → ⊥) → change_of s (some t) (some u) ≡ some (turned s t u)
-unfolding change_of if◌then◌else◌
+unfolding change_of test◌then◌else◌
 change_turned s t u n = rw (same_no t u n)
 
 change_of_lem : (s : List ℕ) {x z y w : Option Ty} → x ≡ z → y ≡ w → change_of s x y ≡ change_of s z w
@@ -172,7 +172,7 @@ not_among s (e ∷ es) h =
 
 -- neither comes before the other: they are one
 pub neither : (a b : List ℕ) → before a b ≡ false → before b a ≡ false → a ≡ b
-unfolding before if◌then◌else◌
+unfolding before test◌then◌else◌
 neither [] [] h k = refl
 neither [] (y ∷ ys) h k = absurd (false≢true (sym h))
 neither (x ∷ xs) [] h k = absurd (false≢true (sym k))
@@ -211,11 +211,11 @@ all_come last (n ∷ fs) h =
     record { differ = comes refl m.differ; ascend = (rising_next h, m.ascend) }
 
 pub retyped_same : (s : List ℕ) (t u : Ty) (cs : List Change) → t ≡ u → retyped s t u cs ≡ cs
-unfolding retyped if◌then◌else◌
+unfolding retyped test◌then◌else◌
 retyped_same s t u cs e = rw (same_yes t u e)
 
 pub retyped_other : (s : List ℕ) (t u : Ty) (cs : List Change) → (t ≡ u → ⊥) → retyped s t u cs ≡ turned s t u ∷ cs
-unfolding retyped if◌then◌else◌
+unfolding retyped test◌then◌else◌
 retyped_other s t u cs n = rw (same_no t u n)
 
 module _ {last : List ℕ} {o n : Entry} {es fs : List Entry} (h : Rising last (o ∷ es)) (k : Rising last (n ∷ fs)) where
@@ -251,15 +251,15 @@ next_goes o es = refl
 
 module _ (o n : Entry) (es fs : List Entry) where
   pub next_came : before n.0 o.0 ≡ true → changes (o ∷ es) (n ∷ fs) ≡ came n ∷ changes (o ∷ es) fs
-  unfolding changes against if◌then◌else◌
+  unfolding changes against test◌then◌else◌
   next_came b = rw b
 
   pub next_went : before n.0 o.0 ≡ false → before o.0 n.0 ≡ true → changes (o ∷ es) (n ∷ fs) ≡ went o ∷ changes es (n ∷ fs)
-  unfolding changes against if◌then◌else◌
+  unfolding changes against test◌then◌else◌
   next_went a b = rw (a, b)
 
   pub next_both : before n.0 o.0 ≡ false → before o.0 n.0 ≡ false → changes (o ∷ es) (n ∷ fs) ≡ retyped o.0 o.1 n.1 (changes es fs)
-  unfolding changes against if◌then◌else◌
+  unfolding changes against test◌then◌else◌
   next_both a b = rw (a, b)
 
 Merging : List Entry → Type 0
@@ -332,7 +332,7 @@ pub type_in_lem : (es : List Entry) → texts_stand [] es ≡ true → (s : List
 type_in_lem es h s t = (in_entries es s t, entry_in [] es (record { stands = h }) s t)
 
 no_change : (s : List ℕ) (x y : Option Ty) → change_of s x y ≡ none → x ≡ y
-unfolding change_of if◌then◌else◌
+unfolding change_of test◌then◌else◌
 no_change s none none e = refl
 no_change s none (some u) e = absurd (none-ne-some _ (sym e))
 no_change s (some t) none e = absurd (none-ne-some _ (sym e))

@@ -10,7 +10,7 @@ use native.Mathlib.Omega.{arith}
 use borrow.Author.Tests.{eqb-true, eq-eqb, ne_eqb}
 use lib.Dec.{eqb}
 use lib.ListN.{length, get_or, drop}
-use Rattle.meaning.specs.Base.{◌and◌, ◌or◌, if◌then◌else◌, choose, same_text, count, records}
+use Rattle.meaning.specs.Base.{◌and◌, ◌or◌, test◌then◌else◌, choose, same_text, count, records}
 use Rattle.meaning.specs.Types.{Ty, Ty-discrete, unknown, int, bool, string, float, nonetype, range, function, list, dict, tuple, map_iter, filter_iter, same, kind, plain}
 use Rattle.meaning.specs.Image.{first_not}
 
@@ -59,8 +59,8 @@ unfolding ◌or◌
 or_either true b e = inl refl
 or_either false b e = inr e
 
-pub if_le : (q : Bool) {a b n : ℕ} → a ≤ n → b ≤ n → (if q then a else b) ≤ n
-unfolding if◌then◌else◌
+pub if_le : (q : Bool) {a b n : ℕ} → a ≤ n → b ≤ n → (test q then a else b) ≤ n
+unfolding test◌then◌else◌
 if_le true p q = p
 if_le false p q = q
 
@@ -69,19 +69,19 @@ not_so true h = absurd (h refl)
 not_so false h = refl
 
 -- a choice between nothing and a place
-pub if_none : {A : Type 0} (b : Bool) (o : Option A) (a : A) → (if b then o else some a) ≡ none → (b ≡ true) × (o ≡ none)
-unfolding if◌then◌else◌
+pub if_none : {A : Type 0} (b : Bool) (o : Option A) (a : A) → (test b then o else some a) ≡ none → (b ≡ true) × (o ≡ none)
+unfolding test◌then◌else◌
 if_none true o a e = (refl, e)
 if_none false o a e = absurd (none-ne-some a (sym e))
 
 -- a choice between something and nothing
-pub if_some_lem : {A : Type 0} (b : Bool) (x y : A) → (if b then some x else none) ≡ some y → (b ≡ true) × (x ≡ y)
-unfolding if◌then◌else◌
+pub if_some_lem : {A : Type 0} (b : Bool) (x y : A) → (test b then some x else none) ≡ some y → (b ≡ true) × (x ≡ y)
+unfolding test◌then◌else◌
 if_some_lem true x y e = (refl, some-injective x y e)
 if_some_lem false x y e = absurd (none-ne-some y e)
 
-pub if_nothing : {A : Type 0} (b : Bool) (x : A) → (if b then some x else none) ≡ none → b ≡ false
-unfolding if◌then◌else◌
+pub if_nothing : {A : Type 0} (b : Bool) (x : A) → (test b then some x else none) ≡ none → b ≡ false
+unfolding test◌then◌else◌
 if_nothing true x e = absurd (none-ne-some x (sym e))
 if_nothing false x e = refl
 
@@ -169,8 +169,8 @@ unfoldable pub RowsHave : {A : Type 0} → (A → Type 0) → ℕ → List (ℕ 
 RowsHave Q k [] = Unit {0}
 RowsHave Q k (r ∷ rs) = (k ≡ r.0 → Q r.1) × RowsHave Q k rs
 
-if_has : {A : Type 0} (Q : A → Type 0) (b : Bool) (x y : A) → (b ≡ true → Q x) → Q y → Q (if b then x else y)
-unfolding if◌then◌else◌
+if_has : {A : Type 0} (Q : A → Type 0) (b : Bool) (x y : A) → (b ≡ true → Q x) → Q y → Q (test b then x else y)
+unfolding test◌then◌else◌
 if_has Q true x y f h = f refl
 if_has Q false x y f h = h
 

@@ -8,7 +8,7 @@ use Prim.Native.Nat.{ℕ, zero, suc, ◌≤◌}
 use native.Mathlib.Omega.{arith}
 use borrow.Author.Tests.{eqb-false, ltb-false}
 use lib.Dec.{eqb, ltb}
-use Rattle.meaning.specs.Base.{if◌then◌else◌, choose, if_some}
+use Rattle.meaning.specs.Base.{test◌then◌else◌, choose, if_some}
 use Rattle.meaning.specs.Types.{Ty, kind}
 use Rattle.meaning.specs.Tree.{UnaryOp, BinaryOp, Expr, at, Form, literal, variable, unary, binary, call, attribute, list_of, dict_of, tuple_of, set_of, index, lambda, Exprs, no_exprs, ◌also◌}
 use Rattle.meaning.specs.Image.{Role, plain, exactly, between, any, takes, Name}
@@ -60,13 +60,13 @@ unfolding Fair ◌>>=◌
 then_fair (ok t) k f g = g t
 then_fair (refused r) k f g = f
 
-if_fair : (b : Bool) (c d : Checked) → Fair c → Fair d → Fair (if b then c else d)
-unfolding if◌then◌else◌
+if_fair : (b : Bool) (c d : Checked) → Fair c → Fair d → Fair (test b then c else d)
+unfolding test◌then◌else◌
 if_fair true c d f g = f
 if_fair false c d f g = g
 
-if_told : (b : Bool) (c d : Checked) → (b ≡ true → Fair c) → (b ≡ false → Fair d) → Fair (if b then c else d)
-unfolding if◌then◌else◌
+if_told : (b : Bool) (c d : Checked) → (b ≡ true → Fair c) → (b ≡ false → Fair d) → Fair (test b then c else d)
+unfolding test◌then◌else◌
 if_told true c d f g = f refl
 if_told false c d f g = g refl
 

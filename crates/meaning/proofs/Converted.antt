@@ -13,7 +13,7 @@ use lib.Dec.{eqb}
 use lib.ListN.{length, get_or, set, drop, length-set, length-map, get_or-map, get_or-eq_default}
 use lib.Seq.{get_or-set_same, get_or-set_other, drop-set-lt, ext_get_or}
 use Rattle.meaning.specs.Limits.{largest_image}
-use Rattle.meaning.specs.Base.{if◌then◌else◌, if_some, word}
+use Rattle.meaning.specs.Base.{test◌then◌else◌, if_some, word}
 use Rattle.meaning.specs.Image.{name_count, node_count, texts_from, Name, names_of, Node, node, nodes_of, node_of, Fault, first_not, first_found, broken_node, badly_nested, too_deep_node, image_fault, is_tree_set, first_tree_set, check_fault}
 use Rattle.meaning.specs.Convert.{kind_from, converted_to, converted, Conversion, unconverted, convert_answer}
 use Rattle.meaning.specs.Decode.{tree_of}
@@ -31,23 +31,23 @@ use Rattle.meaning.proofs.Renewed.{renewed, never_tree_set, span_alike, stands_a
 -- ---- one node
 
 module _ (xs : List ℕ) (at : ℕ) where
-  step_length : (b : Bool) → length (if b then set xs at 29 else xs) ≡ length xs
-  unfolding if◌then◌else◌
+  step_length : (b : Bool) → length (test b then set xs at 29 else xs) ≡ length xs
+  unfolding test◌then◌else◌
   step_length true = length-set xs at 29
   step_length false = refl
 
-  step_other : (b : Bool) (j : ℕ) → (b ≡ true → j ≡ at → ⊥) → get_or (if b then set xs at 29 else xs) j 0 ≡ get_or xs j 0
-  unfolding if◌then◌else◌
+  step_other : (b : Bool) (j : ℕ) → (b ≡ true → j ≡ at → ⊥) → get_or (test b then set xs at 29 else xs) j 0 ≡ get_or xs j 0
+  unfolding test◌then◌else◌
   step_other true j h = get_or-set_other xs at j 29 0 (h refl)
   step_other false j h = refl
 
-  step_same : (b : Bool) → b ≡ true → at < length xs → get_or (if b then set xs at 29 else xs) at 0 ≡ 29
-  unfolding if◌then◌else◌
+  step_same : (b : Bool) → b ≡ true → at < length xs → get_or (test b then set xs at 29 else xs) at 0 ≡ 29
+  unfolding test◌then◌else◌
   step_same true e h = get_or-set_same xs at 29 0 h
   step_same false e h = absurd (false≢true e)
 
-  step_drop : (b : Bool) (n : ℕ) → at < n → drop n (if b then set xs at 29 else xs) ≡ drop n xs
-  unfolding if◌then◌else◌
+  step_drop : (b : Bool) (n : ℕ) → at < n → drop n (test b then set xs at 29 else xs) ≡ drop n xs
+  unfolding test◌then◌else◌
   step_drop true n h = drop-set-lt n xs at 29 h
   step_drop false n h = refl
 
@@ -166,11 +166,11 @@ module _ (bs : List ℕ) where
   tree_set_word i l t = sym (kind_is i l) ∙ eqb-true _ 30 t
 
   kind_renewed : (i : ℕ) → i < node_count bs
-      → word (converted bs) (kind_from bs i) ≡ (if eqb (word bs (kind_from bs i)) 30 then 29 else word bs (kind_from bs i))
-  unfolding if◌then◌else◌ is_tree_set
+      → word (converted bs) (kind_from bs i) ≡ (test eqb (word bs (kind_from bs i)) 30 then 29 else word bs (kind_from bs i))
+  unfolding test◌then◌else◌ is_tree_set
   kind_renewed i l = by (eqb (word bs (kind_from bs i)) 30) refl
     where
-      by : (b : Bool) → eqb (word bs (kind_from bs i)) 30 ≡ b → word (converted bs) (kind_from bs i) ≡ (if b then 29 else word bs (kind_from bs i))
+      by : (b : Bool) → eqb (word bs (kind_from bs i)) 30 ≡ b → word (converted bs) (kind_from bs i) ≡ (test b then 29 else word bs (kind_from bs i))
       by true e = kind_word i l (rw (kind_is i l) e) (eqb-true _ 30 e)
       by false e = plain_word i (rw (kind_is i l) e)
 
@@ -192,7 +192,7 @@ module _ (bs : List ℕ) where
 
   -- the same nodes, but that each TreeSet is a Set
   pub nodes_renewed : nodes_of (converted bs) ≡ map renewed (nodes_of bs)
-  unfolding node_of renewed is_tree_set if◌then◌else◌ kind_from
+  unfolding node_of renewed is_tree_set test◌then◌else◌ kind_from
   nodes_renewed =
       let none : Node = record { kind = 0; arg = 0; children = 0; stop = 0; span_start = 0; span_end = 0 } in
       ext_get_or none _ _ (nodes_many (converted bs) ∙ nodes_same (beside bs) ∙ sym (nodes_many bs) ∙ sym (length-map (nodes_of bs) renewed))
@@ -231,7 +231,7 @@ module _ (bs : List ℕ) where
 -- ---- no TreeSet is left
 
 none_left : (i : ℕ) (ds : List Node) → first_not (λ j d. not (is_tree_set d)) i (map renewed ds) ≡ none
-unfolding first_not if◌then◌else◌
+unfolding first_not test◌then◌else◌
 none_left i [] = refl
 none_left i (d ∷ ds) = rw (never_tree_set d, none_left (suc i) ds)
 
@@ -306,7 +306,7 @@ converted_steadiness bs =
 -- ---- "Other images come out unchanged."
 
 unchanged_to : (bs : List ℕ) → first_tree_set bs ≡ none → (n : ℕ) → n ≤ node_count bs → converted_to bs n ≡ bs
-unfolding converted_to first_tree_set node_of if◌then◌else◌
+unfolding converted_to first_tree_set node_of test◌then◌else◌
 unchanged_to bs e zero h = refl
 unchanged_to bs e (suc n) h =
     let none : Node = record { kind = 0; arg = 0; children = 0; stop = 0; span_start = 0; span_end = 0 } in
@@ -338,13 +338,13 @@ convert_as_check bs room sheet_room message_room setting f e =
 
 -- "then 15 if its output buffer is shorter than the image"
 pub convert_short : (bs : List ℕ) (room : ℕ) → Sound bs → room < length bs → convert_answer bs room ≡ unconverted 15 0
-unfolding convert_answer if_some if◌then◌else◌
+unfolding convert_answer if_some test◌then◌else◌
 convert_short bs room s h = rw ((sound bs).1 s, lt-leb (length bs) room h)
 
 -- an equal length is enough, and nothing is typed
 pub convert_done : (bs : List ℕ) (room : ℕ) → Sound bs → length bs ≤ room
     → convert_answer bs room ≡ record { code = 0; place = 0; image = converted bs }
-unfolding convert_answer if_some if◌then◌else◌
+unfolding convert_answer if_some test◌then◌else◌
 convert_done bs room s h = rw ((sound bs).1 s, le-leb (length bs) room h)
 
 -- no image is longer than 59,936 bytes, so that in so much room 15 does not come. (False of a room for 59,935.)

@@ -10,7 +10,7 @@ use native.Mathlib.Omega.{arith}
 use borrow.Author.Tests.{le-leb}
 use lib.ListN.{length, take}
 use lib.Seq.{get_or-take, length-take-le, take_all}
-use Rattle.meaning.specs.Base.{if◌then◌else◌, if_some, word}
+use Rattle.meaning.specs.Base.{test◌then◌else◌, if_some, word}
 use Rattle.meaning.specs.Limits.{largest_image, largest_sheet, sheet_buffer, message_buffer, read_at_most}
 use Rattle.meaning.specs.Image.{Fault, version, name_count, node_count, text_count, names_from, head_stands, counts_stand, offsets_stand, image_fault}
 use Rattle.meaning.specs.Read.{is_sheet, read_sheet}
@@ -86,7 +86,7 @@ module _ (n : ℕ) (bs : List ℕ) (least : largest_image < n) (more : n < lengt
   sheet_cut = no_sheet (take n bs) (omega (arith, cut_long)) ∙ sym (no_sheet bs (omega arith))
 
   read_cut : read_sheet (take n bs) ≡ read_sheet bs
-  unfolding read_sheet if◌then◌else◌
+  unfolding read_sheet test◌then◌else◌
   read_cut = rw (no_sheet (take n bs) (omega (arith, cut_long)), no_sheet bs (omega arith)) refl
 
 -- ---- of any length

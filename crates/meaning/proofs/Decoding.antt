@@ -4,7 +4,7 @@ use mathlib.Core.List.{List, [], ◌∷◌}
 use Prim.Native.Nat.{ℕ, zero, suc, ◌-◌, ◌<◌}
 use native.Mathlib.Numerals.{sub-one}
 use native.Mathlib.Omega.{arith}
-use Rattle.meaning.specs.Base.{if◌then◌else◌, choose}
+use Rattle.meaning.specs.Base.{test◌then◌else◌, choose}
 use Rattle.meaning.specs.Tree.{Expr, at, literal, variable, unary, binary, call, attribute, list_of, dict_of, tuple_of, set_of, index, lambda, no_exprs, ◌also◌, Stmt, line, break, continue, pass, class, assign, expr, return, if_then, while, for, def, Stmts, no_stmts, ◌next◌, no_arms, ◌else_arms◌, on, otherwise}
 use Rattle.meaning.specs.Image.{Node, node_of}
 use Rattle.meaning.specs.Decode.{stop_of, past, exprs_from, stmts_from, params_from, arms_from, literal_type, unary_of, binary_of, form_at, expr_at, act_at, stmt_at, block_at}
@@ -28,103 +28,103 @@ module _ (ds : List Node) (d i : ℕ) where
 
 module _ (ds : List Node) (e : ℕ → Expr) (i : ℕ) where
   pub literal_at : (node_of ds i).kind ≡ 20 → form_at ds e i ≡ literal (literal_type (node_of ds i).arg)
-  unfolding form_at choose if◌then◌else◌
+  unfolding form_at choose test◌then◌else◌
   literal_at k = rw k
 
   pub variable_at : (node_of ds i).kind ≡ 21 → form_at ds e i ≡ variable (node_of ds i).arg
-  unfolding form_at choose if◌then◌else◌
+  unfolding form_at choose test◌then◌else◌
   variable_at k = rw k
 
   pub unary_at : (node_of ds i).kind ≡ 22 → form_at ds e i ≡ unary (unary_of (node_of ds i).arg) (e (suc i))
-  unfolding form_at choose if◌then◌else◌
+  unfolding form_at choose test◌then◌else◌
   unary_at k = rw k
 
   pub binary_at : (node_of ds i).kind ≡ 23 → form_at ds e i ≡ binary (binary_of (node_of ds i).arg) (e (suc i)) (e (stop_of ds (suc i)))
-  unfolding form_at choose if◌then◌else◌
+  unfolding form_at choose test◌then◌else◌
   binary_at k = rw k
 
   pub call_at : (node_of ds i).kind ≡ 24 → form_at ds e i ≡ call (e (suc i)) (exprs_from ds e ((node_of ds i).children - 1) (stop_of ds (suc i)))
-  unfolding form_at choose if◌then◌else◌
+  unfolding form_at choose test◌then◌else◌
   call_at k = rw k
 
   pub attribute_at : (node_of ds i).kind ≡ 25 → form_at ds e i ≡ attribute (e (suc i))
-  unfolding form_at choose if◌then◌else◌
+  unfolding form_at choose test◌then◌else◌
   attribute_at k = rw k
 
   pub list_at : (node_of ds i).kind ≡ 26 → form_at ds e i ≡ list_of (exprs_from ds e (node_of ds i).children (suc i))
-  unfolding form_at choose if◌then◌else◌
+  unfolding form_at choose test◌then◌else◌
   list_at k = rw k
 
   pub dict_at : (node_of ds i).kind ≡ 27 → form_at ds e i ≡ dict_of (exprs_from ds e (node_of ds i).children (suc i))
-  unfolding form_at choose if◌then◌else◌
+  unfolding form_at choose test◌then◌else◌
   dict_at k = rw k
 
   pub tuple_at : (node_of ds i).kind ≡ 28 → form_at ds e i ≡ tuple_of (exprs_from ds e (node_of ds i).children (suc i))
-  unfolding form_at choose if◌then◌else◌
+  unfolding form_at choose test◌then◌else◌
   tuple_at k = rw k
 
   pub set_at : (node_of ds i).kind ≡ 29 → form_at ds e i ≡ set_of (exprs_from ds e (node_of ds i).children (suc i))
-  unfolding form_at choose if◌then◌else◌
+  unfolding form_at choose test◌then◌else◌
   set_at k = rw k
 
   pub tree_set_at : (node_of ds i).kind ≡ 30 → form_at ds e i ≡ set_of (exprs_from ds e (node_of ds i).children (suc i))
-  unfolding form_at choose if◌then◌else◌
+  unfolding form_at choose test◌then◌else◌
   tree_set_at k = rw k
 
   pub index_at : (node_of ds i).kind ≡ 31 → form_at ds e i ≡ index (e (suc i)) (e (stop_of ds (suc i)))
-  unfolding form_at choose if◌then◌else◌
+  unfolding form_at choose test◌then◌else◌
   index_at k = rw k
 
   pub lambda_at : (node_of ds i).kind ≡ 32 → form_at ds e i ≡ lambda
-  unfolding form_at choose if◌then◌else◌
+  unfolding form_at choose test◌then◌else◌
   lambda_at k = rw k
 
 -- ---- statements
 
 module _ (ds : List Node) (e : ℕ → Expr) (b : ℕ → Stmts) (i : ℕ) where
   pub break_at : (node_of ds i).kind ≡ 1 → act_at ds e b i ≡ break
-  unfolding act_at choose if◌then◌else◌
+  unfolding act_at choose test◌then◌else◌
   break_at k = rw k
 
   pub continue_at : (node_of ds i).kind ≡ 2 → act_at ds e b i ≡ continue
-  unfolding act_at choose if◌then◌else◌
+  unfolding act_at choose test◌then◌else◌
   continue_at k = rw k
 
   pub pass_at : (node_of ds i).kind ≡ 3 → act_at ds e b i ≡ pass
-  unfolding act_at choose if◌then◌else◌
+  unfolding act_at choose test◌then◌else◌
   pass_at k = rw k
 
   pub class_at : (node_of ds i).kind ≡ 4 → act_at ds e b i ≡ class
-  unfolding act_at choose if◌then◌else◌
+  unfolding act_at choose test◌then◌else◌
   class_at k = rw k
 
   pub assign_at : (node_of ds i).kind ≡ 5 → act_at ds e b i ≡ assign (e (suc i)) (e (stop_of ds (suc i)))
-  unfolding act_at choose if◌then◌else◌
+  unfolding act_at choose test◌then◌else◌
   assign_at k = rw k
 
   pub expression_at : (node_of ds i).kind ≡ 6 → act_at ds e b i ≡ expr (e (suc i))
-  unfolding act_at choose if◌then◌else◌
+  unfolding act_at choose test◌then◌else◌
   expression_at k = rw k
 
   pub return_at : (node_of ds i).kind ≡ 7 → act_at ds e b i ≡ return (e (suc i))
-  unfolding act_at choose if◌then◌else◌
+  unfolding act_at choose test◌then◌else◌
   return_at k = rw k
 
   pub if_at : (node_of ds i).kind ≡ 8 → act_at ds e b i ≡ if_then (arms_from ds e b (node_of ds i).children (suc i))
-  unfolding act_at choose if◌then◌else◌
+  unfolding act_at choose test◌then◌else◌
   if_at k = rw k
 
   pub while_at : (node_of ds i).kind ≡ 9 → act_at ds e b i ≡ while (e (suc i)) (b (stop_of ds (suc i)))
-  unfolding act_at choose if◌then◌else◌
+  unfolding act_at choose test◌then◌else◌
   while_at k = rw k
 
   pub for_at : (node_of ds i).kind ≡ 10 → act_at ds e b i ≡ for (node_of ds i).arg (e (suc i)) (b (stop_of ds (suc i)))
-  unfolding act_at choose if◌then◌else◌
+  unfolding act_at choose test◌then◌else◌
   for_at k = rw k
 
   pub def_at : (node_of ds i).kind ≡ 11
       → act_at ds e b i ≡ def (params_from ds ((node_of ds i).children - 1) (suc i)) (b (past ds ((node_of ds i).children - 1) (suc i)))
-  unfolding act_at choose if◌then◌else◌
+  unfolding act_at choose test◌then◌else◌
   def_at k = rw k
 
 -- ---- lists of children: none, and one more, by a count that goes down

@@ -9,7 +9,7 @@ use native.Mathlib.Omega.{arith}
 use borrow.Author.Tests.{leb-true, eqb-true}
 use lib.ListN.{length}
 use Rattle.meaning.specs.Limits.{most_names, most_nodes, most_text}
-use Rattle.meaning.specs.Base.{if◌then◌else◌, if_some}
+use Rattle.meaning.specs.Base.{test◌then◌else◌, if_some}
 use Rattle.meaning.specs.Image.{Fault, unless, first_found, name_count, node_count, text_count, nodes_from, texts_from, total, head_stands, counts_stand, offsets_stand, broken_name, unsafe_name, broken_node, badly_nested, too_deep_node, head_fault, body_fault, image_fault, first_tree_set, check_fault}
 use Rattle.meaning.proofs.Choices.{and_left, and_right, if_none}
 
@@ -25,21 +25,21 @@ pub record Headed (bs : List ℕ) : Type 0 where
   pub offsets : offsets_stand bs ≡ true
 
 pub fault_1 : (bs : List ℕ) → head_stands bs ≡ false → image_fault bs ≡ some (fault 1 0)
-unfolding image_fault head_fault first_found unless if_some if◌then◌else◌
+unfolding image_fault head_fault first_found unless if_some test◌then◌else◌
 fault_1 bs h = rw h
 
 pub fault_2 : (bs : List ℕ) → head_stands bs ≡ true → counts_stand bs ≡ false → image_fault bs ≡ some (fault 2 0)
-unfolding image_fault head_fault first_found unless if_some if◌then◌else◌
+unfolding image_fault head_fault first_found unless if_some test◌then◌else◌
 fault_2 bs h c = rw (h, c)
 
 pub fault_3 : (bs : List ℕ) → head_stands bs ≡ true → counts_stand bs ≡ true → offsets_stand bs ≡ false → image_fault bs ≡ some (fault 3 0)
-unfolding image_fault head_fault first_found unless if_some if◌then◌else◌
+unfolding image_fault head_fault first_found unless if_some test◌then◌else◌
 fault_3 bs h c o = rw (h, c, o)
 
 -- ---- the names, and then the nodes
 
 headed : {bs : List ℕ} → Headed bs → image_fault bs ≡ body_fault bs
-unfolding image_fault head_fault first_found unless if_some if◌then◌else◌
+unfolding image_fault head_fault first_found unless if_some test◌then◌else◌
 headed h = rw (h.head, h.counts, h.offsets)
 
 module _ {bs : List ℕ} (h : Headed bs) where
@@ -165,7 +165,7 @@ late : (c i : ℕ) → 4 ≤ c → c ≤ 8 → Told (fault c i)
 late c i l u = record { above = omega arith; below = u; nowhere = λ h. absurd (omega arith) }
 
 early : (c : ℕ) (b : Bool) → 1 ≤ c → c ≤ 8 → (i : ℕ) → unless b ≡ some i → Told (fault c i)
-unfolding unless if◌then◌else◌
+unfolding unless test◌then◌else◌
 early c true l u i e = absurd (none-ne-some i e)
 early c false l u i e = record { above = l; below = u; nowhere = λ h. sym (some-injective 0 i e) }
 

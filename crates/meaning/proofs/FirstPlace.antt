@@ -10,7 +10,7 @@ use Prim.Native.Nat.{ℕ, zero, suc}
 use native.Mathlib.Omega.{arith}
 use lib.ListN.{get_or, set, replicate}
 use Rattle.meaning.specs.Limits.{most_names}
-use Rattle.meaning.specs.Base.{◌or◌, if◌then◌else◌, if_some, or_else, count}
+use Rattle.meaning.specs.Base.{◌or◌, test◌then◌else◌, if_some, or_else, count}
 use Rattle.meaning.specs.Types.{Ty, Ty-discrete, unknown}
 use Rattle.meaning.specs.Tree.{Expr, at, Form, literal, variable, unary, binary, call, attribute, list_of, dict_of, tuple_of, set_of, index, lambda, Exprs, no_exprs, ◌also◌, place, Stmt, line, Act, break, continue, pass, class, assign, expr, return, if_then, while, for, def, Stmts, no_stmts, ◌next◌, Arms, no_arms, ◌else_arms◌, Arm, on, otherwise, first_condition}
 use Rattle.meaning.specs.Image.{Name}
@@ -26,11 +26,11 @@ use Rattle.meaning.proofs.Codes.{Fair, fair_judged, check_fair}
 
 module _ (old t : Ty) where
   pub agreed_differ : agreed old t ≡ none → old ≡ unknown → ⊥
-  unfolding agreed ◌or◌ if◌then◌else◌
+  unfolding agreed ◌or◌ test◌then◌else◌
   agreed_differ e p = none-ne-some t (sym (rw (same_yes old unknown p) at e))
 
   pub agreed_kept : (u : Ty) → agreed old t ≡ some u → (old ≡ unknown → ⊥) → u ≡ old
-  unfolding agreed ◌or◌ if◌then◌else◌
+  unfolding agreed ◌or◌ test◌then◌else◌
   agreed_kept u e n = elim (Ty-discrete old t) [
     | yes p ↦ sym (some-injective t u (rw (same_no old unknown n, same_yes old t p) at e)) ∙ sym p
     | no q ↦ elim (Ty-discrete t unknown) [
@@ -199,7 +199,7 @@ module _ (P : ℕ → Type 0) where
   -- ---- assignment
 
   pub new_placed : (n : ℕ) (u : Ty) → P n → Placed P (since none n u)
-  unfolding since if_some if◌then◌else◌
+  unfolding since if_some test◌then◌else◌
   new_placed n u h =
       record {
         known = λ k. record { node = n; is = rw (same_no u unknown k); holds = h };
@@ -236,12 +236,12 @@ module _ (P : ℕ → Type 0) where
   Sures (b ∷ bs) = Sure b × Sures bs
 
   tells_sure : (base o : Option Binding) → SlotPlaced P o → tells base o ≡ true → Sure (or_else o blank)
-  unfolding tells SlotPlaced or_else ◌or◌ if◌then◌else◌
+  unfolding tells SlotPlaced or_else ◌or◌ test◌then◌else◌
   tells_sure base none p e = absurd (false≢true e)
   tells_sure base (some b) p e = (p, λ k. absurd (false≢true (rw (same_yes b.type unknown k) at e)))
 
-  if_sures : (q : Bool) (b : Binding) (bs : List Binding) → (q ≡ true → Sure b) → Sures bs → Sures (if q then b ∷ bs else bs)
-  unfolding if◌then◌else◌ Sures
+  if_sures : (q : Bool) (b : Binding) (bs : List Binding) → (q ≡ true → Sure b) → Sures bs → Sures (test q then b ∷ bs else bs)
+  unfolding test◌then◌else◌ Sures
   if_sures true b bs f p = (f refl, p)
   if_sures false b bs f p = p
 
@@ -316,8 +316,8 @@ module _ (P : ℕ → Type 0) where
   popped_pointing (wrong r s) p = p
   popped_pointing (too_deep n) p = tt
 
-  if_pointing : (b : Bool) (d e : End) → Pointing P d → Pointing P e → Pointing P (if b then d else e)
-  unfolding if◌then◌else◌
+  if_pointing : (b : Bool) (d e : End) → Pointing P d → Pointing P e → Pointing P (test b then d else e)
+  unfolding test◌then◌else◌
   if_pointing true d e p q = p
   if_pointing false d e p q = q
 

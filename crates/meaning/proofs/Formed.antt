@@ -10,7 +10,7 @@ use native.Mathlib.Omega.{arith}
 use native.Mathlib.Decide.{ℕ_discrete}
 use lib.ListN.{length, get_or, replicate}
 use lib.Seq.{get_or-set_other}
-use Rattle.meaning.specs.Base.{if◌then◌else◌, if_some, or_else}
+use Rattle.meaning.specs.Base.{test◌then◌else◌, if_some, or_else}
 use Rattle.meaning.specs.Types.{Ty, unknown}
 use Rattle.meaning.specs.Tree.{Expr, at, Form, literal, variable, unary, binary, call, attribute, list_of, dict_of, tuple_of, set_of, index, lambda, Exprs, no_exprs, ◌also◌, size, Stmt, line, Act, break, continue, pass, class, assign, expr, return, if_then, while, for, def, Stmts, no_stmts, ◌next◌, Arms, no_arms, ◌else_arms◌, Arm, on, otherwise}
 use Rattle.meaning.specs.Bound.{targets, targets_in, targets_among, may_bind, binds_by, binds_in, binds_among, binds_under}
@@ -110,8 +110,8 @@ unfolding Adds typed
 typed_adds xs Γ (ok t) s k h = h t
 typed_adds xs Γ (refused r) s k h = tt
 
-if_adds : (xs : List ℕ) (Γ : Frames) (b : Bool) (d e : End) → Adds xs Γ d → Adds xs Γ e → Adds xs Γ (if b then d else e)
-unfolding if◌then◌else◌
+if_adds : (xs : List ℕ) (Γ : Frames) (b : Bool) (d e : End) → Adds xs Γ d → Adds xs Γ e → Adds xs Γ (test b then d else e)
+unfolding test◌then◌else◌
 if_adds xs Γ true d e h k = h
 if_adds xs Γ false d e h k = k
 
@@ -219,12 +219,12 @@ tells_some base (some b) e = (b, refl)
 
 -- a name that some branch assigned was held, or is one of xs
 assigned_one : (xs : List ℕ) (Γ : Frames) (x : ℕ) (Δs : List Frames) (t : Binding) (ts : List Binding) → AllOnly xs Γ Δs → assigned Γ x Δs ≡ t ∷ ts → held Γ x ⊎ Memᴰ x xs
-unfolding assigned AllOnly if◌then◌else◌
+unfolding assigned AllOnly test◌then◌else◌
 assigned_one xs Γ x [] t ts h e = let l = ap length e in absurd (omega arith)
 assigned_one xs Γ x (Δ ∷ Δs) t ts h e = by (tells (slot_in Γ x) (slot_in Δ x)) refl (λ q. assigned_one xs Γ x Δs t ts h.1 q) e
   where
     by : (b : Bool) → tells (slot_in Γ x) (slot_in Δ x) ≡ b → (assigned Γ x Δs ≡ t ∷ ts → held Γ x ⊎ Memᴰ x xs)
-        → (if b then or_else (slot_in Δ x) blank ∷ assigned Γ x Δs else assigned Γ x Δs) ≡ t ∷ ts → held Γ x ⊎ Memᴰ x xs
+        → (test b then or_else (slot_in Δ x) blank ∷ assigned Γ x Δs else assigned Γ x Δs) ≡ t ∷ ts → held Γ x ⊎ Memᴰ x xs
     by true p g q = let o = tells_some (slot_in Γ x) (slot_in Δ x) p in h.0.slots x o.0 o.1
     by false p g q = g q
 

@@ -11,7 +11,7 @@ use Prim.Native.Nat.{ℕ, suc, ◌≤◌, ◌<◌}
 use native.Mathlib.Omega.{arith}
 use lib.ListN.{length}
 use Rattle.meaning.specs.Limits.{most_names}
-use Rattle.meaning.specs.Base.{if◌then◌else◌, if_some, count}
+use Rattle.meaning.specs.Base.{test◌then◌else◌, if_some, count}
 use Rattle.meaning.specs.Types.{Ty}
 use Rattle.meaning.specs.Tree.{Expr, at, Form, literal, variable, unary, binary, call, attribute, list_of, dict_of, tuple_of, set_of, index, lambda, Exprs, no_exprs, ◌also◌, place, Stmt, line, Act, break, continue, pass, class, assign, expr, return, if_then, while, for, def, Stmts, no_stmts, ◌next◌, Arms, no_arms, ◌else_arms◌, Arm, on, otherwise, first_condition}
 use Rattle.meaning.specs.Image.{Fault, Name, Node, check_fault, node_of, names_of, nodes_of}
@@ -137,8 +137,8 @@ module _ (Ends : ℕ → ℕ → Type 0) where
     popped_ending (wrong r s) p = p
     popped_ending (too_deep n) p = tt
 
-    if_ending : (b : Bool) (d e : End) → Ending h d → Ending h e → Ending h (if b then d else e)
-    unfolding if◌then◌else◌
+    if_ending : (b : Bool) (d e : End) → Ending h d → Ending h e → Ending h (test b then d else e)
+    unfolding test◌then◌else◌
     if_ending true d e p q = p
     if_ending false d e p q = q
 

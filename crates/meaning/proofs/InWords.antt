@@ -10,7 +10,7 @@ use borrow.Author.Tests.{le-leb, lt-leb}
 use lib.Dec.{leb}
 use lib.ListN.{length}
 use Rattle.meaning.specs.Limits.{largest_show, largest_changes}
-use Rattle.meaning.specs.Base.{if◌then◌else◌, if_some}
+use Rattle.meaning.specs.Base.{test◌then◌else◌, if_some}
 use Rattle.meaning.specs.Sheet.{Entry}
 use Rattle.meaning.specs.Read.{read_sheet}
 use Rattle.meaning.specs.Show.{entries_text, changes_text, changes, InWords, in_words, no_sheet, show_answer, compared, changes_answer}
@@ -27,15 +27,15 @@ no_room = record { code = 10; text = [] }
 
 module _ (room : ℕ) (s : List ℕ) where
   pub words_fit : length s ≤ room → in_words room s ≡ whole s
-  unfolding in_words if◌then◌else◌
+  unfolding in_words test◌then◌else◌
   words_fit h = rw (le-leb (length s) room h)
 
   pub words_too_long : room < length s → in_words room s ≡ no_room
-  unfolding in_words if◌then◌else◌
+  unfolding in_words test◌then◌else◌
   words_too_long h = rw (lt-leb (length s) room h)
 
   pub words_told : (in_words room s ≡ whole s) ⊎ (in_words room s ≡ no_room)
-  unfolding in_words if◌then◌else◌
+  unfolding in_words test◌then◌else◌
   words_told = by (leb (length s) room) refl
     where
       by : (b : Bool) → leb (length s) room ≡ b → (in_words room s ≡ whole s) ⊎ (in_words room s ≡ no_room)

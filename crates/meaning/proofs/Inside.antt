@@ -12,7 +12,7 @@ use borrow.Author.Tests.{leb-true, lt-ltb, le-ltb, eqb-true, eq-eqb, ne_eqb}
 use lib.Dec.{ltb}
 use lib.ListN.{length}
 use Rattle.meaning.specs.Limits.{deepest}
-use Rattle.meaning.specs.Base.{if◌then◌else◌, choose}
+use Rattle.meaning.specs.Base.{test◌then◌else◌, choose}
 use Rattle.meaning.specs.Tree.{Expr, Stmt, Act, pass, Stmts}
 use Rattle.meaning.specs.Image.{Node, node_of, nodes_of, node_count, is_statement, is_expression, count_stands, belongs, depth}
 use Rattle.meaning.specs.Decode.{stop_of, past, stmts_from, arms_from, expr_at, act_at, stmt_at, block_at, tree_of}
@@ -26,11 +26,11 @@ use Rattle.meaning.proofs.Scan.{no_rows, another, nothing, quiet, stop_above, st
 
 -- where the outermost If ends that an If's own nodes stand in: node i is that If, and a node below `until` stands inside one already
 unfoldable pub ending : List Node → ℕ → ℕ → ℕ
-ending ds i until = if ltb i until then until else stop_of ds i
+ending ds i until = test ltb i until then until else stop_of ds i
 
 -- a Def itself, if it stands inside an If
 unfoldable pub itself : ℕ → ℕ → List ℕ
-itself i until = if ltb i until then i ∷ [] else []
+itself i until = test ltb i until then i ∷ [] else []
 
 -- the nodes from i on; those below `until` stand inside an If
 unfoldable pub scan_defs : List Node → ℕ → ℕ → ℕ → List ℕ
@@ -39,42 +39,42 @@ scan_defs ds (suc k) i until =
     let inner : List ℕ = scan_defs ds k (suc i) until in
     let under : List ℕ = scan_defs ds k (suc i) (ending ds i until) in
     let over : List ℕ = scan_defs ds k (stop_of ds i) until in
-    if ltb i (length ds)
+    test ltb i (length ds)
     then choose (node_of ds i).kind over ((8, under) ∷ (9, inner) ∷ (10, inner) ∷ (11, itself i until ++ inner) ∷ (12, inner) ∷ [])
     else []
 
 pub ending_inside : (ds : List Node) (i until : ℕ) → i < until → ending ds i until ≡ until
-unfolding ending if◌then◌else◌
+unfolding ending test◌then◌else◌
 ending_inside ds i until h = rw (lt-ltb i until h)
 
 pub ending_outside : (ds : List Node) (i until : ℕ) → until ≤ i → ending ds i until ≡ stop_of ds i
-unfolding ending if◌then◌else◌
+unfolding ending test◌then◌else◌
 ending_outside ds i until h = rw (le-ltb i until h)
 
 pub itself_inside : (i until : ℕ) → i < until → itself i until ≡ i ∷ []
-unfolding itself if◌then◌else◌
+unfolding itself test◌then◌else◌
 itself_inside i until h = rw (lt-ltb i until h)
 
 pub itself_outside : (i until : ℕ) → until ≤ i → itself i until ≡ []
-unfolding itself if◌then◌else◌
+unfolding itself test◌then◌else◌
 itself_outside i until h = rw (le-ltb i until h)
 
 -- ---- one step of the scan, by a count that goes down
 
 pub defs_end : (ds : List Node) (k i until : ℕ) → length ds ≤ i → scan_defs ds k i until ≡ []
-unfolding scan_defs if◌then◌else◌
+unfolding scan_defs test◌then◌else◌
 defs_end ds zero i until h = refl
 defs_end ds (suc k) i until h = rw (le-ltb i (length ds) h)
 
 pub defs_if : (ds : List Node) (k i until : ℕ) → 0 < k → i < length ds → (node_of ds i).kind ≡ 8
     → scan_defs ds k i until ≡ scan_defs ds (k - 1) (suc i) (ending ds i until)
-unfolding scan_defs choose if◌then◌else◌
+unfolding scan_defs choose test◌then◌else◌
 defs_if ds zero i until h l q = absurd (omega arith)
 defs_if ds (suc k) i until h l q = rw (lt-ltb i (length ds) l, q, sub-one)
 
 pub defs_def : (ds : List Node) (k i until : ℕ) → 0 < k → i < length ds → (node_of ds i).kind ≡ 11
     → scan_defs ds k i until ≡ itself i until ++ scan_defs ds (k - 1) (suc i) until
-unfolding scan_defs choose if◌then◌else◌
+unfolding scan_defs choose test◌then◌else◌
 defs_def ds zero i until h l q = absurd (omega arith)
 defs_def ds (suc k) i until h l q = rw (lt-ltb i (length ds) l, q, sub-one)
 
@@ -86,7 +86,7 @@ pub data Opens : ℕ → Type 0 where
 
 pub defs_enter : (ds : List Node) (k i until : ℕ) → 0 < k → i < length ds → {q : ℕ} → Opens q → (node_of ds i).kind ≡ q
     → scan_defs ds k i until ≡ scan_defs ds (k - 1) (suc i) until
-unfolding scan_defs choose if◌then◌else◌
+unfolding scan_defs choose test◌then◌else◌
 defs_enter ds zero i until h l t q = absurd (omega arith)
 defs_enter ds (suc k) i until h l opens_while q = rw (lt-ltb i (length ds) l, q, sub-one)
 defs_enter ds (suc k) i until h l opens_for q = rw (lt-ltb i (length ds) l, q, sub-one)
@@ -102,7 +102,7 @@ pub record Closed (q : ℕ) : Type 0 where
 
 pub defs_over : (ds : List Node) (k i until : ℕ) → 0 < k → i < length ds → Closed (node_of ds i).kind
     → scan_defs ds k i until ≡ scan_defs ds (k - 1) (stop_of ds i) until
-unfolding scan_defs choose if◌then◌else◌
+unfolding scan_defs choose test◌then◌else◌
 defs_over ds zero i until h l q = absurd (omega arith)
 defs_over ds (suc k) i until h l q =
     rw (lt-ltb i (length ds) l, ne_eqb _ 8 q.no_if, ne_eqb _ 9 q.no_while, ne_eqb _ 10 q.no_for, ne_eqb _ 11 q.no_def, ne_eqb _ 12 q.no_block, sub-one)
@@ -134,15 +134,15 @@ module _ (ds : List Node) (i until : ℕ) (inside : i < length ds) (xs : List �
 -- ---- who has business below a Def: Params, and last a Block
 
 def_param : (p c j k : ℕ) → p ≡ 11 → (j + 1 ≡ c → ⊥) → belongs p c j k ≡ true → k ≡ 13
-unfolding belongs choose if◌then◌else◌
+unfolding belongs choose test◌then◌else◌
 def_param p c j k e n b = eqb-true k 13 (rw (e, ne_eqb (j + 1) c n) at b)
 
 def_block : (p c j k : ℕ) → p ≡ 11 → j + 1 ≡ c → belongs p c j k ≡ true → k ≡ 12
-unfolding belongs choose if◌then◌else◌
+unfolding belongs choose test◌then◌else◌
 def_block p c j k e l b = eqb-true k 12 (rw (e, eq-eqb (j + 1) c l) at b)
 
 def_some : (p c : ℕ) → p ≡ 11 → count_stands p c ≡ true → 1 ≤ c
-unfolding count_stands choose if◌then◌else◌
+unfolding count_stands choose test◌then◌else◌
 def_some p c e b = leb-true 1 c (rw e at b)
 
 -- a statement that is neither If, While, For nor Def has no Def in it
@@ -164,8 +164,8 @@ narrower : {until c e : ℕ} {inside : Bool} → Stands until inside c e → (b 
 narrower {until} (in_if h) b f l m = let k : f ≤ until = omega arith in in_if k
 narrower {until} (in_none h) b f l m = let k : until ≤ b = omega arith in in_none k
 
-itself_is : {until e : ℕ} {inside : Bool} (i : ℕ) → Stands until inside i e → i < e → itself i until ≡ (if inside then i ∷ [] else [])
-unfolding if◌then◌else◌
+itself_is : {until e : ℕ} {inside : Bool} (i : ℕ) → Stands until inside i e → i < e → itself i until ≡ (test inside then i ∷ [] else [])
+unfolding test◌then◌else◌
 itself_is i (in_if h) l = itself_inside i _ (omega arith)
 itself_is i (in_none h) l = itself_outside i _ h
 
@@ -174,7 +174,7 @@ itself_is i (in_none h) l = itself_outside i _ h
 module _ {N : ℕ} {ds : List Node} (sound : Nested N ds) where
   -- once the last If has ended, it does not matter where that was
   outside : (k i u v : ℕ) → u ≤ i → v ≤ i → scan_defs ds k i u ≡ scan_defs ds k i v
-  unfolding scan_defs if◌then◌else◌
+  unfolding scan_defs test◌then◌else◌
   outside zero i u v h g = refl
   outside (suc k) i u v h g = elim (dec_lt i (length ds)) [
     | yes m ↦ let up = stop_above sound i m in
@@ -301,7 +301,7 @@ module _ {N : ℕ} {ds : List Node} (sound : Nested N ds) where
   def_scanned : (inside : Bool) (b : ℕ → Stmts) (i : ℕ) → i < length ds → (node_of ds i).kind ≡ 11
       → ((c : ℕ) → i < c → c < stop_of ds i → (node_of ds c).kind ≡ 12 → Body inside b c)
       → (until : ℕ) → Stands until inside i (stop_of ds i) → (xs : List ℕ) → Scans ds (stop_of ds i) until xs
-      → Scans ds i until ((if inside then i ∷ [] else []) ++ (defs_in inside (b (past ds ((node_of ds i).children - 1) (suc i))) ++ xs))
+      → Scans ds i until ((test inside then i ∷ [] else []) ++ (defs_in inside (b (past ds ((node_of ds i).children - 1) (suc i))) ++ xs))
   def_scanned inside b i m q each until s xs a =
       let some : 1 ≤ (node_of ds i).children = def_some _ _ q (node_stands_lem sound i m).count in
       let n : ℕ = (node_of ds i).children - 1 in
@@ -339,7 +339,7 @@ module _ {N : ℕ} {ds : List Node} (sound : Nested N ds) where
                 (scans_enter ds i until m _ opens_for k (loop_scanned inside b i m (subst Loop (sym k) the_for) (each inside) until s xs a))
             | no n10 ↦ elim (ℕ_discrete (node_of ds i).kind 11) [
               | yes k ↦ scans_is (ap (λ (x : Act). defs_of inside i x ++ xs) (sym (def_at ds e b i k)))
-                  (scans_is (sym (append_assoc (if inside then i ∷ [] else []) _ xs)) (def_scanned inside b i m k (each inside) until s xs a))
+                  (scans_is (sym (append_assoc (test inside then i ∷ [] else []) _ xs)) (def_scanned inside b i m k (each inside) until s xs a))
               | no n11 ↦ scans_is (ap (λ (ys : List ℕ). ys ++ xs) (sym (quiet_act ds e b inside i n8 n9 n10 n11)))
                   (scans_over ds i until m xs
                   (record { no_if = n8; no_while = n9; no_for = n10; no_def = n11; no_block = λ z. omega (arith, statement_low _ q) })

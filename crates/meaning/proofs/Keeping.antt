@@ -10,7 +10,7 @@ use native.Mathlib.Omega.{arith}
 use native.Mathlib.Decide.{ℕ_discrete}
 use lib.ListN.{length, get_or, set}
 use lib.Seq.{get_or-set_other}
-use Rattle.meaning.specs.Base.{◌or◌, if◌then◌else◌, if_some, or_else}
+use Rattle.meaning.specs.Base.{◌or◌, test◌then◌else◌, if_some, or_else}
 use Rattle.meaning.specs.Types.{Ty, unknown, same}
 use Rattle.meaning.specs.Tree.{Expr, at, Form, literal, variable, unary, binary, call, attribute, list_of, dict_of, tuple_of, set_of, index, lambda, Exprs, no_exprs, ◌also◌, Stmt, line, Act, break, continue, pass, class, assign, expr, return, if_then, while, for, def, Stmts, no_stmts, ◌next◌, Arms, no_arms, ◌else_arms◌, Arm, on, otherwise}
 use Rattle.meaning.specs.Image.{Name}
@@ -184,8 +184,8 @@ unfolding Holds typed
 typed_holds (ok t) s k h = h t
 typed_holds (refused r) s k h = keeps_same s.frames
 
-if_holds : (Γ : Frames) (b : Bool) (d e : End) → Holds Γ d → Holds Γ e → Holds Γ (if b then d else e)
-unfolding if◌then◌else◌
+if_holds : (Γ : Frames) (b : Bool) (d e : End) → Holds Γ d → Holds Γ e → Holds Γ (test b then d else e)
+unfolding test◌then◌else◌
 if_holds Γ true d e h k = h
 if_holds Γ false d e h k = k
 
@@ -208,8 +208,8 @@ returns_stays Γ t (done s) h = h
 returns_stays Γ t (wrong r s) h = tt
 returns_stays Γ t (too_deep n) h = tt
 
-room : (Γ : Frames) (m : ℕ) (b : Bool) (e : End) → Stays Γ e → Stays Γ (if b then e else too_deep m)
-unfolding Stays if◌then◌else◌
+room : (Γ : Frames) (m : ℕ) (b : Bool) (e : End) → Stays Γ e → Stays Γ (test b then e else too_deep m)
+unfolding Stays test◌then◌else◌
 room Γ m true e h = h
 room Γ m false e h = tt
 
@@ -302,12 +302,12 @@ or_true false = refl
 
 -- "Whether a branch assigned a name still goes by type alone."
 tells_same : (b c : Binding) → c.type ≡ b.type → tells (some b) (some c) ≡ false
-unfolding tells same_slot same_type if◌then◌else◌
+unfolding tells same_slot same_type test◌then◌else◌
 tells_same b c e = rw (same_yes c.type b.type e, or_true (same c.type unknown))
 
 assigned_none : (Γ : Frames) (x : ℕ) (b : Binding) (Δs : List Frames) → (b.type ≡ unknown → ⊥) → slot_in Γ x ≡ some b → AllKeep Γ Δs
     → assigned Γ x Δs ≡ []
-unfolding assigned AllKeep if◌then◌else◌
+unfolding assigned AllKeep test◌then◌else◌
 assigned_none Γ x b [] n e h = refl
 assigned_none Γ x b (Δ ∷ Δs) n e h =
     let s = h.0.known x b n e in
@@ -374,8 +374,8 @@ unfolding Exactly typed
 typed_exactly (ok t) s k h = h t
 typed_exactly (refused r) s k h = refl
 
-if_exactly : (b : Bool) (s : State) (r : Refusal) → Exactly s.frames (if b then done s else wrong r s)
-unfolding Exactly if◌then◌else◌
+if_exactly : (b : Bool) (s : State) (r : Refusal) → Exactly s.frames (test b then done s else wrong r s)
+unfolding Exactly test◌then◌else◌
 if_exactly true s r = refl
 if_exactly false s r = refl
 
@@ -425,12 +425,12 @@ module _ (a : Arm) (rest : Arms) (h : defs_among (a else_arms rest) ≡ []) wher
   none_behind = nil_right (defs_under a) (defs_among rest) h
 
 -- a Def inside an If is one of them, and one outside is not
-no_def : (n : ℕ) (ns : List ℕ) → (if true then n ∷ [] else []) ++ ns ≡ [] → ⊥
-unfolding if◌then◌else◌
+no_def : (n : ℕ) (ns : List ℕ) → (test true then n ∷ [] else []) ++ ns ≡ [] → ⊥
+unfolding test◌then◌else◌
 no_def n ns e = let l = ap length e in omega arith
 
-outside : (n : ℕ) (ns : List ℕ) → (if false then n ∷ [] else []) ++ ns ≡ [] → ns ≡ []
-unfolding if◌then◌else◌
+outside : (n : ℕ) (ns : List ℕ) → (test false then n ∷ [] else []) ++ ns ≡ [] → ns ≡ []
+unfolding test◌then◌else◌
 outside n ns e = e
 
 module _ (ws : List Name) (setting : Setting) where

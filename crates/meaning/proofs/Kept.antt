@@ -8,7 +8,7 @@ use mathlib.Core.Option.{Option, none, some}
 use Prim.Native.Nat.{ℕ, suc, ◌≤◌}
 use native.Mathlib.Omega.{arith}
 use lib.ListN.{length}
-use Rattle.meaning.specs.Base.{if◌then◌else◌, if_some}
+use Rattle.meaning.specs.Base.{test◌then◌else◌, if_some}
 use Rattle.meaning.specs.Types.{Ty}
 use Rattle.meaning.specs.Tree.{Expr, at, Form, literal, variable, unary, binary, call, attribute, list_of, dict_of, tuple_of, set_of, index, lambda, Exprs, no_exprs, ◌also◌, Stmt, line, Act, break, continue, pass, class, assign, expr, return, if_then, while, for, def, Stmts, no_stmts, ◌next◌, Arms, no_arms, ◌else_arms◌, Arm, on, otherwise}
 use Rattle.meaning.specs.Image.{Name}
@@ -99,8 +99,8 @@ popped_kept n (done s) h = tail_length s.frames h
 popped_kept n (wrong r s) h = h
 popped_kept n (too_deep m) h = tt
 
-if_kept : (n : ℕ) (b : Bool) (d e : End) → Kept n d → Kept n e → Kept n (if b then d else e)
-unfolding if◌then◌else◌
+if_kept : (n : ℕ) (b : Bool) (d e : End) → Kept n d → Kept n e → Kept n (test b then d else e)
+unfolding test◌then◌else◌
 if_kept n true d e h k = h
 if_kept n false d e h k = k
 

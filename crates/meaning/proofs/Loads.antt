@@ -7,7 +7,7 @@ use Prim.Native.Nat.{ℕ}
 use native.Mathlib.Omega.{arith}
 use borrow.Author.Tests.{eqb-true, eq-eqb, eqb-false}
 use lib.Dec.{eqb}
-use Rattle.meaning.specs.Base.{if◌then◌else◌, same_text}
+use Rattle.meaning.specs.Base.{test◌then◌else◌, same_text}
 use Rattle.meaning.specs.Sheet.{Entry}
 use Rattle.meaning.specs.Read.{SheetOf}
 use Rattle.meaning.specs.Answer.{Answer}
@@ -51,15 +51,15 @@ number_refused refused n m = refl
 
 module _ (a : Answer) (approved : List ℕ) where
   when_loads : a.code ≡ 0 → a.sheet ≡ approved → loading a approved ≡ loads
-  unfolding loading if◌then◌else◌
+  unfolding loading test◌then◌else◌
   when_loads c e = rw (eq-eqb a.code 0 c, ← e, text_same a.sheet)
 
   when_look : a.code ≡ 0 → (a.sheet ≡ approved → ⊥) → loading a approved ≡ look
-  unfolding loading if◌then◌else◌
+  unfolding loading test◌then◌else◌
   when_look c n = rw (eq-eqb a.code 0 c, not_so (same_text a.sheet approved) (λ h. n (same_text_lem a.sheet approved h)))
 
   when_refused : (a.code ≡ 0 → ⊥) → loading a approved ≡ refused
-  unfolding loading if◌then◌else◌
+  unfolding loading test◌then◌else◌
   when_refused n = rw (not_so (eqb a.code 0) (λ h. n (eqb-true a.code 0 h)))
 
   decided : ((a.code ≡ 0) × (a.sheet ≡ approved)) ⊎ (((a.code ≡ 0) × (a.sheet ≡ approved → ⊥)) ⊎ (a.code ≡ 0 → ⊥))

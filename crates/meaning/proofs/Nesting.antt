@@ -12,7 +12,7 @@ use lib.Arith.{lt_of_le-ne}
 use lib.Dec.{eqb, leb, ltb}
 use lib.ListN.{length, get_or, drop, length-map}
 use Rattle.meaning.specs.Limits.{deepest}
-use Rattle.meaning.specs.Base.{◌and◌, ◌or◌, if◌then◌else◌}
+use Rattle.meaning.specs.Base.{◌and◌, ◌or◌, test◌then◌else◌}
 use Rattle.meaning.specs.Image.{Node, node_of, nodes_of, node, name_record, name_records, names_from, names_of, name_count, node_count, is_statement, is_spanless, is_expression, arg_below, count_stands, node_stands, belongs, lands, nests, depth, broken_node, badly_nested, too_deep_node}
 use Rattle.meaning.specs.Decode.{stop_of, past}
 use Rattle.meaning.proofs.Choices.{and_left, and_right, both, all_pass, records_many}
@@ -157,10 +157,10 @@ module _ {N : ℕ} {ds : List Node} (sound : Nested N ds) where
 -- ---- depth: a node inside another lies deeper
 
 bit : Bool → ℕ
-bit b = if b then 1 else 0
+bit b = test b then 1 else 0
 
 bit_le : (a b : Bool) → (a ≡ true → b ≡ true) → bit a ≤ bit b
-unfolding bit if◌then◌else◌
+unfolding bit test◌then◌else◌
 bit_le true b h = rw (h refl) (omega arith)
 bit_le false b h = omega arith
 
@@ -186,7 +186,7 @@ module _ (i c : ℕ) (l : i < c) where
   Own k (d ∷ ds) = (k ≡ c → c < d.stop) × Own (suc k) ds
 
   own_bits : (k : ℕ) (d : Node) → k ≡ c → c < d.stop → (bit (leb k i and ltb i d.stop) ≡ 0) × (bit (leb k c and ltb c d.stop) ≡ 1)
-  unfolding bit if◌then◌else◌ ◌and◌
+  unfolding bit test◌then◌else◌ ◌and◌
   own_bits k d e h = (rw (lt-leb k i (omega arith)), rw (le-leb k c (omega arith), lt-ltb c d.stop h))
 
   one_more : (k : ℕ) (xs : List Node) → Holds k xs → Own k xs → k ≤ c → c < k + length xs → suc (depth i k xs) ≤ depth c k xs
@@ -246,7 +246,7 @@ module _ (i c : ℕ) (l : i < c) where
   Passes k (d ∷ ds) = ((i < k) → (k < c) → d.stop ≤ c) × Passes (suc k) ds
 
   none_behind : (k : ℕ) (xs : List Node) → c < k → depth c k xs ≡ 0
-  unfolding depth bit if◌then◌else◌ ◌and◌
+  unfolding depth bit test◌then◌else◌ ◌and◌
   none_behind k [] h = refl
   none_behind k (d ∷ ds) h = rw (lt-leb k c h) (omega (arith, none_behind (suc k) ds (omega arith)))
 
@@ -256,7 +256,7 @@ module _ (i c : ℕ) (l : i < c) where
   and_no false b e = refl
 
   not_between : (k : ℕ) (d : Node) → d.stop ≤ c → bit (leb k c and ltb c d.stop) ≡ 0
-  unfolding bit if◌then◌else◌
+  unfolding bit test◌then◌else◌
   not_between k d h = rw (and_no (leb k c) (ltb c d.stop) (le-ltb c d.stop h))
 
   at_or_before : (k : ℕ) (d : Node) → k ≤ i → bit (leb k c and ltb c d.stop) ≤ bit (leb k i and ltb i d.stop)
@@ -264,7 +264,7 @@ module _ (i c : ℕ) (l : i < c) where
       bit_le _ _ (λ t. both _ _ (le-leb k i h) (lt-ltb i d.stop (omega (arith, ltb-true c d.stop (and_right _ _ t)))))
 
   bit_one : (b : Bool) → bit b ≤ 1
-  unfolding bit if◌then◌else◌
+  unfolding bit test◌then◌else◌
   bit_one true = omega arith
   bit_one false = omega arith
 

@@ -7,7 +7,7 @@ use Prim.Native.Nat.{ℕ, ◌≤◌, ◌<◌}
 use native.Mathlib.Omega.{arith}
 use borrow.Author.Tests.{eqb-true, eqb-false, ltb-true}
 use lib.Dec.{eqb, ltb}
-use Rattle.meaning.specs.Base.{◌and◌, ◌or◌, if◌then◌else◌, all, is_in}
+use Rattle.meaning.specs.Base.{◌and◌, ◌or◌, test◌then◌else◌, all, is_in}
 use Rattle.meaning.specs.Types.{Ty, unknown, int, bool, float, same, kind, plain}
 use Rattle.meaning.specs.Tree.{UnaryOp, not_op, negate, pos, BinaryOp, add, subtract, multiply, divide, floor_divide, modulo, equal, not_equal, less, less_equal, greater, greater_equal, and_op, or_op}
 use Rattle.meaning.specs.Message.{a_type}
@@ -20,8 +20,8 @@ use Rattle.meaning.proofs.Choices.{and_left, and_right, or_either, same_yes, sam
 abbrev Says : ℕ → ℕ → Type 0
 Says c x = (x < 8) ⊎ (x ≡ c)
 
-if_says : (c : ℕ) (b : Bool) (x y : ℕ) → Says c x → Says c y → Says c (if b then x else y)
-unfolding if◌then◌else◌
+if_says : (c : ℕ) (b : Bool) (x y : ℕ) → Says c x → Says c y → Says c (test b then x else y)
+unfolding test◌then◌else◌
 if_says c true x y p q = p
 if_says c false x y p q = q
 
@@ -57,8 +57,8 @@ says_range : {c x : ℕ} → 29 ≤ c → c ≤ 33 → Says c x → Range x
 says_range l u (inl h) = record { says = inl (omega arith) }
 says_range l u (inr e) = record { says = inr (omega (arith, e)) }
 
-if_range : (b : Bool) (x y : ℕ) → Range x → Range y → Range (if b then x else y)
-unfolding if◌then◌else◌
+if_range : (b : Bool) (x y : ℕ) → Range x → Range y → Range (test b then x else y)
+unfolding test◌then◌else◌
 if_range true x y p q = p
 if_range false x y p q = q
 
@@ -103,8 +103,8 @@ low_in k [] h e = absurd (false≢true e)
 low_in k (x ∷ xs) h e =
     ⊎_elim (λ q. omega (arith, eqb-true k x q, ltb-true x 8 (and_left _ _ h))) (λ q. low_in k xs (and_right _ _ h) q) (or_either _ _ e)
 
-if_unary : (b : Bool) (x c : ℕ) → (b ≡ true → x < 8) → 34 ≤ c → c ≤ 35 → UnaryRange (if b then x else c)
-unfolding if◌then◌else◌
+if_unary : (b : Bool) (x c : ℕ) → (b ≡ true → x < 8) → 34 ≤ c → c ≤ 35 → UnaryRange (test b then x else c)
+unfolding test◌then◌else◌
 if_unary true x c h l u = record { says = inl (h refl) }
 if_unary false x c h l u = record { says = inr (l, u) }
 
@@ -121,9 +121,9 @@ equal_types a b = same a unknown or same b unknown or same a b or same a int and
 
 -- p: Unknown on a side; m, k: Int and Float; e: one kind; l: a plain one; s: the same type
 equal_cases : (n : ℕ) (a b : Ty) (p q m k e l : Bool) → (e ≡ false → same a b ≡ false) → (e ≡ true → l ≡ true → same a b ≡ true)
-    → answered n a b (if p or q or m or k then 2 else if e then (if l then 2 else 8) else 32)
+    → answered n a b (test p or q or m or k then 2 else test e then (test l then 2 else 8) else 32)
     ≡ when (p or q or same a b or m or k) bool 32 n (a_type a ∷ a_type b ∷ [])
-unfolding answered when if◌then◌else◌ ◌or◌ plain
+unfolding answered when test◌then◌else◌ ◌or◌ plain
 equal_cases n a b true q m k e l f g = refl
 equal_cases n a b false true m k e l f g = refl
 equal_cases n a b false false true k e l f g = or_cases (same a b)

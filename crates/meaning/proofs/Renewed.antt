@@ -7,7 +7,7 @@ use borrow.Author.Tests.{eqb-true}
 use lib.Dec.{eqb}
 use lib.ListN.{length-map, get_or-map}
 use Rattle.meaning.specs.Limits.{deepest}
-use Rattle.meaning.specs.Base.{◌and◌, ◌or◌, if◌then◌else◌, choose}
+use Rattle.meaning.specs.Base.{◌and◌, ◌or◌, test◌then◌else◌, choose}
 use Rattle.meaning.specs.Tree.{Expr, at, lambda, Stmt, Stmts, line, pass}
 use Rattle.meaning.specs.Image.{Node, node_of, is_tree_set, is_statement, is_spanless, is_expression, arg_below, count_stands, node_stands, belongs, lands, nests, depth, first_not}
 use Rattle.meaning.specs.Decode.{stop_of, past, exprs_from, stmts_from, params_from, arms_from, form_at, expr_at, act_at, stmt_at, block_at, tree_of}
@@ -15,7 +15,7 @@ use Rattle.meaning.specs.Decode.{stop_of, past, exprs_from, stmts_from, params_f
 unfoldable pub renewed : Node → Node
 renewed d =
     record {
-      kind = if is_tree_set d then 29 else d.kind;
+      kind = test is_tree_set d then 29 else d.kind;
       arg = d.arg;
       children = d.children;
       stop = d.stop;
@@ -25,10 +25,10 @@ renewed d =
 
 -- whoever treats 29 and 30 alike finds no difference
 alike : {A : Type 0} (f : ℕ → A) → f 29 ≡ f 30 → (d : Node) → f (renewed d).kind ≡ f d.kind
-unfolding renewed is_tree_set if◌then◌else◌
+unfolding renewed is_tree_set test◌then◌else◌
 alike f e d = by (eqb d.kind 30) refl
   where
-    by : (b : Bool) → eqb d.kind 30 ≡ b → f (if b then 29 else d.kind) ≡ f d.kind
+    by : (b : Bool) → eqb d.kind 30 ≡ b → f (test b then 29 else d.kind) ≡ f d.kind
     by true h = e ∙ ap f (sym (eqb-true d.kind 30 h))
     by false h = refl
 
@@ -42,25 +42,25 @@ sets_alike : {A : Type 0} (x a b c d e f g h i s j : A)
     ((20, a) ∷ (21, b) ∷ (22, c) ∷ (23, d) ∷ (24, e) ∷ (25, f) ∷ (26, g) ∷ (27, h) ∷ (28, i) ∷ (29, s) ∷ (30, s) ∷ (31, j) ∷ [])
     ≡ choose 30 x
     ((20, a) ∷ (21, b) ∷ (22, c) ∷ (23, d) ∷ (24, e) ∷ (25, f) ∷ (26, g) ∷ (27, h) ∷ (28, i) ∷ (29, s) ∷ (30, s) ∷ (31, j) ∷ [])
-unfolding choose if◌then◌else◌
+unfolding choose test◌then◌else◌
 sets_alike x a b c d e f g h i s j = refl
 
 acts_alike : {A : Type 0} (x a b c d e f g h i j k : A)
     → choose 29 x ((1, a) ∷ (2, b) ∷ (3, c) ∷ (4, d) ∷ (5, e) ∷ (6, f) ∷ (7, g) ∷ (8, h) ∷ (9, i) ∷ (10, j) ∷ (11, k) ∷ [])
     ≡ choose 30 x ((1, a) ∷ (2, b) ∷ (3, c) ∷ (4, d) ∷ (5, e) ∷ (6, f) ∷ (7, g) ∷ (8, h) ∷ (9, i) ∷ (10, j) ∷ (11, k) ∷ [])
-unfolding choose if◌then◌else◌
+unfolding choose test◌then◌else◌
 acts_alike x a b c d e f g h i j k = refl
 
 pub never_tree_set : (d : Node) → is_tree_set (renewed d) ≡ false
-unfolding renewed is_tree_set if◌then◌else◌
+unfolding renewed is_tree_set test◌then◌else◌
 never_tree_set d = by (eqb d.kind 30) refl
   where
-    by : (b : Bool) → eqb d.kind 30 ≡ b → eqb (if b then 29 else d.kind) 30 ≡ false
+    by : (b : Bool) → eqb d.kind 30 ≡ b → eqb (test b then 29 else d.kind) 30 ≡ false
     by true h = refl
     by false h = h
 
 node_of_renewed : (ds : List Node) (i : ℕ) → node_of (map renewed ds) i ≡ renewed (node_of ds i)
-unfolding node_of renewed is_tree_set if◌then◌else◌
+unfolding node_of renewed is_tree_set test◌then◌else◌
 node_of_renewed ds i = get_or-map renewed ds i _
 
 pub span_alike : (ds : List Node) (i : ℕ) → ((node_of (map renewed ds) i).span_start ≡ (node_of ds i).span_start) × ((node_of (map renewed ds) i).span_end ≡ (node_of ds i).span_end)
@@ -70,7 +70,7 @@ span_alike ds i = (ap (λ (d : Node). d.span_start) (node_of_renewed ds i), ap (
 -- ---- faults
 
 pub stands_alike : (N M i : ℕ) (d : Node) → node_stands N M i (renewed d) ≡ node_stands N M i d
-unfolding renewed node_stands is_statement is_spanless is_expression arg_below count_stands choose if◌then◌else◌ ◌and◌ ◌or◌
+unfolding renewed node_stands is_statement is_spanless is_expression arg_below count_stands choose test◌then◌else◌ ◌and◌ ◌or◌
 stands_alike N M i d =
     alike
     (λ k. node_stands N M i
@@ -78,7 +78,7 @@ stands_alike N M i d =
     refl d
 
 belongs_alike : (p d : Node) (c j : ℕ) → belongs (renewed p).kind c j (renewed d).kind ≡ belongs p.kind c j d.kind
-unfolding belongs is_statement is_expression choose if◌then◌else◌ ◌and◌
+unfolding belongs is_statement is_expression choose test◌then◌else◌ ◌and◌
 belongs_alike p d c j =
     alike (λ k. belongs k c j (renewed d).kind) refl p ∙ alike (λ k. belongs p.kind c j k) refl d
 

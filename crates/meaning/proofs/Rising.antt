@@ -9,7 +9,7 @@ use native.Mathlib.Omega.{arith}
 use borrow.Author.Tests.{leb-true, eqb-true}
 use lib.ListN.{length}
 use Rattle.meaning.specs.Limits.{deepest}
-use Rattle.meaning.specs.Base.{if◌then◌else◌, choose}
+use Rattle.meaning.specs.Base.{test◌then◌else◌, choose}
 use Rattle.meaning.specs.Tree.{Expr, at, Form, literal, variable, unary, binary, call, attribute, list_of, dict_of, tuple_of, set_of, index, lambda, Exprs, no_exprs, ◌also◌, place, Stmt, line, Act, break, continue, pass, class, assign, expr, return, if_then, while, for, def, Stmts, no_stmts, ◌next◌, Arms, no_arms, ◌else_arms◌, Arm, on, otherwise, first_condition}
 use Rattle.meaning.specs.Image.{Node, node_of, count_stands}
 use Rattle.meaning.specs.Decode.{stop_of, past, exprs_from, stmts_from, arms_from, form_at, expr_at, act_at, stmt_at, block_at, tree_of}
@@ -85,19 +85,19 @@ unfoldable pub EndsAt : List Node → ℕ → ℕ → Type 0
 EndsAt ds c h = (i : ℕ) × (((node_of ds i).kind ≡ 8) × ((c ≡ suc i) × (h ≡ stop_of ds i)))
 
 two_or_more : (c : ℕ) → count_stands 8 c ≡ true → 2 ≤ c
-unfolding count_stands choose if◌then◌else◌
+unfolding count_stands choose test◌then◌else◌
 two_or_more c h = leb-true 2 c h
 
 one_or_more : (c : ℕ) → count_stands 11 c ≡ true → 1 ≤ c
-unfolding count_stands choose if◌then◌else◌
+unfolding count_stands choose test◌then◌else◌
 one_or_more c h = leb-true 1 c h
 
 assigns_two : (c : ℕ) → count_stands 5 c ≡ true → c ≡ 2
-unfolding count_stands choose if◌then◌else◌
+unfolding count_stands choose test◌then◌else◌
 assigns_two c h = eqb-true c 2 h
 
 repeats_two : (c : ℕ) → count_stands 9 c ≡ true → c ≡ 2
-unfolding count_stands choose if◌then◌else◌
+unfolding count_stands choose test◌then◌else◌
 repeats_two c h = eqb-true c 2 h
 
 first_on : (ds : List Node) (e : ℕ → Expr) (b : ℕ → Stmts) (n i : ℕ) → 2 ≤ n → first_condition (arms_from ds e b n i) ≡ place (e i)

@@ -14,7 +14,7 @@ use borrow.Author.Tests.{leb-true, ltb-true, lt-ltb, le-ltb, eqb-true, eq-eqb, n
 use lib.Dec.{eqb, ltb}
 use lib.ListN.{length}
 use Rattle.meaning.specs.Limits.{deepest}
-use Rattle.meaning.specs.Base.{◌and◌, ◌or◌, if◌then◌else◌, choose}
+use Rattle.meaning.specs.Base.{◌and◌, ◌or◌, test◌then◌else◌, choose}
 use Rattle.meaning.specs.Tree.{Expr, Form, lambda, Stmt, Act, pass, Stmts}
 use Rattle.meaning.specs.Bound.{targets, targets_in, targets_among, may_bind, binds_by, binds_in, binds_among}
 use Rattle.meaning.specs.Image.{Node, node_of, nodes_of, name_count, node_count, is_statement, is_expression, arg_below, count_stands, belongs, depth}
@@ -32,7 +32,7 @@ scan_target ds zero j e = []
 scan_target ds (suc k) j e =
     let inner : List ℕ = scan_target ds k (suc j) e in
     let over : List ℕ = scan_target ds k (stop_of ds j) e in
-    if ltb j e then choose (node_of ds j).kind over ((21, (node_of ds j).arg ∷ over) ∷ (28, inner) ∷ []) else []
+    test ltb j e then choose (node_of ds j).kind over ((21, (node_of ds j).arg ∷ over) ∷ (28, inner) ∷ []) else []
 
 -- the nodes from i on
 unfoldable pub scan : List Node → ℕ → ℕ → List ℕ
@@ -41,7 +41,7 @@ scan ds (suc k) i =
     let inner : List ℕ = scan ds k (suc i) in
     let over : List ℕ = scan ds k (stop_of ds i) in
     let target : List ℕ = scan_target ds (length ds) (suc i) (stop_of ds (suc i)) in
-    if ltb i (length ds)
+    test ltb i (length ds)
     then choose (node_of ds i).kind over
     ((5, target ++ over) ∷ (8, inner) ∷ (9, inner) ∷ (10, (node_of ds i).arg ∷ inner) ∷ (12, inner) ∷ [])
     else []
@@ -55,7 +55,7 @@ module _ {A : Type 0} (f : A → List ℕ) (k : ℕ) where
     nothing : {r : ℕ × A} {rs : List (ℕ × A)} → f r.1 ≡ [] → Quiet rs → Quiet (r ∷ rs)
 
   pub quiet : (d : A) (rs : List (ℕ × A)) → f d ≡ [] → Quiet rs → f (choose k d rs) ≡ []
-  unfolding choose if◌then◌else◌
+  unfolding choose test◌then◌else◌
   quiet d [] e no_rows = e
   quiet d (r ∷ rs) e (another n q) = rw (ne_eqb k r.0 n) (quiet d rs e q)
   quiet d (r ∷ rs) e (nothing g q) = elim (ℕ_discrete k r.0) [
@@ -81,24 +81,24 @@ quiet_act ds e b i n5 n8 n9 n10 =
 -- ---- one step of the scan of a target, by a count that goes down
 
 pub target_end : (ds : List Node) (k j e : ℕ) → e ≤ j → scan_target ds k j e ≡ []
-unfolding scan_target if◌then◌else◌
+unfolding scan_target test◌then◌else◌
 target_end ds zero j e h = refl
 target_end ds (suc k) j e h = rw (le-ltb j e h)
 
 pub target_variable : (ds : List Node) (k j e : ℕ) → 0 < k → j < e → (node_of ds j).kind ≡ 21
     → scan_target ds k j e ≡ (node_of ds j).arg ∷ scan_target ds (k - 1) (stop_of ds j) e
-unfolding scan_target choose if◌then◌else◌
+unfolding scan_target choose test◌then◌else◌
 target_variable ds zero j e h l q = absurd (omega arith)
 target_variable ds (suc k) j e h l q = rw (lt-ltb j e l, q, sub-one)
 
 pub target_tuple : (ds : List Node) (k j e : ℕ) → 0 < k → j < e → (node_of ds j).kind ≡ 28 → scan_target ds k j e ≡ scan_target ds (k - 1) (suc j) e
-unfolding scan_target choose if◌then◌else◌
+unfolding scan_target choose test◌then◌else◌
 target_tuple ds zero j e h l q = absurd (omega arith)
 target_tuple ds (suc k) j e h l q = rw (lt-ltb j e l, q, sub-one)
 
 pub target_other : (ds : List Node) (k j e : ℕ) → 0 < k → j < e → ((node_of ds j).kind ≡ 21 → ⊥) → ((node_of ds j).kind ≡ 28 → ⊥)
     → scan_target ds k j e ≡ scan_target ds (k - 1) (stop_of ds j) e
-unfolding scan_target choose if◌then◌else◌
+unfolding scan_target choose test◌then◌else◌
 target_other ds zero j e h l v t = absurd (omega arith)
 target_other ds (suc k) j e h l v t = rw (lt-ltb j e l, ne_eqb _ 21 v, ne_eqb _ 28 t, sub-one)
 
@@ -186,18 +186,18 @@ target_scanned {N} {ds} sound d j m h =
 -- ---- one step of the scan of the module, by a count that goes down
 
 pub scan_end : (ds : List Node) (k i : ℕ) → length ds ≤ i → scan ds k i ≡ []
-unfolding scan if◌then◌else◌
+unfolding scan test◌then◌else◌
 scan_end ds zero i h = refl
 scan_end ds (suc k) i h = rw (le-ltb i (length ds) h)
 
 pub scan_assign : (ds : List Node) (k i : ℕ) → 0 < k → i < length ds → (node_of ds i).kind ≡ 5
     → scan ds k i ≡ scan_target ds (length ds) (suc i) (stop_of ds (suc i)) ++ scan ds (k - 1) (stop_of ds i)
-unfolding scan choose if◌then◌else◌
+unfolding scan choose test◌then◌else◌
 scan_assign ds zero i h l q = absurd (omega arith)
 scan_assign ds (suc k) i h l q = rw (lt-ltb i (length ds) l, q, sub-one)
 
 pub scan_for : (ds : List Node) (k i : ℕ) → 0 < k → i < length ds → (node_of ds i).kind ≡ 10 → scan ds k i ≡ (node_of ds i).arg ∷ scan ds (k - 1) (suc i)
-unfolding scan choose if◌then◌else◌
+unfolding scan choose test◌then◌else◌
 scan_for ds zero i h l q = absurd (omega arith)
 scan_for ds (suc k) i h l q = rw (lt-ltb i (length ds) l, q, sub-one)
 
@@ -208,7 +208,7 @@ pub data Enters : ℕ → Type 0 where
   a_block : Enters 12
 
 pub scan_enter : (ds : List Node) (k i : ℕ) → 0 < k → i < length ds → {q : ℕ} → Enters q → (node_of ds i).kind ≡ q → scan ds k i ≡ scan ds (k - 1) (suc i)
-unfolding scan choose if◌then◌else◌
+unfolding scan choose test◌then◌else◌
 scan_enter ds zero i h l t q = absurd (omega arith)
 scan_enter ds (suc k) i h l an_if q = rw (lt-ltb i (length ds) l, q, sub-one)
 scan_enter ds (suc k) i h l a_while q = rw (lt-ltb i (length ds) l, q, sub-one)
@@ -223,7 +223,7 @@ pub record Jumped (q : ℕ) : Type 0 where
   pub no_block : q ≡ 12 → ⊥
 
 pub scan_over : (ds : List Node) (k i : ℕ) → 0 < k → i < length ds → Jumped (node_of ds i).kind → scan ds k i ≡ scan ds (k - 1) (stop_of ds i)
-unfolding scan choose if◌then◌else◌
+unfolding scan choose test◌then◌else◌
 scan_over ds zero i h l q = absurd (omega arith)
 scan_over ds (suc k) i h l q =
     rw (lt-ltb i (length ds) l, ne_eqb _ 5 q.no_assign, ne_eqb _ 8 q.no_if, ne_eqb _ 9 q.no_while, ne_eqb _ 10 q.no_for, ne_eqb _ 12 q.no_block, sub-one)
@@ -265,15 +265,15 @@ unfolding is_statement
 statement_low k e = leb-true k 11 (and_right _ _ e)
 
 pub block_below : (p c j k : ℕ) → p ≡ 12 → belongs p c j k ≡ true → is_statement k ≡ true
-unfolding belongs choose if◌then◌else◌
+unfolding belongs choose test◌then◌else◌
 block_below p c j k e b = rw e at b
 
 pub if_condition : (p c j k : ℕ) → p ≡ 8 → j % 2 ≡ 0 → (j + 1 ≡ c → ⊥) → belongs p c j k ≡ true → is_expression k ≡ true
-unfolding belongs choose if◌then◌else◌ ◌or◌
+unfolding belongs choose test◌then◌else◌ ◌or◌
 if_condition p c j k e o n b = rw (e, ne_eqb (j + 1) c n, o) at b
 
 pub if_block : (p c j k : ℕ) → p ≡ 8 → j % 2 ≡ 1 → belongs p c j k ≡ true → k ≡ 12
-unfolding belongs choose if◌then◌else◌ ◌or◌
+unfolding belongs choose test◌then◌else◌ ◌or◌
 if_block p c j k e o b = eqb-true k 12 (by (eqb (j + 1) c) refl)
   where
     by : (t : Bool) → eqb (j + 1) c ≡ t → eqb k 12 ≡ true
@@ -281,7 +281,7 @@ if_block p c j k e o b = eqb-true k 12 (by (eqb (j + 1) c) refl)
     by false q = rw (e, q, o) at b
 
 pub if_last : (p c j k : ℕ) → p ≡ 8 → j + 1 ≡ c → belongs p c j k ≡ true → k ≡ 12
-unfolding belongs choose if◌then◌else◌ ◌or◌
+unfolding belongs choose test◌then◌else◌ ◌or◌
 if_last p c j k e l b = eqb-true k 12 (rw (e, eq-eqb (j + 1) c l) at b)
 
 -- a While's children and a For's
@@ -290,26 +290,26 @@ pub data Loop : ℕ → Type 0 where
   the_for : Loop 10
 
 pub loop_condition : {p : ℕ} → Loop p → (k : ℕ) → belongs p 2 0 k ≡ true → is_expression k ≡ true
-unfolding belongs choose if◌then◌else◌
+unfolding belongs choose test◌then◌else◌
 loop_condition the_while k b = b
 loop_condition the_for k b = b
 
 pub loop_block : {p : ℕ} → Loop p → (k : ℕ) → belongs p 2 1 k ≡ true → k ≡ 12
-unfolding belongs choose if◌then◌else◌
+unfolding belongs choose test◌then◌else◌
 loop_block the_while k b = eqb-true k 12 b
 loop_block the_for k b = eqb-true k 12 b
 
 pub loop_two : {p : ℕ} → Loop p → (c : ℕ) → count_stands p c ≡ true → c ≡ 2
-unfolding count_stands choose if◌then◌else◌
+unfolding count_stands choose test◌then◌else◌
 loop_two the_while c b = eqb-true c 2 b
 loop_two the_for c b = eqb-true c 2 b
 
 assign_two : (p c : ℕ) → p ≡ 5 → count_stands p c ≡ true → c ≡ 2
-unfolding count_stands choose if◌then◌else◌
+unfolding count_stands choose test◌then◌else◌
 assign_two p c e b = eqb-true c 2 (rw e at b)
 
 pub first_deep : (ds : List Node) → 0 < length ds → 0 < (node_of ds 0).stop → 1 ≤ depth 0 0 ds
-unfolding depth node_of if◌then◌else◌ ◌and◌
+unfolding depth node_of test◌then◌else◌ ◌and◌
 first_deep [] m h = absurd (omega arith)
 first_deep (d ∷ ds) m h = rw (lt-ltb 0 d.stop h) (omega arith)
 
@@ -469,8 +469,8 @@ under_each : {N : ℕ} {xs : List ℕ} → Under N xs → (x : ℕ) → Memᴰ x
 under_each none_under x m = absurd (Memᴰ.not-nil m)
 under_each (one_under h a) x m = ⊎_elim (λ e. rw e h) (λ r. under_each a x r) (Memᴰ.cases_cons m)
 
-under_if : {N : ℕ} (b : Bool) (xs ys : List ℕ) → (b ≡ true → Under N xs) → Under N ys → Under N (if b then xs else ys)
-unfolding if◌then◌else◌
+under_if : {N : ℕ} (b : Bool) (xs ys : List ℕ) → (b ≡ true → Under N xs) → Under N ys → Under N (test b then xs else ys)
+unfolding test◌then◌else◌
 under_if true xs ys f g = f refl
 under_if false xs ys f g = g
 
@@ -485,11 +485,11 @@ under_choose k xs [] a b = a
 under_choose k xs (r ∷ rs) a b = under_if _ _ _ (λ e. b.0 (eqb-true k r.0 e)) (under_choose k xs rs a b.1)
 
 variable_arg : (N k a : ℕ) → k ≡ 21 → a < arg_below N k → a < N
-unfolding arg_below choose if◌then◌else◌
+unfolding arg_below choose test◌then◌else◌
 variable_arg N k a e h = rw e at h
 
 for_arg : (N k a : ℕ) → k ≡ 10 → a < arg_below N k → a < N
-unfolding arg_below choose if◌then◌else◌
+unfolding arg_below choose test◌then◌else◌
 for_arg N k a e h = rw e at h
 
 module _ {N : ℕ} {ds : List Node} (sound : Nested N ds) where

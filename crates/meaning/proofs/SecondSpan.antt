@@ -12,7 +12,7 @@ use borrow.Author.Tests.{eqb-true}
 use lib.Dec.{leb}
 use lib.ListN.{length, get_or-eq_default}
 use Rattle.meaning.specs.Limits.{deepest}
-use Rattle.meaning.specs.Base.{if◌then◌else◌, choose, if_some}
+use Rattle.meaning.specs.Base.{test◌then◌else◌, choose, if_some}
 use Rattle.meaning.specs.Tree.{Expr, Stmt, Stmts, place}
 use Rattle.meaning.specs.Image.{Fault, Node, node_of, count_stands, check_fault, names_of, nodes_of}
 use Rattle.meaning.specs.Decode.{stop_of, exprs_from, stmts_from, arms_from, form_at, expr_at, act_at, stmt_at, block_at, tree_of}
@@ -112,7 +112,7 @@ kind_inside ds n k e = elim (dec_lt n (length ds)) [
 ]
 
 pub two_children : (c : ℕ) → count_stands 10 c ≡ true → c ≡ 2
-unfolding count_stands choose if◌then◌else◌
+unfolding count_stands choose test◌then◌else◌
 two_children c h = eqb-true c 2 h
 
 pub makes_inside : {N : ℕ} {ds : List Node} → Nested N ds → (n : ℕ) → Makes ds n → n < length ds
@@ -138,13 +138,13 @@ pub record Second (ds : List Node) (a : Answer) : Type 0 where
 
 -- what is written has code 0 or 10
 pub written_neither : (room : ℕ) (xs : List ℕ) → ((written room xs).code ≡ 23) ⊎ ((written room xs).code ≡ 25) → ⊥
-unfolding written if◌then◌else◌
+unfolding written test◌then◌else◌
 written_neither room xs = by (leb (length xs) room)
   where
     full : Answer
     full = record { code = 0; place = 0; span_start = 0; span_end = 0; second_start = 0; second_end = 0; sheet = xs; message = [] }
 
-    by : (q : Bool) → ((if q then full else bare 10 0).code ≡ 23) ⊎ ((if q then full else bare 10 0).code ≡ 25) → ⊥
+    by : (q : Bool) → ((test q then full else bare 10 0).code ≡ 23) ⊎ ((test q then full else bare 10 0).code ≡ 25) → ⊥
     by true e = ⊎_elim (λ z. omega arith) (λ z. omega arith) e
     by false e = ⊎_elim (λ z. omega arith) (λ z. omega arith) e
 

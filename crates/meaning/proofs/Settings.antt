@@ -6,7 +6,7 @@ use mathlib.Core.Logic.{◌⊎◌, inl, inr, ⊎_elim}
 use mathlib.Core.List.{List, [], ◌∷◌, ◌++◌}
 use mathlib.Core.Option.{Option, none, some}
 use Prim.Native.Nat.{ℕ}
-use Rattle.meaning.specs.Base.{choose, if◌then◌else◌, if_some}
+use Rattle.meaning.specs.Base.{choose, test◌then◌else◌, if_some}
 use Rattle.meaning.specs.Types.{Ty}
 use Rattle.meaning.specs.Tree.{Stmt, line, Act, break, continue, pass, class, assign, expr, return, if_then, while, for, def, Stmts, no_stmts, ◌next◌, Arms, no_arms, ◌else_arms◌, Arm, on, otherwise}
 use Rattle.meaning.specs.Image.{Name, Node, check_fault, names_of, nodes_of}
@@ -126,8 +126,8 @@ module _ (ws : List Name) where
   popped_like bs (wrong r s) e h = ⊎_elim (λ p. inl (rw p)) (λ x. inr x) h
   popped_like bs (too_deep n) e h = rw h
 
-  if_like : (bs : List Stmts) (b : Bool) (c d e : End) → Like bs c d → Like bs (if b then c else e) (if b then d else e)
-  unfolding if◌then◌else◌
+  if_like : (bs : List Stmts) (b : Bool) (c d e : End) → Like bs c d → Like bs (test b then c else e) (test b then d else e)
+  unfolding test◌then◌else◌
   if_like bs true c d e h = h
   if_like bs false c d e h = same_like bs e
 
@@ -219,7 +219,7 @@ ended_like ws ds sheet_room message_room bs (too_deep n) e h = inl (rw h)
 
 module _ (bs : List ℕ) (sheet_room message_room : ℕ) where
   pub answers_alike : (answer 0 bs sheet_room message_room ≡ answer 1 bs sheet_room message_room) ⊎ RefusesInside bs
-  unfolding answer setting_of choose if_some if◌then◌else◌ answer_under unless_fault walk_answer walked
+  unfolding answer setting_of choose if_some test◌then◌else◌ answer_under unless_fault walk_answer walked
   answers_alike =
       ⊎_elim (λ e. inl (ap (λ a. if_some (check_fault bs) (λ f. bare f.code f.place) a) e)) (λ x. inr x)
       (ended_like (names_of bs) (nodes_of bs) sheet_room message_room (bodies_in_all (tree_of (nodes_of bs))) _ _ (program_like (names_of bs) (tree_of (nodes_of bs)) start))

@@ -10,7 +10,7 @@ use native.Mathlib.Omega.{arith}
 use borrow.Author.Tests.{leb-true, le-leb}
 use lib.ListN.{length, drop, length-append, length-map}
 use lib.Seq.{drop_at, drop-drop}
-use Rattle.meaning.specs.Base.{all, if◌then◌else◌, word, words}
+use Rattle.meaning.specs.Base.{all, test◌then◌else◌, word, words}
 use Rattle.meaning.specs.Limits.{most_names, longest_name, most_types, most_elements}
 use Rattle.meaning.specs.Types.{Ty}
 use Rattle.meaning.specs.Image.{printable, text_stands}
@@ -163,14 +163,14 @@ sheet_one bs es s = ap entries_in s.written ∙ round_trip es s.limits
 
 -- the reader gives those entries, and nothing where there are none
 pub read_some : (bs : List ℕ) (es : List Entry) → (read_sheet bs ≡ some es) ↔ SheetOf bs es
-unfolding read_sheet if◌then◌else◌
+unfolding read_sheet test◌then◌else◌
 read_some bs es = (
   λ e. let h = if_some_lem (is_sheet bs) (entries_in bs) es e in rw h.1 at (sheet_is bs h.0),
   λ s. rw (is_sheet_lem bs es s) (ap some (sheet_one bs es s)),
 )
 
 pub read_none : (bs : List ℕ) → (read_sheet bs ≡ none) ↔ ((es : List Entry) → SheetOf bs es → ⊥)
-unfolding read_sheet if◌then◌else◌
+unfolding read_sheet test◌then◌else◌
 read_none bs = (
   λ e es s. false≢true (sym (if_nothing (is_sheet bs) (entries_in bs) e) ∙ is_sheet_lem bs es s),
   λ n. rw (not_so (is_sheet bs) (λ h. n (entries_in bs) (sheet_is bs h))),
@@ -178,11 +178,11 @@ read_none bs = (
 
 -- by the test alone
 pub read_yes : (bs : List ℕ) → is_sheet bs ≡ true → read_sheet bs ≡ some (entries_in bs)
-unfolding read_sheet if◌then◌else◌
+unfolding read_sheet test◌then◌else◌
 read_yes bs h = rw h
 
 pub read_no : (bs : List ℕ) → is_sheet bs ≡ false → read_sheet bs ≡ none
-unfolding read_sheet if◌then◌else◌
+unfolding read_sheet test◌then◌else◌
 read_no bs h = rw h
 
 -- ---- its header, its bytes

@@ -10,7 +10,7 @@ use native.Mathlib.Omega.{arith}
 use native.Mathlib.Decide.{ℕ_discrete}
 use borrow.Author.Tests.{le-leb, eqb-true, eq-eqb, ne_eqb, ltb-true, lt-ltb}
 use lib.ListN.{length, take, drop, length-map}
-use Rattle.meaning.specs.Base.{if◌then◌else◌, if_some, before}
+use Rattle.meaning.specs.Base.{test◌then◌else◌, if_some, before}
 use Rattle.meaning.specs.Types.{Ty, parts}
 use Rattle.meaning.specs.Limits.{most_names, most_types, most_elements}
 use Rattle.meaning.specs.Image.{NameRecord, Name, name_from, text_stands, wrong_name, name_count, name_record, name_records, broken_name, names_of, texts_of}
@@ -24,14 +24,14 @@ use Rattle.meaning.proofs.SheetRoom.{sheet_room}
 -- ---- the order of texts
 
 before_cons : (x y : ℕ) (xs ys : List ℕ) → before (x ∷ xs) (y ∷ ys) ≡ true → (x < y) ⊎ ((x ≡ y) × (before xs ys ≡ true))
-unfolding before if◌then◌else◌
+unfolding before test◌then◌else◌
 before_cons x y xs ys h = elim (ℕ_discrete x y) [
   | yes p ↦ inr (p, rw (eq-eqb x y p) at h)
   | no q ↦ inl (ltb-true x y (rw (ne_eqb x y q) at h))
 ]
 
 cons_before : (x y : ℕ) (xs ys : List ℕ) → (x < y) ⊎ ((x ≡ y) × (before xs ys ≡ true)) → before (x ∷ xs) (y ∷ ys) ≡ true
-unfolding before if◌then◌else◌
+unfolding before test◌then◌else◌
 cons_before x y xs ys (inl h) = rw (ne_eqb x y (λ e. omega arith), lt-ltb x y h)
 cons_before x y xs ys (inr h) = rw (eq-eqb x y h.0) h.1
 

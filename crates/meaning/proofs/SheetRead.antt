@@ -5,7 +5,7 @@ use Prim.Native.Nat.{ℕ, suc, ◌+◌, ◌<◌}
 use native.Mathlib.Omega.{arith}
 use lib.ListN.{length, take, drop, length-append, length-map}
 use lib.Seq.{append_snoc, take_at, drop_at, take-append_seam, drop-drop}
-use Rattle.meaning.specs.Base.{if◌then◌else◌, choose}
+use Rattle.meaning.specs.Base.{test◌then◌else◌, choose}
 use Rattle.meaning.specs.Types.{Ty, unknown, int, bool, string, float, nonetype, range, function, list, dict, tuple, map_iter, filter_iter, Tys, no_types, ◌⊕◌, kind, parts, elements, tys}
 use Rattle.meaning.specs.Sheet.{Entry, number, elements_in, elements_of, type_record, type_records, spellings, name_records}
 use Rattle.meaning.specs.Read.{numbered, type_from, types_from}
@@ -31,7 +31,7 @@ module _ (us ps vs : List Ty) (e : us ≡ ps ++ vs) where
 
   type_read : (es : List ℕ) (from : ℕ) (rest : List ℕ) (t : Ty) → Next ps t → drop from es ≡ map (number us) (elements_in t) ++ rest
       → type_from es ps (type_record us from t) ≡ t
-  unfolding type_from type_record choose if◌then◌else◌ kind parts elements_in
+  unfolding type_from type_record choose test◌then◌else◌ kind parts elements_in
   type_read es from rest unknown n d = absurd (omega (arith, n.structured))
   type_read es from rest int n d = absurd (omega (arith, n.structured))
   type_read es from rest bool n d = absurd (omega (arith, n.structured))
@@ -82,7 +82,7 @@ module _ (us : List Ty) (few : 8 + length us < 4294967296) where
 
   type_small : (from : ℕ) (t : Ty) → from + length (elements_in t) < 4294967296
       → Small (type_record us from t).0 × Small (type_record us from t).1 × Small (type_record us from t).2
-  unfolding type_record if◌then◌else◌ kind parts elements_in
+  unfolding type_record test◌then◌else◌ kind parts elements_in
   type_small from unknown h = omega arith
   type_small from int h = omega arith
   type_small from bool h = omega arith

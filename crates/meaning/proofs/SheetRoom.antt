@@ -7,7 +7,7 @@ use mathlib.Core.List.{List, [], ◌∷◌, ◌++◌, map, Memᴰ}
 use Prim.Native.Nat.{ℕ, ◌+◌, ◌≤◌}
 use native.Mathlib.Omega.{arith}
 use lib.ListN.{length, length-append}
-use Rattle.meaning.specs.Base.{if◌then◌else◌}
+use Rattle.meaning.specs.Base.{test◌then◌else◌}
 use Rattle.meaning.specs.Types.{Ty, Ty-discrete, same, kind, parts}
 use Rattle.meaning.specs.Sheet.{Entry, types_of, elements_in, elements_of}
 use Rattle.meaning.proofs.Choices.{same_yes, same_no}
@@ -20,10 +20,10 @@ weight w (t ∷ ts) = w t + weight w ts
 
 without : Ty → List Ty → List Ty
 without t [] = []
-without t (u ∷ us) = if same t u then us else u ∷ without t us
+without t (u ∷ us) = test same t u then us else u ∷ without t us
 
 weight_without : (w : Ty → ℕ) (t : Ty) (us : List Ty) → Memᴰ t us → weight w us ≡ w t + weight w (without t us)
-unfolding weight without if◌then◌else◌
+unfolding weight without test◌then◌else◌
 weight_without w t [] m = absurd (Memᴰ.not-nil m)
 weight_without w t (u ∷ us) m = elim (Ty-discrete t u) [
   | yes p ↦ rw (same_yes t u p) (ap (λ x. w x + weight w us) (sym p))
@@ -31,7 +31,7 @@ weight_without w t (u ∷ us) m = elim (Ty-discrete t u) [
 ]
 
 kept_without : (t u : Ty) (us : List Ty) → (u ≡ t → ⊥) → Memᴰ u us → Memᴰ u (without t us)
-unfolding without if◌then◌else◌
+unfolding without test◌then◌else◌
 kept_without t u [] n m = m
 kept_without t u (x ∷ us) n m = elim (Ty-discrete t x) [
   | yes p ↦ rw (same_yes t x p) (⊎_elim (λ e. absurd (n (e ∙ sym p))) (λ r. r) (Memᴰ.cases_cons m))

@@ -9,7 +9,7 @@ use Prim.Native.Nat.{ℕ, zero, suc, ◌<◌}
 use native.Mathlib.Omega.{arith}
 use borrow.Author.Tests.{eq-eqb}
 use lib.ListN.{length, get_or}
-use Rattle.meaning.specs.Base.{if◌then◌else◌, if_some, before}
+use Rattle.meaning.specs.Base.{test◌then◌else◌, if_some, before}
 use Rattle.meaning.specs.Types.{Ty}
 use Rattle.meaning.specs.Image.{Name, name_of, text_stands}
 use Rattle.meaning.specs.Frames.{Binding, binding, Frame}
@@ -20,7 +20,7 @@ use Rattle.meaning.proofs.SheetNames.{before_trans}
 -- ---- the order
 
 pub before_not : (s : List ℕ) → before s s ≡ true → ⊥
-unfolding before if◌then◌else◌
+unfolding before test◌then◌else◌
 before_not [] h = false≢true h
 before_not (x ∷ xs) h = before_not xs (rw (eq-eqb x x refl) at h)
 

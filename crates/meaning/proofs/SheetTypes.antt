@@ -9,7 +9,7 @@ use native.Mathlib.Decide.{dec_lt}
 use borrow.Author.Tests.{le-leb, lt-leb}
 use lib.ListN.{length, get_or}
 use lib.Seq.{append_snoc}
-use Rattle.meaning.specs.Base.{if◌then◌else◌}
+use Rattle.meaning.specs.Base.{test◌then◌else◌}
 use Rattle.meaning.specs.Types.{Ty, Ty-discrete, unknown, int, bool, string, float, nonetype, range, function, list, dict, tuple, map_iter, filter_iter, Tys, no_types, ◌⊕◌, kind, parts, elements}
 use Rattle.meaning.specs.Sheet.{Entry, met, met_all, types_of, position, number}
 use Rattle.meaning.specs.Read.{numbered}
@@ -119,16 +119,16 @@ types_met (e ∷ es) us o = met_then (met_met e.1 us o) (types_met es (met e.1 u
 -- ---- numbers
 
 position_le : (t : Ty) (us : List Ty) → position t us ≤ length us
-unfolding position if◌then◌else◌
+unfolding position test◌then◌else◌
 position_le t [] = omega arith
 position_le t (u ∷ us) = elim (Ty-discrete t u) [ yes p ↦ rw (same_yes t u p) (omega arith) | no q ↦ rw (same_no t u q) (omega (arith, position_le t us)) ]
 
 pub number_plain : (us : List Ty) (t : Ty) → kind t < 8 → number us t ≡ kind t
-unfolding number if◌then◌else◌
+unfolding number test◌then◌else◌
 number_plain us t h = rw (le-leb (suc (kind t)) 8 h)
 
 pub number_above : (us : List Ty) (t : Ty) → 8 ≤ kind t → number us t ≡ 8 + position t us
-unfolding number if◌then◌else◌
+unfolding number test◌then◌else◌
 number_above us t h = rw (lt-leb (suc (kind t)) 8 (omega arith))
 
 pub number_le : (us : List Ty) (t : Ty) → number us t ≤ 8 + length us
@@ -138,11 +138,11 @@ number_le us t = elim (dec_lt (kind t) 8) [
 ]
 
 plain_read : (us : List Ty) (t : Ty) → kind t < 8 → numbered us (kind t) ≡ t
-unfolding numbered if◌then◌else◌
+unfolding numbered test◌then◌else◌
 plain_read us t h = rw (le-leb (suc (kind t)) 8 h) (plain_kind t h)
 
 above_read : (us : List Ty) (n : ℕ) → numbered us (8 + n) ≡ get_or us n unknown
-unfolding numbered if◌then◌else◌
+unfolding numbered test◌then◌else◌
 above_read us n = let e : 8 + n - 8 ≡ n = omega arith in rw (lt-leb (suc (8 + n)) 8 (omega arith), e)
 
 -- a number over all the types means its type already over the first of them, if the type stands there

@@ -7,7 +7,7 @@ use Prim.Native.Nat.{suc, ◌+◌, ◌<◌}
 use native.Mathlib.Omega.{arith}
 use lib.ListN.{length, get_or}
 use lib.Seq.{append_snoc}
-use Rattle.meaning.specs.Base.{if◌then◌else◌}
+use Rattle.meaning.specs.Base.{test◌then◌else◌}
 use Rattle.meaning.specs.Types.{Ty, Ty-discrete, unknown, int, bool, string, float, nonetype, range, function, list, dict, tuple, map_iter, filter_iter, Tys, no_types, ◌⊕◌}
 use Rattle.meaning.specs.Sheet.{Entry, add_new, met, met_all, types_of, position}
 use Rattle.meaning.proofs.Choices.{same_yes, same_no}
@@ -19,7 +19,7 @@ pub data Added (t : Ty) (us vs : List Ty) : Type 0 where
   fresh : (Memᴰ t us → ⊥) → vs ≡ us ++ (t ∷ []) → Added t us vs
 
 added_cons : {t u : Ty} {us : List Ty} → Dec (t ≡ u) → Added t us (add_new t us) → Added t (u ∷ us) (add_new t (u ∷ us))
-unfolding add_new if◌then◌else◌
+unfolding add_new test◌then◌else◌
 added_cons (yes p) a = old (Memᴰ.head p) (rw (same_yes _ _ p))
 added_cons (no q) (old m e) = old (Memᴰ.tail m) (rw (same_no _ _ q, e))
 added_cons (no q) (fresh n e) = fresh (λ m. ⊎_elim q n (Memᴰ.cases_cons m)) (rw (same_no _ _ q, e))
@@ -33,7 +33,7 @@ added t (u ∷ us) = added_cons (Ty-discrete t u) (added t us)
 
 -- what stands in the first part of a list has its place there
 pub found : (t : Ty) (us vs : List Ty) → Memᴰ t us → (get_or us (position t (us ++ vs)) unknown ≡ t) × (position t (us ++ vs) < length us)
-unfolding position if◌then◌else◌
+unfolding position test◌then◌else◌
 found t [] vs m = absurd (Memᴰ.not-nil m)
 found t (u ∷ us) vs m = elim (Ty-discrete t u) [
   | yes p ↦ rw (same_yes t u p) (sym p, omega arith)
@@ -42,7 +42,7 @@ found t (u ∷ us) vs m = elim (Ty-discrete t u) [
 
 -- the place of what stands in the first part of a list, and of what does not
 pub near : (t : Ty) (us vs : List Ty) → Memᴰ t us → position t (us ++ vs) ≡ position t us
-unfolding position if◌then◌else◌
+unfolding position test◌then◌else◌
 near t [] vs m = absurd (Memᴰ.not-nil m)
 near t (u ∷ us) vs m = elim (Ty-discrete t u) [
   | yes p ↦ rw (same_yes t u p)
@@ -50,16 +50,16 @@ near t (u ∷ us) vs m = elim (Ty-discrete t u) [
 ]
 
 pub far : (t : Ty) (us vs : List Ty) → (Memᴰ t us → ⊥) → position t (us ++ vs) ≡ length us + position t vs
-unfolding position if◌then◌else◌
+unfolding position test◌then◌else◌
 far t [] vs n = omega arith
 far t (u ∷ us) vs n = rw (same_no t u (λ e. n (Memᴰ.head e))) (omega (arith, far t us vs (λ m. n (Memᴰ.tail m))))
 
 pub here : (t : Ty) (us : List Ty) → position t (t ∷ us) ≡ 0
-unfolding position if◌then◌else◌
+unfolding position test◌then◌else◌
 here t us = rw (same_yes t t refl)
 
 pub later : (t u : Ty) (us : List Ty) → (t ≡ u → ⊥) → position t (u ∷ us) ≡ suc (position t us)
-unfolding position if◌then◌else◌
+unfolding position test◌then◌else◌
 later t u us n = rw (same_no t u n)
 
 -- ---- the order is that in which a walk first completes the types

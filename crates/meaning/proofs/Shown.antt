@@ -9,7 +9,7 @@ use borrow.Author.Tests.{leb-true}
 use lib.Dec.{leb}
 use lib.ListN.{length, replicate, length-append}
 use Rattle.meaning.specs.Limits.{longest_name, longest_shown, largest_show, largest_changes}
-use Rattle.meaning.specs.Base.{if◌then◌else◌, choose, bytes}
+use Rattle.meaning.specs.Base.{test◌then◌else◌, choose, bytes}
 use Rattle.meaning.specs.Types.{Ty, unknown, int, bool, string, float, nonetype, range, function, list, dict, tuple, map_iter, filter_iter, tys, kind, text}
 use Rattle.meaning.specs.Image.{text_stands}
 use Rattle.meaning.specs.Sheet.{Entry, sheet_of, texts_stand, within_limits}
@@ -24,7 +24,7 @@ use Rattle.meaning.proofs.Changed.{Differ, none_left, comes, goes, stays, turns,
 -- ---- how long a line can be
 
 dotted_short : (t : Ty) → length (dotted (kind t)) ≤ longest_shown
-unfolding dotted kind choose if◌then◌else◌ bytes
+unfolding dotted kind choose test◌then◌else◌ bytes
 dotted_short unknown = omega arith
 dotted_short int = omega arith
 dotted_short bool = omega arith
@@ -57,10 +57,10 @@ long_structured (map_iter t) h = omega arith
 long_structured (filter_iter t) h = omega arith
 
 pub shown_short : (t : Ty) → length (shown t) ≤ longest_shown
-unfolding shown if◌then◌else◌
+unfolding shown test◌then◌else◌
 shown_short t = by (leb (length (text t)) longest_shown) refl
   where
-    by : (b : Bool) → leb (length (text t)) longest_shown ≡ b → length (if b then text t else dotted (kind t)) ≤ longest_shown
+    by : (b : Bool) → leb (length (text t)) longest_shown ≡ b → length (test b then text t else dotted (kind t)) ≤ longest_shown
     by true e = leb-true (length (text t)) longest_shown e
     by false e = dotted_short t
 

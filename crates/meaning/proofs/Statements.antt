@@ -8,7 +8,7 @@ use native.Mathlib.Omega.{arith}
 use borrow.Author.Tests.{le-leb, lt-leb}
 use lib.ListN.{length}
 use Rattle.meaning.specs.Limits.{most_frames}
-use Rattle.meaning.specs.Base.{if◌then◌else◌, if_some}
+use Rattle.meaning.specs.Base.{test◌then◌else◌, if_some}
 use Rattle.meaning.specs.Types.{Ty}
 use Rattle.meaning.specs.Tree.{Expr, Stmt, Stmts, ◌next◌, Arms, ◌else_arms◌, Arm, on, while, for, def, place}
 use Rattle.meaning.specs.Image.{Name}
@@ -136,11 +136,11 @@ module _ (ws : List Name) (setting : Setting) where
   module _ (loop : Bool) (n : ℕ) (xs : List ℕ) (b : Stmts) (s : State) where
     -- "a Def needs a ninth frame"
     pub def_ninth : most_frames ≤ length s.frames → act ws setting loop n (def xs b) s ≡ too_deep n
-    unfolding act if_room if◌then◌else◌
+    unfolding act if_room test◌then◌else◌
     def_ninth h = rw (lt-leb (suc (length s.frames)) most_frames (omega arith))
 
     room : length s.frames < most_frames → act ws setting loop n (def xs b) s ≡ after (with_returns s.returns) (popped (body ws setting false false b (enter xs s)))
-    unfolding act if_room if◌then◌else◌
+    unfolding act if_room test◌then◌else◌
     room h = rw (le-leb (suc (length s.frames)) most_frames h)
 
     -- one that ends well pops its frame

@@ -7,7 +7,7 @@ use mathlib.Core.Option.{Option, none, some}
 use Prim.Native.Nat.{ℕ, ◌<◌}
 use native.Mathlib.Omega.{arith}
 use lib.ListN.{length}
-use Rattle.meaning.specs.Base.{choose, if◌then◌else◌, if_some}
+use Rattle.meaning.specs.Base.{choose, test◌then◌else◌, if_some}
 use Rattle.meaning.specs.Types.{Ty, unknown, bool}
 use Rattle.meaning.specs.Tree.{at, literal, Stmt, line, Act, break, continue, pass, class, assign, expr, return, if_then, while, for, def, Stmts, no_stmts, ◌next◌, Arms, no_arms, ◌else_arms◌, Arm, on, otherwise, first_condition}
 use Rattle.meaning.specs.Image.{Name, Node, Fault, check_fault, names_of, nodes_of}
@@ -68,8 +68,8 @@ popped_agrees (done s) e h = rw h
 popped_agrees (wrong r s) e h = tt
 popped_agrees (too_deep n) e h = rw h
 
-if_agrees : (b : Bool) (c d e : End) → Agrees c d → Agrees (if b then c else e) (if b then d else e)
-unfolding if◌then◌else◌
+if_agrees : (b : Bool) (c d e : End) → Agrees c d → Agrees (test b then c else e) (test b then d else e)
+unfolding test◌then◌else◌
 if_agrees true c d e h = h
 if_agrees false c d e h = same_agrees e
 
@@ -271,7 +271,7 @@ module _ (bs : List ℕ) (sheet_room message_room : ℕ) where
 
   -- unless strict gives a typing code, plain gives the same answer
   pub plain_answers : (answer 1 bs sheet_room message_room).code < 20 → answer 0 bs sheet_room message_room ≡ answer 1 bs sheet_room message_room
-  unfolding answer setting_of choose if_some if◌then◌else◌
+  unfolding answer setting_of choose if_some test◌then◌else◌
   plain_answers l = under_agrees l
 
   -- "what strict accepts, plain accepts with the same sheet"

@@ -1,7 +1,7 @@
 -- What comes back: "Code, place, span, sheet length, message length", and the second span of "point at the first place too".
 use Rattle.std.specs.Prelude.{List, [], ◌∷◌, ◌++◌, ℕ, leb, length, drop}
 use Rattle.std.proofs.Math.Option.{Option, none, some}
-use Rattle.meaning.specs.Base.{if◌then◌else◌, choose, if_some, base_open}
+use Rattle.meaning.specs.Base.{test◌then◌else◌, choose, if_some, base_open}
 use Rattle.meaning.specs.Types.{types_open}
 use Rattle.meaning.specs.Tree.{tree_open}
 use Rattle.meaning.specs.Bound.{bound_open}
@@ -33,13 +33,13 @@ bare c n = record { code = c; place = n; span_start = 0; span_end = 0; second_st
 -- "Code 0 writes the sheet"; 10: "accepted, but the sheet buffer is too short"
 unfoldable pub written : ℕ → List ℕ → Answer
 written room bs =
-    if leb (length bs) room
+    test leb (length bs) room
     then record { code = 0; place = 0; span_start = 0; span_end = 0; second_start = 0; second_end = 0; sheet = bs; message = [] }
     else bare 10 0
 
 -- "Codes 20..50 write the message at the front of the message buffer if it fits; if not, .. length is 0 and no byte changes."
 unfoldable pub fitting : ℕ → List ℕ → List ℕ
-fitting room bs = if leb (length bs) room then bs else []
+fitting room bs = test leb (length bs) room then bs else []
 
 -- how the walk ended, over the image's names and nodes. "Codes 25 and 23 answer with a second span .. ; every other code has 0,0 there."
 unfoldable pub ended : List Name → List Node → ℕ → ℕ → End → Answer

@@ -18,15 +18,15 @@ true or b = true
 false or b = b
 
 -- An argument is computed whether it is needed or not, and a `let` is not: so a branch that recurs is bound by a `let` first.
-infix 5 if◌then◌else◌
-unfoldable pub if◌then◌else◌ {ℓ} : {A : Type ℓ} → Bool → A → A → A
-if◌then◌else◌ true a b = a
-if◌then◌else◌ false a b = b
+infix 5 test◌then◌else◌
+unfoldable pub test◌then◌else◌ {ℓ} : {A : Type ℓ} → Bool → A → A → A
+test◌then◌else◌ true a b = a
+test◌then◌else◌ false a b = b
 
 -- the row of k, and d where k has none
 unfoldable pub choose {ℓ} : {A : Type ℓ} → ℕ → A → List (ℕ × A) → A
 choose k d [] = d
-choose k d (r ∷ rs) = let later = choose k d rs in if eqb k r.0 then r.1 else later
+choose k d (r ∷ rs) = let later = choose k d rs in test eqb k r.0 then r.1 else later
 
 -- f of what is there, and b where nothing is
 unfoldable pub if_some {ℓ κ} : {A : Type ℓ} {B : Type κ} → Option A → (A → B) → B → B
@@ -70,13 +70,13 @@ is_one_of s (t ∷ ts) = same_text s (bytes t) or is_one_of s ts
 unfoldable pub before : List ℕ → List ℕ → Bool
 before xs [] = false
 before [] (y ∷ ys) = true
-before (x ∷ xs) (y ∷ ys) = let later = before xs ys in if eqb x y then later else ltb x y
+before (x ∷ xs) (y ∷ ys) = let later = before xs ys in test eqb x y then later else ltb x y
 
 -- at most so many digits
 unfoldable pub digits : ℕ → ℕ → List ℕ
 digits zero n = []
 digits (suc most) n =
-    let higher = digits most (n / 10) in if ltb n 10 then (48 + n) ∷ [] else higher ++ ((48 + n % 10) ∷ [])
+    let higher = digits most (n / 10) in test ltb n 10 then (48 + n) ∷ [] else higher ++ ((48 + n % 10) ∷ [])
 
 -- a u32 in decimal: it has no more than ten digits
 unfoldable pub decimal : ℕ → List ℕ
@@ -98,5 +98,5 @@ records read size (suc n) bs = read bs ∷ records read size n (drop size bs)
 
 -- Each file ends with such a name: to unfold it is to unfold the file.
 unfoldable pub base_open : Unit {0}
-unfolding ◌and◌ ◌or◌ if◌then◌else◌ choose if_some or_else is_in all count bytes same_text is_one_of before digits decimal words records
+unfolding ◌and◌ ◌or◌ test◌then◌else◌ choose if_some or_else is_in all count bytes same_text is_one_of before digits decimal words records
 base_open = tt

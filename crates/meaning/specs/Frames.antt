@@ -2,7 +2,7 @@
 use Rattle.std.specs.Prelude.{List, [], ◌∷◌, ℕ, get_or, set, replicate}
 use Rattle.std.proofs.Math.Option.{Option, none, some}
 use Rattle.meaning.specs.Limits.{most_names}
-use Rattle.meaning.specs.Base.{if◌then◌else◌, if_some, or_else}
+use Rattle.meaning.specs.Base.{test◌then◌else◌, if_some, or_else}
 use Rattle.meaning.specs.Types.{Ty, unknown, same}
 
 -- A type, and "the node that first made it known: the Variable assigned, or the iterable for a loop name. Unknown has none".
@@ -19,7 +19,7 @@ blank = binding unknown none
 
 -- t, known since the old node, or since n where there is none: "an equal or Unknown assignment keeps the old node"
 unfoldable pub since : Option ℕ → ℕ → Ty → Binding
-since old n t = binding t (if_some old some (if same t unknown then none else some n))
+since old n t = binding t (if_some old some (test same t unknown then none else some n))
 
 -- A frame has a slot for each name that an image can have. Names are numbered in byte order, and so are the slots.
 abbrev pub Frame : Type 0

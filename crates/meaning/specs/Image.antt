@@ -2,7 +2,7 @@
 use Rattle.std.specs.Prelude.{Bool, true, false, not, List, [], ◌∷◌, map, ℕ, zero, suc, ◌+◌, ◌-◌, ◌*◌, ◌%◌, eqb, leb, ltb, length, get_or, take, drop}
 use Rattle.std.proofs.Math.Option.{Option, none, some}
 use Rattle.meaning.specs.Limits.{most_names, most_nodes, most_text, longest_name, deepest}
-use Rattle.meaning.specs.Base.{◌and◌, ◌or◌, if◌then◌else◌, if_some, choose, all, is_one_of, before, word, records}
+use Rattle.meaning.specs.Base.{◌and◌, ◌or◌, test◌then◌else◌, if_some, choose, all, is_one_of, before, word, records}
 
 -- ---- "Header, 8 words: version 1; name count N; names offset; node count M; nodes offset; text byte count; texts offset; total
 -- length. Areas follow in that order from byte 32 with no gaps."
@@ -141,11 +141,11 @@ role_stands r =
 
 -- the first that breaks them: "texts lie end to end in record order, fill the text area (if they stop short of its end, the place is N)"
 unfoldable pub wrong_name : List ℕ → ℕ → ℕ → List ℕ → List NameRecord → Option ℕ
-wrong_name texts i from last [] = if eqb from (length texts) then none else some i
+wrong_name texts i from last [] = test eqb from (length texts) then none else some i
 wrong_name texts i from last (r ∷ rs) =
     let s : List ℕ = take r.size (drop from texts) in
     let later : Option ℕ = wrong_name texts (suc i) (from + r.size) s rs in
-    if eqb r.start from and eqb (length s) r.size and text_stands last s and role_stands r then later else some i
+    test eqb r.start from and eqb (length s) r.size and text_stands last s and role_stands r then later else some i
 
 -- ---- 5: "int, float, bool, str, len or assert is a builtin allowing 0 arguments; map or filter one allowing under 2"
 
@@ -200,10 +200,10 @@ belongs parent c j k =
     let last : Bool = eqb (j + 1) c in
     let block : Bool = eqb k 12 in
     choose parent (is_expression k)
-    ((8, if last or eqb (j % 2) 1 then block else is_expression k)
-    ∷ (9, if last then block else is_expression k)
-    ∷ (10, if last then block else is_expression k)
-    ∷ (11, if last then block else eqb k 13)
+    ((8, test last or eqb (j % 2) 1 then block else is_expression k)
+    ∷ (9, test last then block else is_expression k)
+    ∷ (10, test last then block else is_expression k)
+    ∷ (11, test last then block else eqb k 13)
     ∷ (12, is_statement k)
     ∷ [])
 
@@ -221,7 +221,7 @@ nests ds i d = lands ds d (suc i) d.children and (ltb 0 i or eqb d.kind 12 and e
 
 unfoldable pub depth : ℕ → ℕ → List Node → ℕ
 depth i j [] = 0
-depth i j (d ∷ ds) = (if leb j i and ltb i d.stop then 1 else 0) + depth i (suc j) ds
+depth i j (d ∷ ds) = (test leb j i and ltb i d.stop then 1 else 0) + depth i (suc j) ds
 
 -- ---- "Checks run in this order, lowest name or node first"; "6 is looked for in all nodes before 7, and 7 before 8"
 
@@ -230,12 +230,12 @@ pub record Fault : Type 0 where
   pub place : ℕ
 
 unfoldable pub unless : Bool → Option ℕ
-unless b = if b then none else some 0
+unless b = test b then none else some 0
 
 -- the first element that fails a test, numbered from i
 unfoldable pub first_not : {A : Type 0} → (ℕ → A → Bool) → ℕ → List A → Option ℕ
 first_not f i [] = none
-first_not f i (x ∷ xs) = let later = first_not f (suc i) xs in if f i x then later else some i
+first_not f i (x ∷ xs) = let later = first_not f (suc i) xs in test f i x then later else some i
 
 -- the first code whose search finds a place
 unfoldable pub first_found : List (ℕ × Option ℕ) → Option Fault

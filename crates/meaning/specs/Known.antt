@@ -1,7 +1,7 @@
 -- Known stays known (document 02, request Ten): "no Def anywhere inside an If", whether an image has that, and where the walk stands "after
 -- each accepted module statement".
 use Rattle.std.specs.Prelude.{◌≡◌, Bool, true, false, List, [], ◌∷◌, ◌++◌, ℕ, zero, suc}
-use Rattle.meaning.specs.Base.{if◌then◌else◌, if_some}
+use Rattle.meaning.specs.Base.{test◌then◌else◌, if_some}
 use Rattle.meaning.specs.Tree.{Stmt, line, Act, break, continue, pass, class, assign, expr, return, if_then, while, for, def, Stmts, no_stmts, ◌next◌, Arms, no_arms, ◌else_arms◌, Arm, on, otherwise}
 use Rattle.meaning.specs.Image.{Fault, image_fault, Name, Node, node_of, nodes_of}
 use Rattle.meaning.specs.Decode.{tree_of}
@@ -30,7 +30,7 @@ unfoldable mutual
   defs_of inside n (if_then arms) = defs_among arms
   defs_of inside n (while c b) = defs_in inside b
   defs_of inside n (for x e b) = defs_in inside b
-  defs_of inside n (def xs b) = (if inside then n ∷ [] else []) ++ defs_in inside b
+  defs_of inside n (def xs b) = (test inside then n ∷ [] else []) ++ defs_in inside b
 
   pub defs_among : Arms → List ℕ
   defs_among no_arms = []

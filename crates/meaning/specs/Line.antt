@@ -1,7 +1,7 @@
 -- The line that the program `typecheck` prints.
 use Rattle.std.specs.Prelude.{List, [], ◌∷◌, ◌++◌, ℕ, eqb, length, take}
 use Rattle.meaning.specs.Limits.{sheet_buffer, message_buffer, read_at_most}
-use Rattle.meaning.specs.Base.{if◌then◌else◌, bytes, same_text, decimal, word}
+use Rattle.meaning.specs.Base.{test◌then◌else◌, bytes, same_text, decimal, word}
 use Rattle.meaning.specs.Answer.{Answer, answer}
 
 -- numbers, each after a space
@@ -17,17 +17,17 @@ accepted_line sheet = bytes "accepted" ++ spaced (word sheet 20 ∷ word sheet 4
 unfoldable pub refused_line : Answer → List ℕ
 refused_line a =
     bytes "refused" ++ spaced (a.code ∷ a.place ∷ a.span_start ∷ a.span_end ∷ []) ++ bytes " "
-    ++ (if eqb (length a.message) 0 then bytes "-" else a.message)
+    ++ (test eqb (length a.message) 0 then bytes "-" else a.message)
     ++ bytes "\n"
 
 unfoldable pub line_of : Answer → List ℕ
-line_of a = if eqb a.code 0 then accepted_line a.sheet else refused_line a
+line_of a = test eqb a.code 0 then accepted_line a.sheet else refused_line a
 
 -- the setting's number by the words behind the program's name: no word is plain, `plain` and `strict` name their own, anything else is none
 -- of the two
 unfoldable pub setting_told : List (List ℕ) → ℕ
 setting_told [] = 0
-setting_told (w ∷ []) = if same_text w (bytes "plain") then 0 else if same_text w (bytes "strict") then 1 else 2
+setting_told (w ∷ []) = test same_text w (bytes "plain") then 0 else test same_text w (bytes "strict") then 1 else 2
 setting_told (w ∷ v ∷ ws) = 2
 
 -- what is printed for the words and for what stands on standard input: "it reads at most 59,937 bytes and judges those"

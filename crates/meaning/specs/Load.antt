@@ -1,6 +1,6 @@
 -- The load rule: "A script loads unseen exactly when it is accepted and its type sheet equals the last approved sheet, byte for byte."
 use Rattle.std.specs.Prelude.{List, ℕ, eqb}
-use Rattle.meaning.specs.Base.{if◌then◌else◌, same_text}
+use Rattle.meaning.specs.Base.{test◌then◌else◌, same_text}
 use Rattle.meaning.specs.Answer.{Answer}
 
 -- it loads unseen; it is accepted with another sheet, and someone must look; or the check refused it, code 10 among the reasons
@@ -9,7 +9,7 @@ pub data Loading : Type 0 where
 
 -- of the check's answer and the last approved sheet, whatever bytes that is
 unfoldable pub loading : Answer → List ℕ → Loading
-loading a approved = if eqb a.code 0 then if same_text a.sheet approved then loads else look else refused
+loading a approved = test eqb a.code 0 then test same_text a.sheet approved then loads else look else refused
 
 -- the number of each, for other languages and as a program's exit status
 abbrev pub loading_number : Loading → ℕ

@@ -2,7 +2,7 @@
 use Rattle.std.specs.Prelude.{List, [], ◌∷◌, ◌++◌, ℕ, eqb}
 use Rattle.std.proofs.Math.Option.{Option, none}
 use Prim.Native.String.{String}
-use Rattle.meaning.specs.Base.{if◌then◌else◌, bytes, choose, decimal}
+use Rattle.meaning.specs.Base.{test◌then◌else◌, bytes, choose, decimal}
 use Rattle.meaning.specs.Types.{Ty, text}
 
 -- what a message names
@@ -74,7 +74,7 @@ fill (c ∷ cs) [] = c ∷ fill cs []
 fill (c ∷ cs) (p ∷ ps) =
     let put : List ℕ = said p ++ fill cs ps in
     let kept : List ℕ = c ∷ fill cs (p ∷ ps) in
-    if eqb c 95 then put else kept
+    test eqb c 95 then put else kept
 
 unfoldable pub message : Refusal → List ℕ
 message r = fill (bytes (template r.code)) r.names

@@ -1,7 +1,7 @@
 -- Operators. Their answers go by the kinds of their operands, but for == and != of two structured types of one kind: there the whole
 -- types are compared. So 14 x 13 x 13 numbers say it all.
 use Rattle.std.specs.Prelude.{Bool, List, [], ◌∷◌, ℕ, eqb, ltb}
-use Rattle.meaning.specs.Base.{◌and◌, ◌or◌, if◌then◌else◌, is_in}
+use Rattle.meaning.specs.Base.{◌and◌, ◌or◌, test◌then◌else◌, is_in}
 use Rattle.meaning.specs.Types.{Ty, unknown, int, bool, string, float, same, kind, plain}
 use Rattle.meaning.specs.Tree.{UnaryOp, not_op, negate, pos, BinaryOp, add, subtract, multiply, divide, floor_divide, modulo, equal, not_equal, less, less_equal, greater, greater_equal, and_op, or_op}
 use Rattle.meaning.specs.Message.{Piece, a_type, Refusal, refusal}
@@ -19,7 +19,7 @@ refused r >>= k = refused r
 
 -- t if the test holds, else code c at node n
 unfoldable pub when : Bool → Ty → ℕ → ℕ → List Piece → Checked
-when b t c n ps = if b then ok t else refused (refusal c n ps)
+when b t c n ps = test b then ok t else refused (refusal c n ps)
 
 -- ---- T's pairs of operands with their result; all are plain types
 
@@ -47,18 +47,18 @@ whole_types = 8
 unfoldable pub by_rows : ℕ → Rows → ℕ → ℕ → ℕ
 by_rows c [] a b = c
 by_rows c (r ∷ rs) a b =
-    let later = by_rows c rs a b in if eqb a (kind r.0) and eqb b (kind r.1) then kind r.2 else later
+    let later = by_rows c rs a b in test eqb a (kind r.0) and eqb b (kind r.1) then kind r.2 else later
 
 -- a result that is there becomes r
 unfoldable pub instead : ℕ → ℕ → ℕ
-instead r x = if ltb x whole_types then r else x
+instead r x = test ltb x whole_types then r else x
 
 -- Unknown equals anything, Int and Float each other, and else only equal types do
 unfoldable pub equated : ℕ → ℕ → ℕ
 equated a b =
-    if eqb a (kind unknown) or eqb b (kind unknown) or eqb a (kind int) and eqb b (kind float) or eqb a (kind float) and eqb b (kind int)
+    test eqb a (kind unknown) or eqb b (kind unknown) or eqb a (kind int) and eqb b (kind float) or eqb a (kind float) and eqb b (kind int)
     then kind bool
-    else if eqb a b then (if ltb a whole_types then kind bool else whole_types) else 32
+    else test eqb a b then (test ltb a whole_types then kind bool else whole_types) else 32
 
 unfoldable pub operator_answer : BinaryOp → ℕ → ℕ → ℕ
 operator_answer add a b = by_rows 29 sums a b
@@ -78,9 +78,9 @@ operator_answer or_op a b = kind bool
 
 -- "`not` of Unknown is Bool"
 unfoldable pub unary_answer : UnaryOp → ℕ → ℕ
-unary_answer not_op a = if is_in a (kind bool ∷ kind unknown ∷ []) then kind bool else 35
-unary_answer negate a = if is_in a (kind int ∷ kind float ∷ kind unknown ∷ []) then a else 34
-unary_answer pos a = if is_in a (kind int ∷ kind float ∷ kind unknown ∷ []) then a else 34
+unary_answer not_op a = test is_in a (kind bool ∷ kind unknown ∷ []) then kind bool else 35
+unary_answer negate a = test is_in a (kind int ∷ kind float ∷ kind unknown ∷ []) then a else 34
+unary_answer pos a = test is_in a (kind int ∷ kind float ∷ kind unknown ∷ []) then a else 34
 
 -- ---- the rules, at node n
 
@@ -88,14 +88,14 @@ unary_answer pos a = if is_in a (kind int ∷ kind float ∷ kind unknown ∷ []
 unfoldable pub answered : ℕ → Ty → Ty → ℕ → Checked
 answered n a b x =
     let both : List Piece = a_type a ∷ a_type b ∷ [] in
-    if ltb x whole_types then ok (plain x) else if eqb x whole_types then when (same a b) bool 32 n both else refused (refusal x n both)
+    test ltb x whole_types then ok (plain x) else test eqb x whole_types then when (same a b) bool 32 n both else refused (refusal x n both)
 
 unfoldable pub binary_rule : ℕ → BinaryOp → Ty → Ty → Checked
 binary_rule n o a b = answered n a b (operator_answer o (kind a) (kind b))
 
 unfoldable pub unary_rule : ℕ → UnaryOp → Ty → Checked
 unary_rule n o t =
-    let x : ℕ = unary_answer o (kind t) in if ltb x whole_types then ok (plain x) else refused (refusal x n (a_type t ∷ []))
+    let x : ℕ = unary_answer o (kind t) in test ltb x whole_types then ok (plain x) else refused (refusal x n (a_type t ∷ []))
 
 unfoldable pub operators_open : Unit {0}
 unfolding ◌>>=◌ when numbers sums products by_rows instead equated operator_answer unary_answer answered binary_rule unary_rule

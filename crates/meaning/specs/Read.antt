@@ -2,7 +2,7 @@
 use Rattle.std.specs.Prelude.{Bool, true, List, [], ◌∷◌, ◌++◌, map, ◌≡◌, ℕ, ◌+◌, ◌-◌, ◌*◌, leb, ltb, get_or, take, drop}
 use Rattle.std.proofs.Math.Option.{Option, none, some}
 use Rattle.meaning.specs.Limits.{most_names, most_types, most_elements}
-use Rattle.meaning.specs.Base.{◌and◌, if◌then◌else◌, choose, same_text, word, records}
+use Rattle.meaning.specs.Base.{◌and◌, test◌then◌else◌, choose, same_text, word, records}
 use Rattle.meaning.specs.Types.{Ty, unknown, list, dict, tuple, map_iter, filter_iter, tys, plain}
 use Rattle.meaning.specs.Sheet.{Entry, Triple, sheet_of, within_limits}
 
@@ -10,7 +10,7 @@ use Rattle.meaning.specs.Sheet.{Entry, Triple, sheet_of, within_limits}
 
 -- the type of a number, over the types us
 unfoldable pub numbered : List Ty → ℕ → Ty
-numbered us n = if ltb n 8 then plain n else get_or us (n - 8) unknown
+numbered us n = test ltb n 8 then plain n else get_or us (n - 8) unknown
 
 unfoldable pub triple : List ℕ → Triple
 triple bs = (word bs 0, word bs 4, word bs 8)
@@ -54,7 +54,7 @@ is_sheet bs =
     leb (word bs 4) most_types and leb (word bs 12) most_elements and leb (word bs 20) most_names and same
 
 unfoldable pub read_sheet : List ℕ → Option (List Entry)
-read_sheet bs = let es : List Entry = entries_in bs in if is_sheet bs then some es else none
+read_sheet bs = let es : List Entry = entries_in bs in test is_sheet bs then some es else none
 
 -- the same, said without a reader
 pub record SheetOf (bs : List ℕ) (es : List Entry) : Type 0 where

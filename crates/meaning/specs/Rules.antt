@@ -1,7 +1,7 @@
 -- The type of an expression, or its refusal (T's tc_expr). An expression never changes the frames.
 use Rattle.std.specs.Prelude.{List, [], ◌∷◌, ◌++◌, ℕ, suc, eqb, length, get_or}
 use Rattle.std.proofs.Math.Option.{Option, none, some}
-use Rattle.meaning.specs.Base.{◌and◌, ◌or◌, if◌then◌else◌, choose, if_some, is_in, bytes, same_text, decimal}
+use Rattle.meaning.specs.Base.{◌and◌, ◌or◌, test◌then◌else◌, choose, if_some, is_in, bytes, same_text, decimal}
 use Rattle.meaning.specs.Types.{Ty, unknown, int, bool, string, float, nonetype, range, function, list, dict, tuple, map_iter, filter_iter, same, maybe, tys, kind, parts, part, common}
 use Rattle.meaning.specs.Tree.{Expr, at, Form, literal, variable, unary, binary, call, attribute, list_of, dict_of, tuple_of, set_of, index, lambda, Exprs, no_exprs, ◌also◌, place, called}
 use Rattle.meaning.specs.Image.{Role, plain, exactly, between, any, takes, Name, name_of, allows}
@@ -35,11 +35,11 @@ first_then t cs = (child 0 cs).1 >>= λ a. ok t
 -- a is the element type so far
 unfoldable pub list_rule : Ty → Children → Checked
 list_rule a [] = ok (list a)
-list_rule a (c ∷ cs) = c.1 >>= λ t. let later = list_rule t cs in if same a unknown or same a t then later else ok (list unknown)
+list_rule a (c ∷ cs) = c.1 >>= λ t. let later = list_rule t cs in test same a unknown or same a t then later else ok (list unknown)
 
 -- Unknown gives way, equal stays, a mismatch is Unknown
 unfoldable pub joined : Ty → Ty → Ty
-joined a t = if same a unknown or same a t then t else unknown
+joined a t = test same a unknown or same a t then t else unknown
 
 -- k and v are the key and value types so far
 unfoldable pub dict_rule : Ty → Ty → Children → Checked
@@ -49,7 +49,7 @@ dict_rule k v (c ∷ d ∷ cs) = do
   a ← c.1
   b ← d.1
   let later : Checked = dict_rule (joined k a) (joined v b) cs
-  if same (joined k a) unknown and same (joined v b) unknown then ok (dict unknown unknown) else later
+  test same (joined k a) unknown and same (joined v b) unknown then ok (dict unknown unknown) else later
 
 -- ---- what a walk over a value gives: none where the type is not iterable
 
@@ -68,7 +68,7 @@ element_of t =
 
 -- "map refuses Dict and Tuple, For accepts both", and filter does as map
 unfoldable pub streamed : Ty → Option Ty
-streamed t = if is_in (kind t) (9 ∷ 10 ∷ []) then none else element_of t
+streamed t = test is_in (kind t) (9 ∷ 10 ∷ []) then none else element_of t
 
 -- ---- Index: an object of type t at node m, an index of type i at node n
 
@@ -88,7 +88,7 @@ index_rule m t n i =
 unfoldable pub input_rule : ℕ → Children → Checked
 input_rule n cs =
     let prompted : Checked = (child 0 cs).1 >>= λ a. when (maybe string a) string 39 n (a_type a ∷ []) in
-    if eqb (length cs) 1 then prompted else ok string
+    test eqb (length cs) 1 then prompted else ok string
 
 -- of Unknown, String, List, Dict, Tuple
 unfoldable pub len_rule : ℕ → Children → Checked
@@ -108,7 +108,7 @@ stream_rule c f cs = do
 
 unfoldable pub choose_text : List ℕ → Checked → List (List ℕ × Checked) → Checked
 choose_text s d [] = d
-choose_text s d (r ∷ rs) = let later = choose_text s d rs in if same_text s r.0 then r.1 else later
+choose_text s d (r ∷ rs) = let later = choose_text s d rs in test same_text s r.0 then r.1 else later
 
 -- "A builtin's rule is chosen by its text, compared byte by byte."
 unfoldable pub builtin_rule : ℕ → List ℕ → Children → Checked
@@ -131,7 +131,7 @@ builtin_rule n s cs =
 unfoldable pub described : Role → List ℕ
 described plain = []
 described (exactly p) = decimal p
-described (between p q) = if eqb p q then decimal p else decimal p ++ bytes "-" ++ decimal q
+described (between p q) = test eqb p q then decimal p else decimal p ++ bytes "-" ++ decimal q
 described any = bytes "any"
 described (takes p) = decimal p
 

@@ -2,7 +2,7 @@
 use Rattle.std.specs.Prelude.{Bool, true, false, List, [], ◌∷◌, ◌++◌, map, ℕ, suc, ◌+◌, ◌*◌, eqb, leb, ltb, length, get_or}
 use Rattle.std.proofs.Math.Option.{Option, none, some}
 use Rattle.meaning.specs.Limits.{most_names, most_types, most_elements}
-use Rattle.meaning.specs.Base.{◌and◌, if◌then◌else◌, if_some, or_else, is_in, count, words}
+use Rattle.meaning.specs.Base.{◌and◌, test◌then◌else◌, if_some, or_else, is_in, count, words}
 use Rattle.meaning.specs.Types.{Ty, unknown, int, bool, string, float, nonetype, range, function, list, dict, tuple, map_iter, filter_iter, Tys, no_types, ◌⊕◌, same, kind, parts}
 use Rattle.meaning.specs.Tree.{Stmts}
 use Rattle.meaning.specs.Bound.{may_bind}
@@ -46,7 +46,7 @@ laid (r ∷ rs) = r.0 ∷ r.1 ∷ r.2 ∷ laid rs
 
 unfoldable pub add_new : Ty → List Ty → List Ty
 add_new t [] = t ∷ []
-add_new t (u ∷ us) = let later = add_new t us in if same t u then u ∷ us else u ∷ later
+add_new t (u ∷ us) = let later = add_new t us in test same t u then u ∷ us else u ∷ later
 
 unfoldable mutual
   pub met : Ty → List Ty → List Ty
@@ -76,14 +76,14 @@ types_of (e ∷ es) us = types_of es (met e.1 us)
 
 unfoldable pub position : Ty → List Ty → ℕ
 position t [] = 0
-position t (u ∷ us) = let later = position t us in if same t u then 0 else suc later
+position t (u ∷ us) = let later = position t us in test same t u then 0 else suc later
 
 unfoldable pub number : List Ty → Ty → ℕ
-number us t = let above = position t us in if ltb (kind t) 8 then kind t else 8 + above
+number us t = let above = position t us in test ltb (kind t) 8 then kind t else 8 + above
 
 -- "Elements lie in record order."
 unfoldable pub elements_in : Ty → List Ty
-elements_in t = if eqb (kind t) 10 then parts t else []
+elements_in t = test eqb (kind t) 10 then parts t else []
 
 unfoldable pub elements_of : List Ty → List Ty
 elements_of [] = []
@@ -94,7 +94,7 @@ elements_of (t ∷ ts) = elements_in t ++ elements_of ts
 unfoldable pub type_record : List Ty → ℕ → Ty → Triple
 type_record us from t =
     let p : ℕ → ℕ = λ i. get_or (map (number us) (parts t)) i 0 in
-    if eqb (kind t) 10 then (10, from, length (parts t)) else (kind t, p 0, p 1)
+    test eqb (kind t) 10 then (10, from, length (parts t)) else (kind t, p 0, p 1)
 
 unfoldable pub type_records : List Ty → ℕ → List Ty → List Triple
 type_records us from [] = []

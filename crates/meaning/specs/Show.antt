@@ -3,7 +3,7 @@
 use Rattle.std.specs.Prelude.{List, [], ◌∷◌, ◌++◌, ℕ, leb, length}
 use Rattle.std.proofs.Math.Option.{Option, none, some}
 use Rattle.meaning.specs.Limits.{longest_shown}
-use Rattle.meaning.specs.Base.{if◌then◌else◌, choose, if_some, bytes, before}
+use Rattle.meaning.specs.Base.{test◌then◌else◌, choose, if_some, bytes, before}
 use Rattle.meaning.specs.Types.{Ty, same, kind, text}
 use Rattle.meaning.specs.Sheet.{Entry}
 use Rattle.meaning.specs.Read.{read_sheet}
@@ -15,7 +15,7 @@ unfoldable pub dotted : ℕ → List ℕ
 dotted k = bytes (choose k "" ((8, "List(..)") ∷ (9, "Dict(..)") ∷ (10, "Tuple(..)") ∷ (11, "MapIter(..)") ∷ (12, "FilterIter(..)") ∷ []))
 
 unfoldable pub shown : Ty → List ℕ
-shown t = if leb (length (text t)) longest_shown then text t else dotted (kind t)
+shown t = test leb (length (text t)) longest_shown then text t else dotted (kind t)
 
 -- ---- entries: `step: Int`
 
@@ -44,7 +44,7 @@ changes_text (c ∷ cs) = change_text c ++ bytes "\n" ++ changes_text cs
 
 -- two types of one name
 unfoldable pub retyped : List ℕ → Ty → Ty → List Change → List Change
-retyped s t u cs = if same t u then cs else turned s t u ∷ cs
+retyped s t u cs = test same t u then cs else turned s t u ∷ cs
 
 -- the entries of a new sheet against the old entry o and those behind it, of which `later` tells: the names of both ascend, so what comes
 -- before o's name is new, and what comes after it leaves o behind
@@ -54,7 +54,7 @@ against o later (n ∷ ns) =
     let rest : List Change = against o later ns in
     let gone : List Change = later (n ∷ ns) in
     let both : List Change = later ns in
-    if before n.0 o.0 then came n ∷ rest else if before o.0 n.0 then went o ∷ gone else retyped o.0 o.1 n.1 both
+    test before n.0 o.0 then came n ∷ rest else test before o.0 n.0 then went o ∷ gone else retyped o.0 o.1 n.1 both
 
 unfoldable pub all_came : List Entry → List Change
 all_came [] = []
@@ -73,7 +73,7 @@ pub record InWords : Type 0 where
   pub text : List ℕ
 
 unfoldable pub in_words : ℕ → List ℕ → InWords
-in_words room s = if leb (length s) room then record { code = 0; text = s } else record { code = 10; text = [] }
+in_words room s = test leb (length s) room then record { code = 0; text = s } else record { code = 10; text = [] }
 
 abbrev pub no_sheet : InWords
 no_sheet = record { code = 12; text = [] }

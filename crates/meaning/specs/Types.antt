@@ -1,6 +1,6 @@
 -- The types of the check (T's Ty): when two are equal, a type's kind and parts, and its text.
 use Rattle.std.specs.Prelude.{Bool, true, false, List, [], ◌∷◌, ◌++◌, ℕ, get_or}
-use Rattle.meaning.specs.Base.{◌or◌, if◌then◌else◌, bytes, all}
+use Rattle.meaning.specs.Base.{◌or◌, test◌then◌else◌, bytes, all}
 
 infixr 60 ◌⊕◌
 mutual
@@ -77,7 +77,7 @@ part i t = get_or (parts t) i unknown
 -- the type that all share, or Unknown
 unfoldable pub common : List Ty → Ty
 common [] = unknown
-common (t ∷ ts) = if all (same t) ts then t else unknown
+common (t ∷ ts) = test all (same t) ts then t else unknown
 
 -- ---- "types in Rust's Debug form: `Dict(String, Int)`, `Tuple([])`"
 

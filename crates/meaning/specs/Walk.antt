@@ -3,7 +3,7 @@ use Rattle.std.specs.Prelude.{Bool, true, false, ℕ, eqb, ltb, length, get_or, 
 use mathlib.Core.List.{List, [], ◌∷◌, ◌++◌, tail}
 use Rattle.std.proofs.Math.Option.{Option, none, some}
 use Rattle.meaning.specs.Limits.{most_names, most_frames}
-use Rattle.meaning.specs.Base.{◌or◌, if◌then◌else◌, choose, if_some, or_else, all, count}
+use Rattle.meaning.specs.Base.{◌or◌, test◌then◌else◌, choose, if_some, or_else, all, count}
 use Rattle.meaning.specs.Types.{Ty, unknown, bool, same, kind, parts, part}
 use Rattle.meaning.specs.Tree.{Expr, at, Form, literal, variable, unary, binary, call, attribute, list_of, dict_of, tuple_of, set_of, index, lambda, Exprs, no_exprs, ◌also◌, place, size, Stmt, line, Act, break, continue, pass, class, assign, expr, return, if_then, while, for, def, Stmts, no_stmts, ◌next◌, Arms, no_arms, ◌else_arms◌, Arm, on, otherwise, first_condition}
 use Rattle.meaning.specs.Image.{Name, name_of}
@@ -72,7 +72,7 @@ bind x b s = with_frames (write x b s.frames) s
 
 -- what an old and a new type agree on (T's unify_return too): none where they differ
 unfoldable pub agreed : Ty → Ty → Option Ty
-agreed old t = if same old unknown or same old t then some t else if same t unknown then some old else none
+agreed old t = test same old unknown or same old t then some t else test same t unknown then some old else none
 
 -- n is the Variable
 unfoldable pub assign_name : ℕ → ℕ → Ty → State → End
@@ -93,7 +93,7 @@ unpacked k t =
 unfoldable pub unpack_into : ℕ → ℕ → Ty → State → (List Ty → End) → End
 unpack_into n k t s go =
     if_some (unpacked k t)
-    (λ ts. if eqb (length ts) k then go ts else refuse 26 n (a_number (length ts) ∷ a_number k ∷ []) s)
+    (λ ts. test eqb (length ts) k then go ts else refuse 26 n (a_number (length ts) ∷ a_number k ∷ []) s)
     (refuse 27 n (a_type t ∷ []) s)
 
 -- ---- "A return type is kept per Def, and afresh for each module statement."
@@ -119,21 +119,21 @@ same_slot (some a) (some b) = same_type a b
 -- a branch's slot tells of a type: it is there, it is known, and it is not what the base's slot has
 unfoldable pub tells : Option Binding → Option Binding → Bool
 tells base none = false
-tells base (some b) = if same b.type unknown or same_slot (some b) base then false else true
+tells base (some b) = test same b.type unknown or same_slot (some b) base then false else true
 
 -- what the branches Δs assign to x, over the base Γ, where its type is known
 unfoldable pub assigned : Frames → ℕ → List Frames → List Binding
 assigned Γ x [] = []
 assigned Γ x (Δ ∷ Δs) =
     let later : List Binding = assigned Γ x Δs in
-    if tells (slot_in Γ x) (slot_in Δ x) then or_else (slot_in Δ x) blank ∷ later else later
+    test tells (slot_in Γ x) (slot_in Δ x) then or_else (slot_in Δ x) blank ∷ later else later
 
 -- c is the first condition's node. "A merge takes the first assigning branch, in program order, that knows it"; the second span is "for 23
 -- that of the first type found".
 unfoldable pub merge_name : List Name → ℕ → ℕ → List Binding → State → End
 merge_name ws c x [] s = done s
 merge_name ws c x (b ∷ bs) s =
-    if all (same_type b) bs then done (bind x b s) else wrong (conflict 23 c b.first (a_text (name_of ws x).spelling ∷ [])) s
+    test all (same_type b) bs then done (bind x b s) else wrong (conflict 23 c b.first (a_text (name_of ws x).spelling ∷ [])) s
 
 unfoldable pub merge_names : List Name → ℕ → Frames → List Frames → List ℕ → State → End
 merge_names ws c Γ Δs [] s = done s
@@ -160,12 +160,12 @@ popped (too_deep n) = too_deep n
 
 -- "a Def needs a ninth frame (module included)": judged before its parameters and body
 unfoldable pub if_room : ℕ → State → End → End
-if_room n s e = if ltb (length s.frames) most_frames then e else too_deep n
+if_room n s e = test ltb (length s.frames) most_frames then e else too_deep n
 
 -- ---- Break, Continue and For
 
 unfoldable pub only_in : Bool → ℕ → ℕ → State → End
-only_in loop c n s = if loop then done s else refuse c n [] s
+only_in loop c n s = test loop then done s else refuse c n [] s
 
 unfoldable pub over_elements : ℕ → Ty → State → (Ty → End) → End
 over_elements n t s k = if_some (element_of t) k (refuse 24 n (a_type t ∷ []) s)
@@ -178,7 +178,7 @@ module _ (ws : List Name) where
 
   -- "A condition must be Bool itself"
   unfoldable pub condition : Expr → State → End
-  condition e s = checked e s λ t. if same t bool then done s else refuse 36 (place e) [] s
+  condition e s = checked e s λ t. test same t bool then done s else refuse 36 (place e) [] s
 
   unfoldable mutual
     pub assign_to : Expr → Ty → State → End

@@ -12,7 +12,7 @@ use borrow.Author.Tests.{eqb-true, eq-eqb, ne_eqb, leb-true}
 use types.Run.{OneOf}
 use lib.Dec.{eqb, leb}
 use lib.ListN.{length, take, drop}
-use Rattle.meaning.specs.Base.{◌and◌, ◌or◌, if◌then◌else◌, all, is_in, choose, bytes, decimal}
+use Rattle.meaning.specs.Base.{◌and◌, ◌or◌, test◌then◌else◌, all, is_in, choose, bytes, decimal}
 use Rattle.meaning.specs.Image.{names_of, name_of}
 use Rattle.meaning.specs.Message.{a_type, a_text, a_number, template, said, message}
 use Rattle.meaning.specs.Rules.{described}
@@ -38,14 +38,14 @@ upto n [] = true
 upto n (r ∷ rs) = leb r.0 n and upto n rs
 
 choose_low : (k n : ℕ) (rs : List (ℕ × String)) → k < n → from n rs ≡ true → choose k "" rs ≡ ""
-unfolding choose from if◌then◌else◌
+unfolding choose from test◌then◌else◌
 choose_low k n [] h g = refl
 choose_low k n (r ∷ rs) h g =
     let low = leb-true n r.0 (and_left _ _ g) in
     rw (ne_eqb k r.0 (λ e. absurd (omega arith))) (choose_low k n rs h (and_right _ _ g))
 
 choose_high : (k n : ℕ) (rs : List (ℕ × String)) → n < k → upto n rs ≡ true → choose k "" rs ≡ ""
-unfolding choose upto if◌then◌else◌
+unfolding choose upto test◌then◌else◌
 choose_high k n [] h g = refl
 choose_high k n (r ∷ rs) h g =
     let high = leb-true r.0 n (and_left _ _ g) in
@@ -92,7 +92,7 @@ unfolding bytes
 format_none d c a = rw (no_format c a) (sym (put_nil d 0), refl)
 
 choose_all : (k : ℕ) (f : String → Bool) (rs : List (ℕ × String)) → f "" ≡ true → all (λ r. f r.1) rs ≡ true → f (choose k "" rs) ≡ true
-unfolding choose all if◌then◌else◌
+unfolding choose all test◌then◌else◌
 choose_all k f [] z h = z
 choose_all k f (r ∷ rs) z h = elim (ℕ_discrete k r.0) [
   | yes e ↦ rw (eq-eqb k r.0 e) (and_left _ _ h)
@@ -153,23 +153,23 @@ among_high c n (k ∷ ks) l h =
 -- as the code's match tells them apart
 module _ {c : ℕ} where
   pub two_among : OneOf (22 ∷ 25 ∷ 47 ∷ []) c → Names 2 c
-  unfolding names types_named is_in ◌or◌ ◌and◌ if◌then◌else◌ gaps template choose bytes all
+  unfolding names types_named is_in ◌or◌ ◌and◌ test◌then◌else◌ gaps template choose bytes all
   two_among o = names_among 2 22 (25 ∷ 47 ∷ []) c refl o
 
   pub two_operands : 29 ≤ c → c < 34 → Names 2 c
-  unfolding every names types_named is_in ◌or◌ ◌and◌ if◌then◌else◌ gaps template choose bytes
+  unfolding every names types_named is_in ◌or◌ ◌and◌ test◌then◌else◌ gaps template choose bytes
   two_operands l m = names_from 2 29 5 c refl l m
 
   pub one_among : OneOf (24 ∷ 27 ∷ []) c → Names 1 c
-  unfolding names types_named is_in ◌or◌ ◌and◌ if◌then◌else◌ gaps template choose bytes all
+  unfolding names types_named is_in ◌or◌ ◌and◌ test◌then◌else◌ gaps template choose bytes all
   one_among o = names_among 1 24 (27 ∷ []) c refl o
 
   pub one_operand : 34 ≤ c → c < 36 → Names 1 c
-  unfolding every names types_named is_in ◌or◌ ◌and◌ if◌then◌else◌ gaps template choose bytes
+  unfolding every names types_named is_in ◌or◌ ◌and◌ test◌then◌else◌ gaps template choose bytes
   one_operand l m = names_from 1 34 2 c refl l m
 
   pub one_later : 37 ≤ c → c < 51 → (c ≡ 37 → ⊥) → (c ≡ 38 → ⊥) → (OneOf (22 ∷ 25 ∷ 47 ∷ []) c → ⊥) → Names 1 c
-  unfolding every names types_named is_in ◌or◌ ◌and◌ if◌then◌else◌ gaps template choose bytes
+  unfolding every names types_named is_in ◌or◌ ◌and◌ test◌then◌else◌ gaps template choose bytes
   one_later l m d e o = elim (dec_lt c 47) [
     | yes h ↦ names_from 1 39 8 c refl (omega arith) h
     | no h ↦
@@ -178,7 +178,7 @@ module _ {c : ℕ} where
   ]
 
   pub none_statement : c < 29 → (c ≡ 23 → ⊥) → (c ≡ 26 → ⊥) → (OneOf (24 ∷ 27 ∷ []) c → ⊥) → (OneOf (22 ∷ 25 ∷ 47 ∷ []) c → ⊥) → Names 0 c
-  unfolding every names types_named is_in ◌or◌ ◌and◌ if◌then◌else◌ gaps template choose bytes
+  unfolding every names types_named is_in ◌or◌ ◌and◌ test◌then◌else◌ gaps template choose bytes
   none_statement m d e o p = elim (dec_lt c 22) [
     | yes h ↦ names_from 0 0 22 c refl (omega arith) h
     | no h ↦
@@ -188,11 +188,11 @@ module _ {c : ℕ} where
   ]
 
   pub none_condition : 36 ≤ c → c < 37 → Names 0 c
-  unfolding every names types_named is_in ◌or◌ ◌and◌ if◌then◌else◌ gaps template choose bytes
+  unfolding every names types_named is_in ◌or◌ ◌and◌ test◌then◌else◌ gaps template choose bytes
   none_condition l m = names_from 0 36 1 c refl l m
 
   pub none_high : 51 ≤ c → Names 0 c
-  unfolding types_named all ◌and◌ if◌then◌else◌ gaps bytes
+  unfolding types_named all ◌and◌ test◌then◌else◌ gaps bytes
   none_high l = record {
     types = rw (
       among_high c 50 (22 ∷ 25 ∷ 29 ∷ 30 ∷ 31 ∷ 32 ∷ 33 ∷ 47 ∷ []) (omega arith) refl,
@@ -205,15 +205,15 @@ module _ {c : ℕ} where
 
 module _ (bs : List ℕ) (t : Tab) (a b : ℕ) where
   pub says_one : {c : ℕ} → Names 1 c → Form bs t c a b (text (denote t a) ∷ [])
-  unfolding message pieces choose if◌then◌else◌ said
+  unfolding message pieces choose test◌then◌else◌ said
   says_one n = record { names = a_type (denote t a) ∷ []; says = rw n.types; many = n.many; texts = refl }
 
   pub says_two : {c : ℕ} → Names 2 c → Form bs t c a b (text (denote t a) ∷ text (denote t b) ∷ [])
-  unfolding message pieces choose if◌then◌else◌ said
+  unfolding message pieces choose test◌then◌else◌ said
   says_two n = record { names = a_type (denote t a) ∷ a_type (denote t b) ∷ []; says = rw n.types; many = n.many; texts = refl }
 
   pub says_none : {c : ℕ} → Names 0 c → (c ≡ 23 → ⊥) → (c ≡ 26 → ⊥) → (c ≡ 37 → ⊥) → (c ≡ 38 → ⊥) → Form bs t c a b []
-  unfolding message pieces choose if◌then◌else◌
+  unfolding message pieces choose test◌then◌else◌
   says_none {c} n d e f g = record {
     names = [];
     says = rw (n.types, ne_eqb c 23 d, ne_eqb c 26 e, ne_eqb c 37 f, ne_eqb c 38 g);
@@ -222,17 +222,17 @@ module _ (bs : List ℕ) (t : Tab) (a b : ℕ) where
   }
 
   pub says_23 : Form bs t 23 a b ((name_of (names_of bs) a).spelling ∷ [])
-  unfolding message template choose if◌then◌else◌ pieces types_named is_in ◌or◌ gaps bytes said
+  unfolding message template choose test◌then◌else◌ pieces types_named is_in ◌or◌ gaps bytes said
   says_23 = record { names = a_text (name_of (names_of bs) a).spelling ∷ []; says = refl; many = refl; texts = refl }
 
   pub says_26 : Form bs t 26 a b (decimal a ∷ decimal b ∷ [])
-  unfolding message template choose if◌then◌else◌ pieces types_named is_in ◌or◌ gaps bytes said
+  unfolding message template choose test◌then◌else◌ pieces types_named is_in ◌or◌ gaps bytes said
   says_26 = record { names = a_number a ∷ a_number b ∷ []; says = refl; many = refl; texts = refl }
 
   pub says_37 : Form bs t 37 a b ((name_of (names_of bs) a).spelling ∷ described (name_of (names_of bs) a).role ∷ decimal b ∷ [])
-  unfolding message template choose if◌then◌else◌ pieces types_named is_in ◌or◌ gaps bytes said
+  unfolding message template choose test◌then◌else◌ pieces types_named is_in ◌or◌ gaps bytes said
   says_37 = record { names = a_text (name_of (names_of bs) a).spelling ∷ a_text (described (name_of (names_of bs) a).role) ∷ a_number b ∷ []; says = refl; many = refl; texts = refl }
 
   pub says_38 : Form bs t 38 a b ((name_of (names_of bs) a).spelling ∷ decimal (taken (name_of (names_of bs) a).role) ∷ decimal b ∷ [])
-  unfolding message template choose if◌then◌else◌ pieces types_named is_in ◌or◌ gaps bytes said
+  unfolding message template choose test◌then◌else◌ pieces types_named is_in ◌or◌ gaps bytes said
   says_38 = record { names = a_text (name_of (names_of bs) a).spelling ∷ a_number (taken (name_of (names_of bs) a).role) ∷ a_number b ∷ []; says = refl; many = refl; texts = refl }

@@ -9,7 +9,7 @@ use native.Mathlib.Decide.{ℕ_discrete}
 use borrow.Author.Tests.{eq-eqb, ne_eqb, le-leb, lt-leb}
 use lib.ListN.{length, get_or, drop, set, length-append, length-drop, drop_of_length-le}
 use lib.Seq.{drop-cons, drop-drop, length-take-le}
-use Rattle.meaning.specs.Base.{if◌then◌else◌, bytes, decimal}
+use Rattle.meaning.specs.Base.{test◌then◌else◌, bytes, decimal}
 use Rattle.meaning.specs.Answer.{fitting}
 use Rattle.words.specs.Words.{put_at}
 use Rattle.words.proofs.Laws.{put_byte}
@@ -84,34 +84,34 @@ module _ {bs cs : List ℕ} where
 -- ---- runs of plain bytes
 
 run_step : (c : ℕ) (T : List ℕ) → (c ≡ 95 → ⊥) → run (c ∷ T) ≡ c ∷ run T
-unfolding run if◌then◌else◌
+unfolding run test◌then◌else◌
 run_step c T n = rw (ne_eqb c 95 n)
 
 run_stop : (c : ℕ) (T : List ℕ) → c ≡ 95 → run (c ∷ T) ≡ []
-unfolding run if◌then◌else◌
+unfolding run test◌then◌else◌
 run_stop c T e = rw (eq-eqb c 95 e)
 
 -- what is filled in is the run, and then the rest
 run_filled : (T : List ℕ) (k : ℕ) (f : ℕ → List ℕ) → filled T k f ≡ run T ++ filled (drop (length (run T)) T) k f
-unfolding run filled one after if◌then◌else◌
+unfolding run filled one after test◌then◌else◌
 run_filled [] k f = refl
 run_filled (c ∷ T) k f =
     elim (ℕ_discrete c 95) [ yes e ↦ rw (eq-eqb c 95 e, eq-eqb c 95 e) | no e ↦ rw (ne_eqb c 95 e) (ap (λ (r : List ℕ). c ∷ r) (run_filled T k f)) ]
 
 -- where there is a gap, the run ends at it
 run_gap : (T : List ℕ) → 0 < gaps T → drop (length (run T)) T ≡ 95 ∷ drop (suc (length (run T))) T
-unfolding run gaps if◌then◌else◌
+unfolding run gaps test◌then◌else◌
 run_gap [] h = absurd (omega arith)
 run_gap (c ∷ T) h = elim (ℕ_discrete c 95) [ yes e ↦ rw (eq-eqb c 95 e) (ap (λ x. x ∷ T) e) | no e ↦ rw (ne_eqb c 95 e) (run_gap T (rw (ne_eqb c 95 e) at h)) ]
 
 run_gaps : (T : List ℕ) → gaps (drop (length (run T)) T) ≡ gaps T
-unfolding run gaps if◌then◌else◌
+unfolding run gaps test◌then◌else◌
 run_gaps [] = refl
 run_gaps (c ∷ T) = elim (ℕ_discrete c 95) [ yes e ↦ rw (eq-eqb c 95 e, eq-eqb c 95 e) | no e ↦ rw (ne_eqb c 95 e) (run_gaps T) ]
 
 -- where there is none, it goes to the end
 run_all : (T : List ℕ) → gaps T ≡ 0 → drop (length (run T)) T ≡ []
-unfolding run gaps if◌then◌else◌
+unfolding run gaps test◌then◌else◌
 run_all [] h = refl
 run_all (c ∷ T) h = elim (ℕ_discrete c 95) [ yes e ↦ absurd (omega (arith, rw (eq-eqb c 95 e) at h)) | no e ↦ rw (ne_eqb c 95 e) (run_all T (rw (ne_eqb c 95 e) at h)) ]
 
@@ -192,7 +192,7 @@ module _ {bs cs : List ℕ} {ps : Pieces} {format : List ℕ} {i k : ℕ} {d : L
       gap_inside = omega (arith, ap length gap_here, length-drop j format)
 
       ahead_gap : ahead bs cs ps format j k ≡ meant bs cs (nth ps k) ++ ahead bs cs ps format (j + 1) (k + 1)
-      unfolding ahead filled one after if◌then◌else◌
+      unfolding ahead filled one after test◌then◌else◌
       ahead_gap = rw gap_here
 
       pub piece_fits : {p : Piece} → p ≡ nth ps k → (at + (j - i)) + length (meant bs cs p) ≤ length d₁
@@ -200,7 +200,7 @@ module _ {bs cs : List ℕ} {ps : Pieces} {format : List ℕ} {i k : ℕ} {d : L
 
       pub coming_next : {p : Piece} {d₂ : List ℕ} {end : ℕ} → p ≡ nth ps k → d₂ ≡ put_at d₁ (at + (j - i)) (meant bs cs p) → end ≡ (at + (j - i)) + length (meant bs cs p)
           → Coming bs cs ps format (j + 1) (k + 1) d₂ end d₀
-      unfolding gaps if◌then◌else◌
+      unfolding gaps test◌then◌else◌
       coming_next q v f = record {
         inside = omega (arith, gap_inside);
         many =
@@ -236,7 +236,7 @@ unfolding joined
 joined_step f k n h = let e : n - k ≡ suc (n - (k + 1)) = omega arith in rw e
 
 gaps_le : (T : List ℕ) → gaps T ≤ length T
-unfolding gaps if◌then◌else◌
+unfolding gaps test◌then◌else◌
 gaps_le [] = omega arith
 gaps_le (c ∷ T) = let ih = gaps_le T in elim (ℕ_discrete c 95) [ yes e ↦ rw (eq-eqb c 95 e) (omega arith) | no e ↦ rw (ne_eqb c 95 e) (omega arith) ]
 
@@ -244,7 +244,7 @@ pub many_le : (T : List ℕ) {n : ℕ} → gaps T ≡ n → n ≤ length T
 many_le T e = omega (arith, gaps_le T)
 
 filled_length : (T : List ℕ) (k : ℕ) (f : ℕ → List ℕ) → length (filled T k f) + gaps T ≡ length T + length (joined f k (gaps T))
-unfolding filled one after gaps joined if◌then◌else◌
+unfolding filled one after gaps joined test◌then◌else◌
 filled_length [] k f = refl
 filled_length (c ∷ T) k f = elim (ℕ_discrete c 95) [
   | yes e ↦
@@ -282,7 +282,7 @@ module _ (bs cs : List ℕ) (ps : Pieces) (format : List ℕ) where
 
 module _ {room size : ℕ} (s : List ℕ) (e : size ≡ clipped (room + 1) (length s)) where
   pub too_long : room < size → fitting room s ≡ []
-  unfolding fitting if◌then◌else◌ clipped
+  unfolding fitting test◌then◌else◌ clipped
   too_long h = rw (lt-leb (length s) room (omega arith))
 
   pub fits_in : size ≤ room → length s ≤ room
@@ -290,7 +290,7 @@ module _ {room size : ℕ} (s : List ℕ) (e : size ≡ clipped (room + 1) (leng
   fits_in h = omega arith
 
 pub fitting_all : {room : ℕ} (s : List ℕ) → length s ≤ room → s ≡ fitting room s
-unfolding fitting if◌then◌else◌
+unfolding fitting test◌then◌else◌
 fitting_all {room} s h = rw (le-leb (length s) room h)
 
 -- ---- two numbers with a dash

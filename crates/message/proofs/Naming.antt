@@ -7,7 +7,7 @@ use native.Mathlib.Omega.{arith}
 use native.Mathlib.Decide.{dec_lt}
 use borrow.Author.Tests.{eq-eqb, ne_eqb}
 use lib.ListN.{length, get_or-eq_default}
-use Rattle.meaning.specs.Base.{if◌then◌else◌, choose, decimal}
+use Rattle.meaning.specs.Base.{test◌then◌else◌, choose, decimal}
 use Rattle.meaning.specs.Image.{NameRecord, name_count, name_records, names_of, name_of, role_of, text_count, texts_from, broken_name}
 use Rattle.meaning.specs.Rules.{described}
 use Rattle.meaning.proofs.Faults.{Headed}
@@ -54,27 +54,27 @@ module _ (bs : List ℕ) (a : ℕ) {r : NameAt} (e : name_means r ≡ record_of 
   described_by = ap described (role_of_lem bs a e)
 
   pub arity_number : r.role ≡ 1 → Says bs (described (name_of (names_of bs) a).role) (OfNumber r.p)
-  unfolding meant Stands described role_of choose if◌then◌else◌
+  unfolding meant Stands described role_of choose test◌then◌else◌
   arity_number k = record { stands = λ n. tt; means = λ cs. rw k at described_by }
 
   pub arity_equal : r.role ≡ 2 → r.p ≡ r.q → Says bs (described (name_of (names_of bs) a).role) (OfNumber r.p)
-  unfolding meant Stands described role_of choose if◌then◌else◌
+  unfolding meant Stands described role_of choose test◌then◌else◌
   arity_equal k q = record { stands = λ n. tt; means = λ cs. rw (k, eq-eqb _ _ q) at described_by }
 
   pub arity_range : r.role ≡ 2 → (r.p ≡ r.q → ⊥) → Says bs (described (name_of (names_of bs) a).role) (OfRange r.p r.q)
-  unfolding meant Stands described role_of choose if◌then◌else◌
+  unfolding meant Stands described role_of choose test◌then◌else◌
   arity_range k q = record { stands = λ n. tt; means = λ cs. rw (k, ne_eqb _ _ q) at described_by }
 
   pub arity_any : r.role ≡ 3 → Says bs (described (name_of (names_of bs) a).role) OfAny
-  unfolding meant Stands described role_of choose if◌then◌else◌
+  unfolding meant Stands described role_of choose test◌then◌else◌
   arity_any k = record { stands = λ n. tt; means = λ cs. rw k at described_by }
 
   pub arity_function : r.role ≡ 4 → Says bs (described (name_of (names_of bs) a).role) (OfNumber r.p)
-  unfolding meant Stands described role_of choose if◌then◌else◌
+  unfolding meant Stands described role_of choose test◌then◌else◌
   arity_function k = record { stands = λ n. tt; means = λ cs. rw k at described_by }
 
   pub arity_none : (r.role ≡ 1 → ⊥) → (r.role ≡ 2 → ⊥) → (r.role ≡ 3 → ⊥) → (r.role ≡ 4 → ⊥) → Says bs (described (name_of (names_of bs) a).role) Nothing
-  unfolding meant Stands described role_of choose if◌then◌else◌
+  unfolding meant Stands described role_of choose test◌then◌else◌
   arity_none k l m n = record {
     stands = λ i. tt;
     means = λ cs. rw (ne_eqb _ _ k, ne_eqb _ _ l, ne_eqb _ _ m, ne_eqb _ _ n) at described_by;
@@ -84,7 +84,7 @@ module _ (bs : List ℕ) (a : ℕ) {r : NameAt} (e : name_means r ≡ record_of 
   taken_as = ap taken (role_of_lem bs a e)
 
   taken_other : (k : ℕ) → (k ≡ 4 → ⊥) → taken (role_of (record { start = r.start; size = r.len; role = k; p = r.p; q = r.q })) ≡ 0
-  unfolding taken role_of choose if◌then◌else◌
+  unfolding taken role_of choose test◌then◌else◌
   taken_other zero n = refl
   taken_other (suc zero) n = refl
   taken_other (suc (suc zero)) n = refl
@@ -94,7 +94,7 @@ module _ (bs : List ℕ) (a : ℕ) {r : NameAt} (e : name_means r ≡ record_of 
       rw (ne_eqb (suc (suc (suc (suc (suc k))))) 1 (λ z. absurd (omega arith)), ne_eqb (suc (suc (suc (suc (suc k))))) 2 (λ z. absurd (omega arith)), ne_eqb (suc (suc (suc (suc (suc k))))) 3 (λ z. absurd (omega arith)), ne_eqb (suc (suc (suc (suc (suc k))))) 4 n)
 
   pub taken_function : r.role ≡ 4 → Says bs (decimal (taken (name_of (names_of bs) a).role)) (OfNumber r.p)
-  unfolding meant Stands taken role_of choose if◌then◌else◌
+  unfolding meant Stands taken role_of choose test◌then◌else◌
   taken_function k = record { stands = λ n. tt; means = λ cs. ap decimal (rw k at taken_as) }
 
   pub taken_none : (r.role ≡ 4 → ⊥) → Says bs (decimal (taken (name_of (names_of bs) a).role)) (OfNumber 0)

@@ -6,7 +6,7 @@ use native.Mathlib.Omega.{arith}
 use native.Mathlib.Decide.{ℕ_discrete}
 use borrow.Author.Tests.{eq-eqb, ne_eqb}
 use lib.ListN.{length, length-map}
-use Rattle.meaning.specs.Base.{if◌then◌else◌, bytes, decimal}
+use Rattle.meaning.specs.Base.{test◌then◌else◌, bytes, decimal}
 use Rattle.meaning.specs.Answer.{fitting, overlaid}
 use Rattle.meaning.specs.Image.{names_of}
 use Rattle.meaning.specs.Message.{Piece as Named, refusal, said, fill, template, message}
@@ -30,7 +30,7 @@ any_node code n m ps = refl
 -- ---- a format string with as many gaps as there are pieces
 
 pub fill_is : (T : List ℕ) (k : ℕ) (ps : List Named) (f : ℕ → List ℕ) → gaps T ≡ length ps → Spoken f k (map said ps) → fill T ps ≡ filled T k f
-unfolding gaps fill filled Spoken one after if◌then◌else◌
+unfolding gaps fill filled Spoken one after test◌then◌else◌
 fill_is [] k ps f g s = refl
 fill_is (c ∷ cs) k [] f g s =
     elim (ℕ_discrete c 95) [

@@ -2,7 +2,7 @@
 use mathlib.Core.Path.{◌≡◌, refl, sym, ap, ◌∙◌}
 use mathlib.Core.List.{List, [], ◌++◌, append_assoc, append-nil}
 use Prim.Native.Nat.{ℕ, zero, suc}
-use Rattle.meaning.specs.Base.{bytes, choose, if◌then◌else◌}
+use Rattle.meaning.specs.Base.{bytes, choose, test◌then◌else◌}
 use Rattle.meaning.specs.Types.{Ty, Tys, unknown, int, bool, string, float, nonetype, range, function, list, dict, tuple, map_iter, filter_iter, no_types, ◌⊕◌, elements, kind, parts, text, texts, others}
 use Rattle.message.specs.Texts.{opening, closing, comma, listed}
 
@@ -19,7 +19,7 @@ texts_listed no_types = refl
 texts_listed (t ⊕ ts) = rw (others_listed 0 ts)
 
 pub text_is : (ty : Ty) → text ty ≡ opening (kind ty) ++ listed 0 (parts ty) ++ closing (kind ty)
-unfolding text opening closing choose if◌then◌else◌ bytes listed comma kind parts
+unfolding text opening closing choose test◌then◌else◌ bytes listed comma kind parts
 text_is unknown = refl
 text_is int = refl
 text_is bool = refl

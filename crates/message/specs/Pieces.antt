@@ -1,6 +1,6 @@
 -- What a message names, as the code holds it, and T's format string with it put in.
 use Rattle.std.specs.Prelude.{◌≡◌, List, [], ◌∷◌, ◌++◌, ℕ, zero, suc, ◌+◌, ◌≤◌, ◌<◌, max, eqb, length, take, drop}
-use Rattle.meaning.specs.Base.{if◌then◌else◌, bytes, decimal}
+use Rattle.meaning.specs.Base.{test◌then◌else◌, bytes, decimal}
 use Rattle.meaning.specs.Types.{text}
 use Rattle.types.specs.Reading.{type_at}
 use Rattle.message.specs.Texts.{AllKnown, clipped, Sized}
@@ -12,7 +12,7 @@ use Rattle.message.specs.declared.Pieces.{Pieces}
 
 -- what stands for byte c, where s is the next piece
 unfoldable pub one : ℕ → List ℕ → List ℕ
-one c s = if eqb c 95 then s else c ∷ []
+one c s = test eqb c 95 then s else c ∷ []
 
 -- ---- one piece: bs is the image, cs are the cells of the table
 
@@ -86,7 +86,7 @@ two_types a b = record { first = OfType a; second = OfType b; third = Nothing; m
 
 -- the number of the next piece after byte c
 unfoldable pub after : ℕ → ℕ → ℕ
-after c k = if eqb c 95 then k + 1 else k
+after c k = test eqb c 95 then k + 1 else k
 
 unfoldable pub filled : List ℕ → ℕ → (ℕ → List ℕ) → List ℕ
 filled [] k f = []
@@ -98,12 +98,12 @@ put_in bs cs ps format = filled format 0 (λ k. meant bs cs (nth ps k))
 -- how many pieces a format string takes
 unfoldable pub gaps : List ℕ → ℕ
 gaps [] = 0
-gaps (c ∷ cs) = if eqb c 95 then gaps cs + 1 else gaps cs
+gaps (c ∷ cs) = test eqb c 95 then gaps cs + 1 else gaps cs
 
 -- its plain bytes before the first of them
 unfoldable pub run : List ℕ → List ℕ
 run [] = []
-run (c ∷ cs) = if eqb c 95 then [] else c ∷ run cs
+run (c ∷ cs) = test eqb c 95 then [] else c ∷ run cs
 
 -- ---- what the pieces say, in order
 

@@ -1,6 +1,6 @@
 -- A type's text by the kind and the parts of its record, and what the functions that measure and write it need.
 use Rattle.std.specs.Prelude.{◌≡◌, List, [], ◌∷◌, ◌++◌, ℕ, zero, suc, ◌<◌, ◌≤◌, min, eqb, ltb, length, get_or}
-use Rattle.meaning.specs.Base.{bytes, choose, if◌then◌else◌}
+use Rattle.meaning.specs.Base.{bytes, choose, test◌then◌else◌}
 use Rattle.meaning.specs.Types.{Ty, text}
 use Rattle.types.specs.Table.{most_numbers}
 use Rattle.types.specs.Reading.{Known, type_at}
@@ -27,7 +27,7 @@ opening k =
     ∷ []))
 
 unfoldable pub closing : ℕ → List ℕ
-closing k = if ltb k 8 then [] else if eqb k 10 then bytes "])" else bytes ")"
+closing k = test ltb k 8 then [] else test eqb k 10 then bytes "])" else bytes ")"
 
 -- what stands before part j
 unfoldable pub comma : ℕ → List ℕ

@@ -7,7 +7,7 @@ use Prim.Native.Nat.{ℕ, suc, ◌-◌, ◌<◌}
 use borrow.Author.Tests.{ne_eqb}
 use lib.Dec.{eqb}
 use lib.ListN.{length}
-use Rattle.meaning.specs.Base.{choose, if◌then◌else◌}
+use Rattle.meaning.specs.Base.{choose, test◌then◌else◌}
 use Rattle.meaning.specs.Types.{Ty, unknown}
 use Rattle.meaning.specs.Image.{Name, name_of, Node, node_of}
 use Rattle.meaning.specs.Tree.{Expr, Form, name_in, called}
@@ -23,15 +23,15 @@ use Rattle.nodes.proofs.Operating.{call_node, bind_ext, each_const}
 -- ---- the callee
 
 row_none : (k j : ℕ) (f d : Form) (rs : List (ℕ × Form)) → name_in f ≡ none → name_in (choose k d rs) ≡ none → name_in (choose k d ((j, f) ∷ rs)) ≡ none
-unfolding choose if◌then◌else◌
+unfolding choose test◌then◌else◌
 row_none k j f d rs p q = by (eqb k j)
   where
-    by : (b : Bool) → name_in (if b then f else choose k d rs) ≡ none
+    by : (b : Bool) → name_in (test b then f else choose k d rs) ≡ none
     by true = p
     by false = q
 
 row_not : (k j : ℕ) (f d : Form) (rs : List (ℕ × Form)) → (k ≡ j → ⊥) → name_in (choose k d rs) ≡ none → name_in (choose k d ((j, f) ∷ rs)) ≡ none
-unfolding choose if◌then◌else◌
+unfolding choose test◌then◌else◌
 row_not k j f d rs n q = rw (ne_eqb k j n) q
 
 no_row : (k : ℕ) (d : Form) → name_in d ≡ none → name_in (choose k d []) ≡ none
@@ -64,7 +64,7 @@ unfolding called name_in
 called_some ds d j k = ap called (expr_at_lem ds d j) ∙ ap name_in (variable_at ds (λ i. expr_at ds d i) j k)
 
 other_unknown : (a n m o : ℕ) (us : List Ty) → ok unknown ≡ operand_rule 24 a n m o us
-unfolding operand_rule choose if◌then◌else◌
+unfolding operand_rule choose test◌then◌else◌
 other_unknown a n m o us = refl
 
 module _ {N : ℕ} {ds : List Node} (s : Nested N ds) (ws : List Name) (Γ : Frames) (d i : ℕ) (h : i < length ds) (k : (node_of ds i).kind ≡ 24) where

@@ -8,7 +8,7 @@ use native.Mathlib.Omega.{arith}
 use native.Mathlib.Decide.{ℕ_discrete}
 use borrow.Author.Tests.{eq-eqb, ne_eqb}
 use lib.ListN.{get_or, take, drop}
-use Rattle.meaning.specs.Base.{choose, if◌then◌else◌}
+use Rattle.meaning.specs.Base.{choose, test◌then◌else◌}
 use Rattle.meaning.specs.Types.{Ty, unknown, tuple, tys, plain}
 use Rattle.meaning.specs.Image.{Name, node_count, nodes_of, names_of}
 use Rattle.meaning.specs.Image.{Node as ImageNode}
@@ -38,26 +38,26 @@ use Rattle.nodes.proofs.Laws.{decides_given, made_given, means_given, plain_mean
 
 module _ (k a n m o : ℕ) (ts : List Ty) where
   unary_rule_lem : (y : Ty) → k ≡ 22 → get_or ts 0 unknown ≡ y → operand_rule k a n m o ts ≡ unary_rule n (unary_of a) y
-  unfolding operand_rule choose if◌then◌else◌
+  unfolding operand_rule choose test◌then◌else◌
   unary_rule_lem y e f = rw (e, f)
 
   tuple_rule : k ≡ 28 → operand_rule k a n m o ts ≡ ok (tuple (tys ts))
-  unfolding operand_rule choose if◌then◌else◌
+  unfolding operand_rule choose test◌then◌else◌
   tuple_rule e = rw e
 
   index_rule_lem : (y z : Ty) → k ≡ 31 → get_or ts 0 unknown ≡ y → get_or ts 1 unknown ≡ z → operand_rule k a n m o ts ≡ index_rule m y o z
-  unfolding operand_rule choose if◌then◌else◌
+  unfolding operand_rule choose test◌then◌else◌
   index_rule_lem y z e f g = rw (e, f, g)
 
   other_rule : (k ≡ 22 → ⊥) → (k ≡ 23 → ⊥) → (k ≡ 28 → ⊥) → (k ≡ 31 → ⊥) → operand_rule k a n m o ts ≡ ok (plain 0)
-  unfolding operand_rule choose if◌then◌else◌ plain
+  unfolding operand_rule choose test◌then◌else◌ plain
   other_rule p q r s = rw (ne_eqb k 22 p, ne_eqb k 23 q, ne_eqb k 28 r, ne_eqb k 31 s)
 
 decides_as : {ws : List Name} {t : Tab} {r s : Checked} {place : ℕ} {d : Decision} → r ≡ s → Decides ws t s place d → Decides ws t r place d
 decides_as e d = rw e d
 
 index_place_below : (c m n M : ℕ) → m < M → n < M → index_place c m n < M
-unfolding index_place if◌then◌else◌
+unfolding index_place test◌then◌else◌
 index_place_below c m n M h l = elim (ℕ_discrete c 50) [ yes e ↦ rw (eq-eqb c 50 e) h | no d ↦ rw (ne_eqb c 50 d) l ]
 
 -- the node was read
@@ -117,7 +117,7 @@ judged_by_number {ns} {n = n} {d = e} o d f =
 
 -- map's or filter's code names one type
 pub first_names : (filters : Bool) → types_named (first_code filters) ≡ 1
-unfolding first_code if◌then◌else◌
+unfolding first_code test◌then◌else◌
 first_names true = names_filter
 first_names false = names_map
 

@@ -7,7 +7,7 @@ use native.Mathlib.Omega.{arith}
 use native.Mathlib.Decide.{ℕ_discrete}
 use borrow.Author.Tests.{eqb-true, leb-true}
 use lib.ListN.{length}
-use Rattle.meaning.specs.Base.{choose, if◌then◌else◌}
+use Rattle.meaning.specs.Base.{choose, test◌then◌else◌}
 use Rattle.meaning.specs.Types.{Ty}
 use Rattle.meaning.specs.Image.{Name, Node, node_of, nodes_of, nodes_from, node_count, arg_below, count_stands}
 use Rattle.meaning.specs.Tree.{Expr, place}
@@ -26,31 +26,31 @@ use Rattle.nodes.specs.Operands.{operand_rule, Decidable}
 -- ---- what a node's record gives
 
 one_child : (c : ℕ) → count_stands 22 c ≡ true → c ≡ 1
-unfolding count_stands choose if◌then◌else◌
+unfolding count_stands choose test◌then◌else◌
 one_child c e = eqb-true c 1 e
 
 two_children : (c : ℕ) → count_stands 23 c ≡ true → c ≡ 2
-unfolding count_stands choose if◌then◌else◌
+unfolding count_stands choose test◌then◌else◌
 two_children c e = eqb-true c 2 e
 
 a_callee : (c : ℕ) → count_stands 24 c ≡ true → 1 ≤ c
-unfolding count_stands choose if◌then◌else◌
+unfolding count_stands choose test◌then◌else◌
 a_callee c e = leb-true 1 c e
 
 one_object : (c : ℕ) → count_stands 25 c ≡ true → c ≡ 1
-unfolding count_stands choose if◌then◌else◌
+unfolding count_stands choose test◌then◌else◌
 one_object c e = eqb-true c 1 e
 
 two_parts : (c : ℕ) → count_stands 31 c ≡ true → c ≡ 2
-unfolding count_stands choose if◌then◌else◌
+unfolding count_stands choose test◌then◌else◌
 two_parts c e = eqb-true c 2 e
 
 three_args : (N : ℕ) → arg_below N 22 ≡ 3
-unfolding arg_below choose if◌then◌else◌
+unfolding arg_below choose test◌then◌else◌
 three_args N = refl
 
 fourteen_args : (N : ℕ) → arg_below N 23 ≡ 14
-unfolding arg_below choose if◌then◌else◌
+unfolding arg_below choose test◌then◌else◌
 fourteen_args N = refl
 
 module _ {N : ℕ} {ds : List Node} (s : Nested N ds) (i : ℕ) (h : i < length ds) where
@@ -117,37 +117,37 @@ module _ {N : ℕ} {ds : List Node} (s : Nested N ds) (ws : List Name) (Γ : Fra
   operands_22 : (node_of ds i).kind ≡ 22 → check_form ws Γ i (form_at ds e i)
       ≡ each (check_all ws Γ (exprs_from ds e (node_of ds i).children (suc i)))
       (operand_rule (node_of ds i).kind (node_of ds i).arg i (suc i) (stop_of ds (suc i))) []
-  unfolding check check_all check_form exprs_from each operand_rule choose if◌then◌else◌
+  unfolding check check_all check_form exprs_from each operand_rule choose test◌then◌else◌
   operands_22 k = rw (unary_at ds e i k, (unary_node s i h k).1, k)
 
   operands_23 : (node_of ds i).kind ≡ 23 → check_form ws Γ i (form_at ds e i)
       ≡ each (check_all ws Γ (exprs_from ds e (node_of ds i).children (suc i)))
       (operand_rule (node_of ds i).kind (node_of ds i).arg i (suc i) (stop_of ds (suc i))) []
-  unfolding check check_all check_form exprs_from each operand_rule choose if◌then◌else◌
+  unfolding check check_all check_form exprs_from each operand_rule choose test◌then◌else◌
   operands_23 k = rw (binary_at ds e i k, (binary_node s i h k).1, k)
 
   operands_28 : (node_of ds i).kind ≡ 28 → check_form ws Γ i (form_at ds e i)
       ≡ each (check_all ws Γ (exprs_from ds e (node_of ds i).children (suc i)))
       (operand_rule (node_of ds i).kind (node_of ds i).arg i (suc i) (stop_of ds (suc i))) []
-  unfolding check_form operand_rule choose if◌then◌else◌
+  unfolding check_form operand_rule choose test◌then◌else◌
   operands_28 k = rw (tuple_at ds e i k, k)
 
   operands_29 : (node_of ds i).kind ≡ 29 → check_form ws Γ i (form_at ds e i)
       ≡ each (check_all ws Γ (exprs_from ds e (node_of ds i).children (suc i)))
       (operand_rule (node_of ds i).kind (node_of ds i).arg i (suc i) (stop_of ds (suc i))) []
-  unfolding check_form each_then operand_rule choose if◌then◌else◌
+  unfolding check_form each_then operand_rule choose test◌then◌else◌
   operands_29 k = rw (set_at ds e i k, k)
 
   operands_30 : (node_of ds i).kind ≡ 30 → check_form ws Γ i (form_at ds e i)
       ≡ each (check_all ws Γ (exprs_from ds e (node_of ds i).children (suc i)))
       (operand_rule (node_of ds i).kind (node_of ds i).arg i (suc i) (stop_of ds (suc i))) []
-  unfolding check_form each_then operand_rule choose if◌then◌else◌
+  unfolding check_form each_then operand_rule choose test◌then◌else◌
   operands_30 k = rw (tree_set_at ds e i k, k)
 
   operands_31 : (node_of ds i).kind ≡ 31 → check_form ws Γ i (form_at ds e i)
       ≡ each (check_all ws Γ (exprs_from ds e (node_of ds i).children (suc i)))
       (operand_rule (node_of ds i).kind (node_of ds i).arg i (suc i) (stop_of ds (suc i))) []
-  unfolding check check_all check_form exprs_from each operand_rule choose if◌then◌else◌
+  unfolding check check_all check_form exprs_from each operand_rule choose test◌then◌else◌
   operands_31 k = rw (index_at ds e i k, (index_node s i h k).0, k, placed (suc i), placed (stop_of ds (suc i)))
 
   -- Unary and Binary
@@ -159,7 +159,7 @@ module _ {N : ℕ} {ds : List Node} (s : Nested N ds) (ws : List Name) (Γ : Fra
   pub operands_attribute : (node_of ds i).kind ≡ 25 → check_form ws Γ i (form_at ds e i)
       ≡ each (check_all ws Γ (exprs_from ds e (node_of ds i).children (suc i)))
       (operand_rule (node_of ds i).kind (node_of ds i).arg i (suc i) (stop_of ds (suc i))) []
-  unfolding check check_all check_form exprs_from each operand_rule choose if◌then◌else◌
+  unfolding check check_all check_form exprs_from each operand_rule choose test◌then◌else◌
   operands_attribute k = rw (attribute_at ds e i k, attribute_node s i h k, k)
 
   -- Tuple, Set, TreeSet and Index

@@ -1,7 +1,7 @@
 -- Nodes whose children are all checked before their rule looks at them: what the children's types give.
 use Rattle.std.specs.Prelude.{◌≡◌, Bool, List, [], ◌∷◌, ℕ, suc, ◌<◌, length, get_or}
 use Rattle.meaning.specs.Limits.{most_nodes}
-use Rattle.meaning.specs.Base.{if◌then◌else◌, choose}
+use Rattle.meaning.specs.Base.{test◌then◌else◌, choose}
 use Rattle.meaning.specs.Types.{Ty, unknown, tuple, tys}
 use Rattle.meaning.specs.Image.{Name, node_count, nodes_from, nodes_of, node_of}
 use Rattle.meaning.specs.Image.{Node as ImageNode}
@@ -78,4 +78,4 @@ pub record Ruled (t u : Tab) (rule : Checked) (n code place number a b : ℕ) : 
 
 -- the code that refuses the first argument of map, or of filter
 unfoldable pub first_code : Bool → ℕ
-first_code filters = if filters then 44 else 42
+first_code filters = test filters then 44 else 42

@@ -7,7 +7,7 @@ use Prim.Native.Nat.{ℕ, ◌≤◌, ◌<◌}
 use native.Mathlib.Omega.{arith}
 use borrow.Author.Tests.{eqb-true, lt-ltb, le-ltb, ne_eqb}
 use lib.Dec.{eqb}
-use Rattle.meaning.specs.Base.{if◌then◌else◌, base_open}
+use Rattle.meaning.specs.Base.{test◌then◌else◌, base_open}
 use Rattle.meaning.specs.Types.{Ty, unknown, int, bool, string, float, nonetype, range, function, list, dict, tuple, map_iter, filter_iter, same, kind, plain, types_open}
 use Rattle.meaning.specs.Tree.{BinaryOp, add, subtract, multiply, divide, floor_divide, modulo, equal, not_equal, less, less_equal, greater, greater_equal, and_op, or_op}
 use Rattle.meaning.specs.Image.{image_open}
@@ -46,15 +46,15 @@ pub record BinaryMeans (n op : ℕ) (a b : Ty) (x : ℕ) : Type 0 where
   pub code : 8 < x → (29 ≤ x) × (x ≤ 33)
 
 answered_plain : (n x : ℕ) (a b : Ty) → x < 8 → answered n a b x ≡ ok (plain x)
-unfolding answered if◌then◌else◌
+unfolding answered test◌then◌else◌
 answered_plain n x a b h = rw (lt-ltb x 8 h)
 
 answered_whole : (n x : ℕ) (a b : Ty) → x ≡ 8 → answered n a b x ≡ when (same a b) bool 32 n (a_type a ∷ a_type b ∷ [])
-unfolding answered if◌then◌else◌
+unfolding answered test◌then◌else◌
 answered_whole n x a b h = rw h
 
 answered_code : (n x : ℕ) (a b : Ty) → 8 < x → answered n a b x ≡ refused (refusal x n (a_type a ∷ a_type b ∷ []))
-unfolding answered if◌then◌else◌
+unfolding answered test◌then◌else◌
 answered_code n x a b h = rw (le-ltb x 8 (omega arith), ne_eqb x 8 (λ e. omega arith))
 
 pub binary_means : {l r x : ℕ} (n op : ℕ) (a b : Ty) → l ≡ kind a → r ≡ kind b → x ≡ operator_answer (binary_of op) l r
@@ -77,7 +77,7 @@ pub record UnaryMeans (n op : ℕ) (t : Ty) (x : ℕ) : Type 0 where
   pub code : 8 ≤ x → (34 ≤ x) × (x ≤ 35)
 
 pub unary_means : {k x : ℕ} (n op : ℕ) (t : Ty) → k ≡ kind t → x ≡ unary_answer (unary_of op) k → UnaryMeans n op t x
-unfolding unary_rule if◌then◌else◌
+unfolding unary_rule test◌then◌else◌
 unary_means {k} {x} n op t p e =
     let s : unary_answer (unary_of op) (kind t) ≡ x = rw (e, p) in
     record {

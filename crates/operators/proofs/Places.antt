@@ -6,7 +6,7 @@ use Prim.Native.Nat.{ℕ, ◌+◌, ◌*◌, ◌/◌, ◌≤◌, ◌<◌}
 use borrow.Author.Tests.{eqb-true, ltb-true, lt-ltb, le-ltb}
 use lib.Dec.{eqb, ltb}
 use lib.ListN.{length, get_or}
-use Rattle.meaning.specs.Base.{◌and◌, if◌then◌else◌, count, base_open}
+use Rattle.meaning.specs.Base.{◌and◌, test◌then◌else◌, count, base_open}
 use Rattle.meaning.specs.Image.{first_not, image_open}
 use Rattle.meaning.proofs.Choices.{all_pass, and_left, and_right}
 use Rattle.operators.specs.Fold.{in_order, pairs, PlaceOf}
@@ -55,7 +55,7 @@ in_place a b ha hb =
     (ltb-true _ 91 (and_left _ _ h), both (eqb-true _ _ (and_left _ _ g)) (eqb-true _ _ (and_right _ _ g)))
 
 placed_turned : {l r : ℕ} → r < l → placed (in_order l r) ≡ length (pairs l) + r
-unfolding in_order placed if◌then◌else◌
+unfolding in_order placed test◌then◌else◌
 placed_turned {l} {r} o = rw (lt-ltb r l o)
 
 -- the higher kind stands left
@@ -63,7 +63,7 @@ pub place_turned : {l r : ℕ} → (l < 13) × (r < 13) → r < l → PlaceOf l 
 place_turned {l} {r} h o = rw (placed_turned o) at (in_place l r h.0 h.1)
 
 placed_straight : {l r : ℕ} → l ≤ r → placed (in_order l r) ≡ length (pairs r) + l
-unfolding in_order placed if◌then◌else◌
+unfolding in_order placed test◌then◌else◌
 placed_straight {l} {r} o = rw (le-ltb r l o)
 
 -- the higher kind stands right

@@ -7,7 +7,7 @@ use native.Mathlib.Omega.{arith}
 use native.Mathlib.Nat.{zero-add, not-suc-le-zero, le_of_suc-le-suc}
 use lib.Dec.{ltb}
 use lib.ListN.{length, get_or}
-use Rattle.meaning.specs.Base.{if◌then◌else◌, count, base_open}
+use Rattle.meaning.specs.Base.{test◌then◌else◌, count, base_open}
 use Rattle.meaning.specs.Types.{types_open}
 use Rattle.meaning.specs.Tree.{BinaryOp}
 use Rattle.meaning.specs.Decode.{binary_of, unary_of, decode_open}
@@ -66,8 +66,8 @@ pairs_many = refl
 
 -- changed round or not, two kinds have one answer: so half of the pairs do
 unfolded : (o : BinaryOp) (a b : ℕ) (turn : Bool) → a < 13 → b < 13
-    → let p : ℕ × ℕ = if turn then (b, a) else (a, b) in operator_answer o p.0 p.1 ≡ operator_answer o a b
-unfolding if◌then◌else◌
+    → let p : ℕ × ℕ = test turn then (b, a) else (a, b) in operator_answer o p.0 p.1 ≡ operator_answer o a b
+unfolding test◌then◌else◌
 unfolded o a b true ha hb = symmetric o b a hb ha
 unfolded o a b false ha hb = refl
 

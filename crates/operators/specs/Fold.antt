@@ -1,10 +1,10 @@
 -- How the table is folded (document 02, Six): an operator's row has two kinds once, in order.
 use Rattle.std.specs.Prelude.{◌≡◌, List, [], map, ◌++◌, ℕ, zero, suc, ◌<◌, ltb, get_or}
-use Rattle.meaning.specs.Base.{if◌then◌else◌, count}
+use Rattle.meaning.specs.Base.{test◌then◌else◌, count}
 
 -- two kinds in order
 unfoldable pub in_order : ℕ → ℕ → ℕ × ℕ
-in_order a b = if ltb b a then (b, a) else (a, b)
+in_order a b = test ltb b a then (b, a) else (a, b)
 
 -- the kinds below n, two at a time in order: by the higher one, then by the lower one
 unfoldable pub pairs : ℕ → List (ℕ × ℕ)

@@ -6,7 +6,7 @@ use native.Mathlib.Decide.{dec_lt}
 use lib.ListN.{length-replicate}
 use lib.Seq.{take-append-le, take-append_seam, drop-append-add}
 use Rattle.io.specs.Digits.{last_digits, IsDigitCount}
-use Rattle.meaning.specs.Base.{if◌then◌else◌, choose, if_some, bytes, decimal, word}
+use Rattle.meaning.specs.Base.{test◌then◌else◌, choose, if_some, bytes, decimal, word}
 use Rattle.meaning.specs.Sheet.{Entry, sheet_of}
 use Rattle.meaning.specs.Read.{read_sheet}
 use Rattle.meaning.specs.Answer.{Answer, bare, written, write_answer, overlaid}
@@ -78,10 +78,10 @@ refused_some a = rw (length-append, end_long) (omega arith)
 
 -- of the two lines one
 abbrev either : Bool → Answer → List ℕ
-either b a = if b then accepted_line a.sheet else refused_line a
+either b a = test b then accepted_line a.sheet else refused_line a
 
 either_some : (b : Bool) (a : Answer) → 1 ≤ length (either b a)
-unfolding if◌then◌else◌
+unfolding test◌then◌else◌
 either_some true a = accepted_some a.sheet
 either_some false a = refused_some a
 
@@ -163,7 +163,7 @@ unfolding refused_line or_dash
 refused_cut a = cut_end (bytes "refused" ++ spaced (a.code ∷ a.place ∷ a.span_start ∷ a.span_end ∷ []) ++ bytes " " ++ or_dash a.message)
 
 either_cut : (b : Bool) (a : Answer) → take (length (either b a) - 1) (either b a) ++ bytes "\n" ≡ either b a
-unfolding if◌then◌else◌
+unfolding test◌then◌else◌
 either_cut true a = accepted_cut a.sheet
 either_cut false a = refused_cut a
 
@@ -174,16 +174,16 @@ line_cut a = either_cut (eqb a.code 0) a
 -- ---- what stands there, by the code
 
 summed_behind : (a : Answer) → a.code ≡ 0 → checksum a.sheet ≡ behind a
-unfolding behind choose if◌then◌else◌
+unfolding behind choose test◌then◌else◌
 summed_behind a z = rw z
 
 second_behind : (a : Answer) → (a.code ≡ 23) ⊎ (a.code ≡ 25) → second_span a.second_start a.second_end ≡ behind a
-unfolding behind choose if◌then◌else◌
+unfolding behind choose test◌then◌else◌
 second_behind a (inl z) = rw z
 second_behind a (inr z) = rw z
 
 end_behind : (a : Answer) → (a.code ≡ 0 → ⊥) → ((a.code ≡ 23) ⊎ (a.code ≡ 25) → ⊥) → bytes "\n" ≡ behind a
-unfolding behind choose if◌then◌else◌
+unfolding behind choose test◌then◌else◌
 end_behind a nz n = rw (ne_eqb a.code 0 nz, ne_eqb a.code 25 (λ z. n (inr z)), ne_eqb a.code 23 (λ z. n (inl z)))
 
 second_size : (start end : ℕ) → 1 ≤ length (second_span start end)
@@ -225,12 +225,12 @@ module _ {a : Answer} {old mid s s₁ t t₁ : List ℕ} {size code count : ℕ}
 -- ---- what was read and written again
 
 written_refused : (room : ℕ) (bs : List ℕ) → ((written room bs).code ≡ 0 → ⊥) → written room bs ≡ bare (written room bs).code 0
-unfolding written if◌then◌else◌
+unfolding written test◌then◌else◌
 written_refused room bs n = by (leb (length bs) room) n
   where
-    by : (b : Bool) → ((if b then record { code = 0; place = 0; span_start = 0; span_end = 0; second_start = 0; second_end = 0; sheet = bs; message = [] } else bare 10 0).code ≡ 0 → ⊥)
-        → (if b then record { code = 0; place = 0; span_start = 0; span_end = 0; second_start = 0; second_end = 0; sheet = bs; message = [] } else bare 10 0)
-        ≡ bare (if b then record { code = 0; place = 0; span_start = 0; span_end = 0; second_start = 0; second_end = 0; sheet = bs; message = [] } else bare 10 0).code 0
+    by : (b : Bool) → ((test b then record { code = 0; place = 0; span_start = 0; span_end = 0; second_start = 0; second_end = 0; sheet = bs; message = [] } else bare 10 0).code ≡ 0 → ⊥)
+        → (test b then record { code = 0; place = 0; span_start = 0; span_end = 0; second_start = 0; second_end = 0; sheet = bs; message = [] } else bare 10 0)
+        ≡ bare (test b then record { code = 0; place = 0; span_start = 0; span_end = 0; second_start = 0; second_end = 0; sheet = bs; message = [] } else bare 10 0).code 0
     by true h = absurd (h refl)
     by false h = refl
 
@@ -254,11 +254,11 @@ of_fits none room = omega arith
 of_fits (some es) room = (written_answered room 0 (sheet_of es)).sheet_fits
 
 is_read : (a : Answer) → a.code ≡ 0 → rewritten_line a ≡ read_line a.sheet
-unfolding rewritten_line if◌then◌else◌
+unfolding rewritten_line test◌then◌else◌
 is_read a z = rw (eq-eqb _ _ z)
 
 not_read : (a : Answer) → (a.code ≡ 0 → ⊥) → rewritten_line a ≡ line_of a
-unfolding rewritten_line if◌then◌else◌
+unfolding rewritten_line test◌then◌else◌
 not_read a nz = rw (ne_eqb _ _ nz)
 
 module _ (bs : List ℕ) {n : Numbers} (s s₁ : List ℕ) (r : Relaid (rewritten bs (length s)) n s s₁) where

@@ -2,7 +2,7 @@
 -- checksum of its sheet, and of 25 and 23 the second span.
 use Rattle.std.specs.Prelude.{ℕ, ◌+◌, ◌-◌, ◌*◌, ◌%◌, ◌^◌, List, [], ◌∷◌, ◌++◌, length, take, ◌==◌, bit_xor}
 use Rattle.io.specs.Digits.{last_digits}
-use Rattle.meaning.specs.Base.{if◌then◌else◌, choose, bytes, decimal, word}
+use Rattle.meaning.specs.Base.{test◌then◌else◌, choose, bytes, decimal, word}
 use Rattle.meaning.specs.Limits.{largest_sheet, sheet_buffer, message_buffer}
 use Rattle.meaning.specs.Answer.{Answer, answer}
 use Rattle.meaning.specs.Line.{spaced, line_of}
@@ -63,7 +63,7 @@ unfoldable pub read_line : List ℕ → List ℕ
 read_line sheet = bytes "read" ++ spaced (word sheet 20 ∷ word sheet 4 ∷ []) ++ checksum sheet
 
 unfoldable pub rewritten_line : Answer → List ℕ
-rewritten_line a = if a.code == 0 then read_line a.sheet else line_of a
+rewritten_line a = test a.code == 0 then read_line a.sheet else line_of a
 
 unfoldable pub sheet_line : List ℕ → List ℕ
 sheet_line sheet = rewritten_line (rewritten sheet largest_sheet)

@@ -8,7 +8,7 @@ use native.Mathlib.Omega.{arith}
 use native.Mathlib.Decide.{ℕ_discrete}
 use borrow.Author.Tests.{eq-eqb, ne_eqb}
 use lib.Dec.{eqb}
-use Rattle.meaning.specs.Base.{◌or◌, if◌then◌else◌, is_in, base_open}
+use Rattle.meaning.specs.Base.{◌or◌, test◌then◌else◌, is_in, base_open}
 use Rattle.meaning.specs.Types.{int, maybe, plain}
 use Rattle.meaning.specs.Message.{a_type}
 use Rattle.meaning.specs.Operators.{ok, when}
@@ -29,21 +29,21 @@ maybe_number w p i hp hi = rw (same_number w i p hi hp, same_unknown w i hi)
 
 module _ (p i c r : ℕ) where
   pub expect_same : i ≡ p → Expected p i c r (Typed r)
-  unfolding when if◌then◌else◌ ◌or◌
+  unfolding when test◌then◌else◌ ◌or◌
   expect_same e = record {
     says = λ ws t n k w hi hp hr. accepts n r hr (rw (maybe_number w p i hp hi, eq-eqb i p e));
     codes = inl refl;
   }
 
   pub expect_unknown : (i ≡ p → ⊥) → i ≡ 0 → Expected p i c r (Typed r)
-  unfolding when if◌then◌else◌ ◌or◌
+  unfolding when test◌then◌else◌ ◌or◌
   expect_unknown d e = record {
     says = λ ws t n k w hi hp hr. accepts n r hr (rw (maybe_number w p i hp hi, ne_eqb i p d, eq-eqb i 0 e));
     codes = inl refl;
   }
 
   pub expect_not : (i ≡ p → ⊥) → (i ≡ 0 → ⊥) → Expected p i c r (Refused (because c i 0))
-  unfolding when if◌then◌else◌ ◌or◌
+  unfolding when test◌then◌else◌ ◌or◌
   expect_not d e = record {
     says = λ ws t n k w hi hp hr. refuses_one n c i 0 k hi (rw (maybe_number w p i hp hi, ne_eqb i p d, ne_eqb i 0 e));
     codes = inr refl;
@@ -121,7 +121,7 @@ module _ {cs : List ℕ} {i k : ℕ} (kind_is : KindOf cs i k) where
   sized_by t n s w h = rw (kind_is.says t s w h)
 
   pub sized_yes : {q : Bool} → q ≡ is_in k (0 ∷ 3 ∷ 8 ∷ 9 ∷ 10 ∷ []) → q ≡ true → OfOne cs sized_rule i (Typed 1)
-  unfolding when if◌then◌else◌ plain
+  unfolding when test◌then◌else◌ plain
   sized_yes e y = record {
     says = λ ws t n s w h.
         accepts n 1 (omega (arith, w.base))
@@ -129,7 +129,7 @@ module _ {cs : List ℕ} {i k : ℕ} (kind_is : KindOf cs i k) where
   }
 
   pub sized_no : {q : Bool} → q ≡ is_in k (0 ∷ 3 ∷ 8 ∷ 9 ∷ 10 ∷ []) → q ≡ false → OfOne cs sized_rule i (Refused (because 40 i 0))
-  unfolding when if◌then◌else◌
+  unfolding when test◌then◌else◌
   sized_no e y = record {
     says = λ ws t n s w h. refuses_one n 40 i 0 names_sized h (sized_by t n s w h ∙ rw (sym e ∙ y));
   }

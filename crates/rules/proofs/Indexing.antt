@@ -6,7 +6,7 @@ use Prim.Native.Nat.{ℕ, ◌<◌}
 use native.Mathlib.Omega.{arith}
 use borrow.Author.Tests.{eq-eqb, ne_eqb}
 use lib.Dec.{eqb}
-use Rattle.meaning.specs.Base.{◌or◌, if◌then◌else◌, choose, base_open}
+use Rattle.meaning.specs.Base.{◌or◌, test◌then◌else◌, choose, base_open}
 use Rattle.meaning.specs.Types.{Ty, unknown, int, string, same, maybe, kind, plain}
 use Rattle.meaning.specs.Image.{Name}
 use Rattle.meaning.specs.Message.{a_type}
@@ -35,28 +35,28 @@ module _ (k i v : ℕ) where
   key_by w hk hi = rw (maybe_number w k i hk hi, same_unknown w k hk)
 
   pub key_same : i ≡ k → Keyed k i v (Typed v)
-  unfolding when if◌then◌else◌ ◌or◌
+  unfolding when test◌then◌else◌ ◌or◌
   key_same e = record {
     says = λ ws t n w hk hi hv. accepts n v hv (rw (key_by w hk hi, eq-eqb i k e));
     codes = inl refl;
   }
 
   pub key_unknown : (i ≡ k → ⊥) → i ≡ 0 → Keyed k i v (Typed v)
-  unfolding when if◌then◌else◌ ◌or◌
+  unfolding when test◌then◌else◌ ◌or◌
   key_unknown d e = record {
     says = λ ws t n w hk hi hv. accepts n v hv (rw (key_by w hk hi, ne_eqb i k d, eq-eqb i 0 e));
     codes = inl refl;
   }
 
   pub key_any : (i ≡ k → ⊥) → (i ≡ 0 → ⊥) → k ≡ 0 → Keyed k i v (Typed v)
-  unfolding when if◌then◌else◌ ◌or◌
+  unfolding when test◌then◌else◌ ◌or◌
   key_any d f e = record {
     says = λ ws t n w hk hi hv. accepts n v hv (rw (key_by w hk hi, ne_eqb i k d, ne_eqb i 0 f, eq-eqb k 0 e));
     codes = inl refl;
   }
 
   pub key_not : (i ≡ k → ⊥) → (i ≡ 0 → ⊥) → (k ≡ 0 → ⊥) → Keyed k i v (Refused (because 47 k i))
-  unfolding when if◌then◌else◌ ◌or◌
+  unfolding when test◌then◌else◌ ◌or◌
   key_not d f e = record {
     says = λ ws t n w hk hi hv.
         refuses_two n 47 k i names_key hk hi (rw (key_by w hk hi, ne_eqb i k d, ne_eqb i 0 f, ne_eqb k 0 e));
@@ -86,7 +86,7 @@ unfolding types_named base_open
 names_object = refl
 
 at_index : (code c m n : ℕ) → (c ≡ 50 → ⊥) → (code ≡ 0) ⊎ (code ≡ c) → index_place code m n ≡ n
-unfolding index_place if◌then◌else◌
+unfolding index_place test◌then◌else◌
 at_index code c m n d (inl e) = rw e
 at_index code c m n d (inr e) = rw (e, ne_eqb c 50 d)
 
@@ -104,14 +104,14 @@ module _ {cs : List ℕ} {o k : ℕ} (kind_is : KindOf cs o k) (i : ℕ) where
   own t s w h e = sym (kind_is.says t s w h) ∙ e
 
   pub index_unknown : k ≡ 0 → Indexed cs o i (Typed 0)
-  unfolding index_rule choose if◌then◌else◌
+  unfolding index_rule choose test◌then◌else◌
   index_unknown z = record {
     says = λ ws t m n s w ho hi.
         accepts _ 0 (omega (arith, w.base)) (rw (own t s w ho z) (ap ok (sym (unknown_number w))));
   }
 
   pub index_other : (k ≡ 0 → ⊥) → (k ≡ 3 → ⊥) → (k ≡ 8 → ⊥) → (k ≡ 9 → ⊥) → (k ≡ 10 → ⊥) → Indexed cs o i (Refused (because 50 o 0))
-  unfolding index_rule choose if◌then◌else◌ index_place
+  unfolding index_rule choose test◌then◌else◌ index_place
   index_other d0 d3 d8 d9 d10 = record {
     says = λ ws t m n s w ho hi.
         refuses_one m 50 o 0 names_object ho
@@ -120,7 +120,7 @@ module _ {cs : List ℕ} {o k : ℕ} (kind_is : KindOf cs o k) (i : ℕ) where
 
   module _ {d : Decision} where
     pub index_string : k ≡ 3 → Expected 1 i 49 3 d → Indexed cs o i d
-    unfolding index_rule choose if◌then◌else◌ plain
+    unfolding index_rule choose test◌then◌else◌ plain
     index_string z x = record {
       says = λ ws t m n s w ho hi.
           rw (own t s w ho z)
@@ -129,7 +129,7 @@ module _ {cs : List ℕ} {o k : ℕ} (kind_is : KindOf cs o k) (i : ℕ) where
     }
 
     pub index_list : {r : ℕ} → k ≡ 8 → PartOf cs 0 o r → Expected 1 i 46 r d → Indexed cs o i d
-    unfolding index_rule choose if◌then◌else◌
+    unfolding index_rule choose test◌then◌else◌
     index_list z y x = record {
       says = λ ws t m n s w ho hi.
           let e : kind (denote t o) ≡ 8 = own t s w ho z in
@@ -137,7 +137,7 @@ module _ {cs : List ℕ} {o k : ℕ} (kind_is : KindOf cs o k) (i : ℕ) where
     }
 
     pub index_tuple : {r : ℕ} → k ≡ 10 → CommonOf cs o r → Expected 1 i 48 r d → Indexed cs o i d
-    unfolding index_rule choose if◌then◌else◌
+    unfolding index_rule choose test◌then◌else◌
     index_tuple z y x = record {
       says = λ ws t m n s w ho hi.
           let e : kind (denote t o) ≡ 10 = own t s w ho z in
@@ -145,7 +145,7 @@ module _ {cs : List ℕ} {o k : ℕ} (kind_is : KindOf cs o k) (i : ℕ) where
     }
 
     pub index_dict : {p q : ℕ} → k ≡ 9 → PartOf cs 0 o p → PartOf cs 1 o q → Keyed p i q d → Indexed cs o i d
-    unfolding index_rule choose if◌then◌else◌
+    unfolding index_rule choose test◌then◌else◌
     index_dict z y v x = record {
       says = λ ws t m n s w ho hi.
           let e : kind (denote t o) ≡ 9 = own t s w ho z in

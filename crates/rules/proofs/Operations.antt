@@ -5,7 +5,7 @@ use Prim.Native.Nat.{ℕ, ◌≤◌, ◌<◌}
 use native.Mathlib.Omega.{arith}
 use native.Mathlib.Decide.{ℕ_discrete}
 use borrow.Author.Tests.{eq-eqb, ne_eqb}
-use Rattle.meaning.specs.Base.{if◌then◌else◌, base_open}
+use Rattle.meaning.specs.Base.{test◌then◌else◌, base_open}
 use Rattle.meaning.specs.Types.{plain}
 use Rattle.meaning.specs.Decode.{binary_of, unary_of}
 use Rattle.meaning.specs.Operators.{ok, when, operator_answer, unary_answer, binary_rule, unary_rule}
@@ -85,7 +85,7 @@ module _ {cs : List ℕ} {i j k l x : ℕ} (op : ℕ) (left : KindOf cs i k) (ri
   }
 
   pub binary_equal : x ≡ 8 → i ≡ j → OfTwo cs (λ n. binary_rule n (binary_of op)) i j (Typed 2)
-  unfolding when if◌then◌else◌ plain
+  unfolding when test◌then◌else◌ plain
   binary_equal h e = record {
     says = λ ws t n s w hi hj.
         accepts n 2 (omega (arith, w.base))
@@ -93,7 +93,7 @@ module _ {cs : List ℕ} {i j k l x : ℕ} (op : ℕ) (left : KindOf cs i k) (ri
   }
 
   pub binary_differs : x ≡ 8 → (i ≡ j → ⊥) → OfTwo cs (λ n. binary_rule n (binary_of op)) i j (Refused (because 32 i j))
-  unfolding when if◌then◌else◌
+  unfolding when test◌then◌else◌
   binary_differs h e = record {
     says = λ ws t n s w hi hj.
         refuses_two n 32 i j (binary_names 32 (omega arith) (omega arith)) hi hj

@@ -5,7 +5,7 @@ use Prim.Native.Nat.{ℕ, ◌≤◌, ◌<◌}
 use native.Mathlib.Omega.{arith}
 use borrow.Author.Tests.{eq-eqb, ne_eqb}
 use Rattle.types.specs.Reading.{Known}
-use Rattle.meaning.specs.Base.{if◌then◌else◌, choose, base_open}
+use Rattle.meaning.specs.Base.{test◌then◌else◌, choose, base_open}
 use Rattle.meaning.specs.Image.{Name}
 use Rattle.meaning.specs.Message.{a_type, refusal}
 use Rattle.meaning.specs.Operators.{Checked, ok, refused}
@@ -31,20 +31,20 @@ names_code : (c : ℕ) → 1 ≤ types_named c → c ≡ 0 → ⊥
 names_code c h e = omega (arith, names_none e)
 
 pub was_ok : (ws : List Name) (t : Tab) (c n number a b : ℕ) → c ≡ 0 → decided ws t c n number a b ≡ ok (denote t number)
-unfolding decided if◌then◌else◌
+unfolding decided test◌then◌else◌
 was_ok ws t c n number a b e = rw (eq-eqb c 0 e)
 
 pub was_refused : (ws : List Name) (t : Tab) (c n number a b : ℕ) → (c ≡ 0 → ⊥)
     → decided ws t c n number a b ≡ refused (refusal c n (pieces ws t c a b))
-unfolding decided if◌then◌else◌
+unfolding decided test◌then◌else◌
 was_refused ws t c n number a b e = rw (ne_eqb c 0 e)
 
 one_piece : (ws : List Name) (t : Tab) (c a b : ℕ) → types_named c ≡ 1 → pieces ws t c a b ≡ a_type (denote t a) ∷ []
-unfolding pieces choose if◌then◌else◌
+unfolding pieces choose test◌then◌else◌
 one_piece ws t c a b e = rw e
 
 two_pieces : (ws : List Name) (t : Tab) (c a b : ℕ) → types_named c ≡ 2 → pieces ws t c a b ≡ a_type (denote t a) ∷ a_type (denote t b) ∷ []
-unfolding pieces choose if◌then◌else◌
+unfolding pieces choose test◌then◌else◌
 two_pieces ws t c a b e = rw e
 
 -- ---- decisions of each form

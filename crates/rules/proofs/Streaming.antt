@@ -6,7 +6,7 @@ use Prim.Native.Nat.{ℕ, ◌<◌, ◌≤◌}
 use native.Mathlib.Omega.{arith}
 use native.Mathlib.Decide.{ℕ_discrete}
 use borrow.Author.Tests.{ne_eqb}
-use Rattle.meaning.specs.Base.{◌or◌, if◌then◌else◌, choose, if_some, is_in, base_open}
+use Rattle.meaning.specs.Base.{◌or◌, test◌then◌else◌, choose, if_some, is_in, base_open}
 use Rattle.meaning.specs.Operators.{ok}
 use Rattle.meaning.specs.Rules.{streamed}
 use Rattle.types.specs.Table.{Tab, Wf, Made, shaped, built, denote}
@@ -24,7 +24,7 @@ use Rattle.rules.proofs.Outcomes.{names_none, accepts, refuses_one}
 
 module _ {cs : List ℕ} {i k : ℕ} (kind_is : KindOf cs i k) where
   pub stream_none : 9 ≤ k → k < 11 → StreamedOf cs i false 0
-  unfolding streamed is_in ◌or◌ if◌then◌else◌ perhaps
+  unfolding streamed is_in ◌or◌ test◌then◌else◌ perhaps
   stream_none l m = record {
     says = λ t s w h. elim (ℕ_discrete k 9) [
       | yes e ↦ rw (sym (kind_is.says t s w h) ∙ e)
@@ -34,7 +34,7 @@ module _ {cs : List ℕ} {i k : ℕ} (kind_is : KindOf cs i k) where
   }
 
   pub stream_other : {there : Bool} {r : ℕ} → (k ≡ 9 → ⊥) → (k ≡ 10 → ⊥) → ElementOf cs i there r → StreamedOf cs i there r
-  unfolding streamed is_in ◌or◌ if◌then◌else◌
+  unfolding streamed is_in ◌or◌ test◌then◌else◌
   stream_other d f x = record {
     says = λ t s w h. rw (sym (kind_is.says t s w h), ne_eqb k 9 d, ne_eqb k 10 f) (x.says t s w h);
     below = λ t s w h. x.below t s w h;
@@ -54,11 +54,11 @@ module _ {t : Tab} {i : ℕ} (asks : Asks t i) where
 
 module _ {t u : Tab} {r : ℕ} (filters : Bool) (e : ℕ) where
   pub filter_made : filters ≡ true → Made t u r (built 12 (denote t e) (denote t 0)) 0 → Made t u r (stream_type filters (denote t e)) 0
-  unfolding stream_type built shaped choose if◌then◌else◌
+  unfolding stream_type built shaped choose test◌then◌else◌
   filter_made f m = rw f m
 
   pub map_made : Wf t → filters ≡ false → Made t u r (built 11 (denote t 0) (denote t 0)) 0 → Made t u r (stream_type filters (denote t e)) 0
-  unfolding stream_type built shaped choose if◌then◌else◌
+  unfolding stream_type built shaped choose test◌then◌else◌
   map_made w f m = rw (f, ← unknown_number w) m
 
 -- ---- the decision

@@ -1,7 +1,7 @@
 -- What the leaves promise, whatever the table, the image's names and the node: numbers stand for types, as the table that the cells cs
 -- hold says.
 use Rattle.std.specs.Prelude.{◌≡◌, Bool, ◌⊎◌, List, [], ◌∷◌, ℕ, ◌<◌, eqb}
-use Rattle.meaning.specs.Base.{◌or◌, if◌then◌else◌, if_some, is_in}
+use Rattle.meaning.specs.Base.{◌or◌, test◌then◌else◌, if_some, is_in}
 use Rattle.meaning.specs.Types.{Ty, unknown, int, string, function, list, dict, map_iter, filter_iter, same, maybe, kind}
 use Rattle.meaning.specs.Image.{Name}
 use Rattle.meaning.specs.Message.{a_type, refusal}
@@ -53,7 +53,7 @@ callable_rule c n a = when (maybe function a) a c n (a_type a ∷ [])
 -- `number` is the element type after the turn
 pub record ListStep (so_far next : ℕ) (stop : Bool) (number : ℕ) : Type 0 where
   pub says : (t : Tab) (c : ℕ × Checked) (cs : Children) → Wf t → so_far < t.n → next < t.n → c.1 ≡ ok (denote t next)
-      → list_rule (denote t so_far) (c ∷ cs) ≡ (if stop then ok (list (denote t number)) else list_rule (denote t number) cs)
+      → list_rule (denote t so_far) (c ∷ cs) ≡ (test stop then ok (list (denote t number)) else list_rule (denote t number) cs)
   pub below : (t : Tab) → Wf t → next < t.n → number < t.n
 
 pub record JoinedOf (a b r : ℕ) : Type 0 where
@@ -65,7 +65,7 @@ pub record DictStep (k v a b : ℕ) (stop : Bool) (key value : ℕ) : Type 0 whe
   pub says : (t : Tab) (c d : ℕ × Checked) (cs : Children) → Wf t → k < t.n → v < t.n → a < t.n → b < t.n
       → c.1 ≡ ok (denote t a) → d.1 ≡ ok (denote t b)
       → dict_rule (denote t k) (denote t v) (c ∷ d ∷ cs)
-      ≡ (if stop then ok (dict (denote t key) (denote t value)) else dict_rule (denote t key) (denote t value) cs)
+      ≡ (test stop then ok (dict (denote t key) (denote t value)) else dict_rule (denote t key) (denote t value) cs)
   pub key_below : (t : Tab) → Wf t → a < t.n → key < t.n
   pub value_below : (t : Tab) → Wf t → b < t.n → value < t.n
 
@@ -82,7 +82,7 @@ pub record Keyed (wanted i value : ℕ) (d : Decision) : Type 0 where
 
 -- 50 is at the object's node m, and all else at the index's node n
 unfoldable pub index_place : ℕ → ℕ → ℕ → ℕ
-index_place c m n = if eqb c 50 then m else n
+index_place c m n = test eqb c 50 then m else n
 
 pub record Indexed (cs : List ℕ) (object index : ℕ) (d : Decision) : Type 0 where
   pub says : (ws : List Name) (t : Tab) (m n : ℕ) → t.cells ≡ cs → Wf t → object < t.n → index < t.n
@@ -96,10 +96,10 @@ pub record StreamedOf (cs : List ℕ) (i : ℕ) (there : Bool) (r : ℕ) : Type 
 
 -- filter keeps the element type, and map does not tell what it gives
 unfoldable pub stream_type : Bool → Ty → Ty
-stream_type filters t = if filters then filter_iter t else map_iter unknown
+stream_type filters t = test filters then filter_iter t else map_iter unknown
 
 unfoldable pub second_code : Bool → ℕ
-second_code filters = if filters then 45 else 43
+second_code filters = test filters then 45 else 43
 
 abbrev pub second_rule : Bool → ℕ → Ty → Checked
 second_rule filters n b =

@@ -1,6 +1,6 @@
 -- What a decision means: the type of a number, or a refusal whose message names what its a and b stand for.
 use Rattle.std.specs.Prelude.{◌≡◌, List, [], ◌∷◌, ℕ, ◌≤◌, ◌<◌, eqb}
-use Rattle.meaning.specs.Base.{if◌then◌else◌, choose, is_in}
+use Rattle.meaning.specs.Base.{test◌then◌else◌, choose, is_in}
 use Rattle.meaning.specs.Image.{Role, plain, exactly, between, any, takes, Name, name_of}
 use Rattle.meaning.specs.Message.{Piece, a_type, a_text, a_number, refusal}
 use Rattle.meaning.specs.Operators.{Checked, ok, refused}
@@ -15,8 +15,8 @@ use Rattle.rules.specs.declared.Decision.TheVariants.{«Type» as Typed, Refused
 -- how many types the message of a code names
 unfoldable pub types_named : ℕ → ℕ
 types_named c =
-    if is_in c (22 ∷ 25 ∷ 29 ∷ 30 ∷ 31 ∷ 32 ∷ 33 ∷ 47 ∷ []) then 2
-    else if is_in c (24 ∷ 27 ∷ 34 ∷ 35 ∷ 39 ∷ 40 ∷ 41 ∷ 42 ∷ 43 ∷ 44 ∷ 45 ∷ 46 ∷ 48 ∷ 49 ∷ 50 ∷ []) then 1 else 0
+    test is_in c (22 ∷ 25 ∷ 29 ∷ 30 ∷ 31 ∷ 32 ∷ 33 ∷ 47 ∷ []) then 2
+    else test is_in c (24 ∷ 27 ∷ 34 ∷ 35 ∷ 39 ∷ 40 ∷ 41 ∷ 42 ∷ 43 ∷ 44 ∷ 45 ∷ 46 ∷ 48 ∷ 49 ∷ 50 ∷ []) then 1 else 0
 
 -- how many arguments a function takes, and 0 for what is none
 unfoldable pub taken : Role → ℕ
@@ -62,7 +62,7 @@ decision_second (Refused w) = w.b
 
 -- what these mean at node n
 unfoldable pub decided : List Name → Tab → ℕ → ℕ → ℕ → ℕ → ℕ → Checked
-decided ws t c n number a b = if eqb c 0 then ok (denote t number) else refused (refusal c n (pieces ws t c a b))
+decided ws t c n number a b = test eqb c 0 then ok (denote t number) else refused (refusal c n (pieces ws t c a b))
 
 -- at node n the decision says what r is, its types are numbers of the table, its counts fit a word, and a refusal has a code
 pub record Decides (ws : List Name) (t : Tab) (r : Checked) (n : ℕ) (d : Decision) : Type 0 where

@@ -9,7 +9,7 @@ use borrow.Author.Tests.{eq-eqb, ne_eqb}
 use lib.ListN.{length, get_or, take, drop, drop_of_length-le, length-append, length-drop, length-map, get_or-map}
 use lib.Seq.{drop-cons, length-take-le}
 use Rattle.meaning.specs.Limits.{longest_name, most_text}
-use Rattle.meaning.specs.Base.{if◌then◌else◌, words}
+use Rattle.meaning.specs.Base.{test◌then◌else◌, words}
 use Rattle.meaning.specs.Types.{Ty, unknown, kind, parts, part}
 use Rattle.meaning.specs.Sheet.{Triple, laid, number, elements_in, elements_of, type_record, type_records}
 use Rattle.meaning.proofs.SheetWords.{words_length, laid_length}
@@ -90,7 +90,7 @@ module _ {cs ms : List ℕ} {i : ℕ} (m : Met cs ms i) where
   -- ---- its record
 
   pub record_tuple : {k q : ℕ} (from : ℕ) → KindOf cs i k → k ≡ 10 → PartsOf cs i q → record_bytes tt₀ ms from i ≡ words (10 ∷ from ∷ q ∷ [])
-  unfolding type_record if◌then◌else◌ laid
+  unfolding type_record test◌then◌else◌ laid
   record_tuple from told h many =
       let e : kind (denote tt₀ i) ≡ 10 = sym (told.says tt₀ refl m.marked.wf m.below) ∙ h in
       rw (eq-eqb _ _ e, many.says tt₀ refl m.marked.wf m.below)
@@ -118,7 +118,7 @@ module _ {cs ms : List ℕ} {i : ℕ} (m : Met cs ms i) where
 
       pub record_other : {r s p q : ℕ} (from : ℕ) → PartOf cs 0 i r → NumberOf ms r p → PartOf cs 1 i s → NumberOf ms s q
           → record_bytes tt₀ ms from i ≡ words (k ∷ p ∷ q ∷ [])
-      unfolding type_record if◌then◌else◌ laid
+      unfolding type_record test◌then◌else◌ laid
       record_other from a x b y =
           let ma = a.says tt₀ refl m.marked.wf m.below not_tuple in
           let mb = b.says tt₀ refl m.marked.wf m.below not_tuple in

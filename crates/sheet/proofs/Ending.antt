@@ -9,7 +9,7 @@ use borrow.Author.Tests.{leb-true, leb-false, le-leb}
 use lib.Dec.{leb}
 use lib.ListN.{length, take, drop, length-append}
 use lib.Seq.{take-append_seam}
-use Rattle.meaning.specs.Base.{◌and◌, if◌then◌else◌, same_text, word, words, count}
+use Rattle.meaning.specs.Base.{◌and◌, test◌then◌else◌, same_text, word, words, count}
 use Rattle.meaning.specs.Image.{text_stands}
 use Rattle.meaning.specs.Sheet.{Entry, types_of, elements_of, sheet_of, texts_stand, within_limits}
 use Rattle.meaning.specs.Read.{entries_in, is_sheet}
@@ -89,11 +89,11 @@ module _ {es : List Entry} {fits : Bool} {long : ℕ} {old new : List ℕ} (w : 
     fit = sym w.fits_is ∙ f
 
     wrote_length : long ≡ length (sheet_of es)
-    unfolding written if◌then◌else◌
+    unfolding written test◌then◌else◌
     wrote_length = rw fit at w.length_is
 
     wrote_out : new ≡ sheet_of es ++ drop (length (sheet_of es)) old
-    unfolding written if◌then◌else◌ overlaid
+    unfolding written test◌then◌else◌ overlaid
     wrote_out = rw fit at w.out_is
 
     pub wrote_inside : 0 + long ≤ length new

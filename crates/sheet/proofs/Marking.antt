@@ -11,7 +11,7 @@ use borrow.Author.Tests.{eq-eqb, ne_eqb}
 use lib.ListN.{length, get_or, set, take, drop, length-set, length-append, length-drop, length-map, get_or-map}
 use lib.Seq.{get_or-set_same, get_or-set_other, take-set-le, drop-set-lt, drop-set-add, take-suc-set, get_or-take, get_or-drop, length-take-le}
 use Rattle.meaning.specs.Limits.{most_types}
-use Rattle.meaning.specs.Base.{if◌then◌else◌, count}
+use Rattle.meaning.specs.Base.{test◌then◌else◌, count}
 use Rattle.meaning.specs.Types.{Ty, unknown}
 use Rattle.meaning.specs.Sheet.{add_new}
 use Rattle.meaning.proofs.Choices.{count_long}
@@ -184,11 +184,11 @@ module _ (t : Tab) (ms : List ℕ) (i : ℕ) (m : Marked t ms) (below : i < t.n)
   -- ---- what `complete` does
 
   completed_new : get_or ms i 0 ≡ 1 → completed ms i ≡ added ms i
-  unfolding completed if◌then◌else◌
+  unfolding completed test◌then◌else◌
   completed_new z = rw (eq-eqb _ _ z)
 
   completed_old : (get_or ms i 0 ≡ 1 → ⊥) → completed ms i ≡ ms
-  unfolding completed if◌then◌else◌
+  unfolding completed test◌then◌else◌
   completed_old n = rw (ne_eqb _ _ n)
 
   module _ (o : Ordered [] (add_new ty us)) where

@@ -13,7 +13,7 @@ use lib.Dec.{eqb, leb}
 use lib.ListN.{length, get_or, set, take, drop, length-set, length-take, get_or-map, get_or-eq_default}
 use lib.Seq.{take-suc-set, get_or-take, drop-drop}
 use Rattle.meaning.specs.Limits.{largest_sheet, most_types, most_elements, most_names}
-use Rattle.meaning.specs.Base.{choose, if◌then◌else◌, word, records}
+use Rattle.meaning.specs.Base.{choose, test◌then◌else◌, word, records}
 use Rattle.meaning.specs.Types.{Ty, unknown, tuple, tys}
 use Rattle.meaning.specs.Sheet.{types_of, elements_of, spellings}
 use Rattle.meaning.specs.Read.{numbered, type_from, entries_in, is_sheet}
@@ -73,11 +73,11 @@ bounded_all bs {T} {E} {N} s e_t l_t e_e l_e e_n l_n er =
 -- ---- numbers
 
 pub number_plain : (xs : List ℕ) (n : ℕ) → n < 8 → number_in xs n ≡ n
-unfolding number_in if◌then◌else◌
+unfolding number_in test◌then◌else◌
 number_plain xs n h = rw (lt-ltb n 8 h)
 
 number_other : (xs : List ℕ) (n : ℕ) → 8 ≤ n → number_in xs n ≡ get_or xs (n - 8) 0
-unfolding number_in if◌then◌else◌
+unfolding number_in test◌then◌else◌
 number_other xs n h = rw (le-ltb n 8 h)
 
 pub number_found : (xs : List ℕ) (k n : ℕ) → (n < 8 → ⊥) → n - 8 < k → get_or xs (n - 8) 0 ≡ number_in (take k xs) n
@@ -90,7 +90,7 @@ number_none xs k n a h =
 -- what a number means
 module _ {t : Tab} {xs : List ℕ} (b : Below t xs) where
   pub number_means : (n : ℕ) → denote t (number_in xs n) ≡ numbered (map (denote t) xs) n
-  unfolding numbered if◌then◌else◌
+  unfolding numbered test◌then◌else◌
   number_means n = elim (dec_lt n 8) [
     | yes h ↦ rw (number_plain xs n h, lt-ltb n 8 h) (plain_number b.wf n h)
     | no h ↦
@@ -204,18 +204,18 @@ none_made w e = record {
 
 module _ (us : List Ty) (kind p q : ℕ) where
   low_unknown : kind < 8 → type_from [] us (kind, p, q) ≡ unknown
-  unfolding type_from choose if◌then◌else◌
+  unfolding type_from choose test◌then◌else◌
   low_unknown h =
       rw (ne_eqb kind 8 (λ e. absurd (omega arith)), ne_eqb kind 9 (λ e. absurd (omega arith)), ne_eqb kind 10 (λ e. absurd (omega arith)), ne_eqb kind 11 (λ e. absurd (omega arith)), ne_eqb kind 12 (λ e. absurd (omega arith)))
 
   high_unknown : 12 < kind → type_from [] us (kind, p, q) ≡ unknown
-  unfolding type_from choose if◌then◌else◌
+  unfolding type_from choose test◌then◌else◌
   high_unknown h =
       rw (ne_eqb kind 8 (λ e. absurd (omega arith)), ne_eqb kind 9 (λ e. absurd (omega arith)), ne_eqb kind 10 (λ e. absurd (omega arith)), ne_eqb kind 11 (λ e. absurd (omega arith)), ne_eqb kind 12 (λ e. absurd (omega arith)))
 
   -- a kind with parts is formed of their meanings: the second one only for a Dict
   built_is : (a b : Ty) → 8 ≤ kind → kind ≤ 12 → (kind ≡ 10 → ⊥) → a ≡ numbered us p → (kind ≡ 9 → b ≡ numbered us q) → built kind a b ≡ type_from [] us (kind, p, q)
-  unfolding built shaped type_from choose if◌then◌else◌
+  unfolding built shaped type_from choose test◌then◌else◌
   built_is a b l m n ea eb = elim (ℕ_discrete kind 8) [
     | yes e ↦ rw (eq-eqb kind 8 e, ea)
     | no n8 ↦ elim (ℕ_discrete kind 9) [
@@ -227,12 +227,12 @@ module _ (us : List Ty) (kind p q : ℕ) where
     ]
   ]
 
-pub second_dict : (kind x : ℕ) → kind ≡ 9 → ◌≡◌ {A = ℕ} (if eqb kind 9 then x else 0) x
-unfolding if◌then◌else◌
+pub second_dict : (kind x : ℕ) → kind ≡ 9 → ◌≡◌ {A = ℕ} (test eqb kind 9 then x else 0) x
+unfolding test◌then◌else◌
 second_dict kind x e = rw (eq-eqb kind 9 e)
 
-pub second_other : (kind x : ℕ) → (kind ≡ 9 → ⊥) → ◌≡◌ {A = ℕ} (if eqb kind 9 then x else 0) 0
-unfolding if◌then◌else◌
+pub second_other : (kind x : ℕ) → (kind ≡ 9 → ⊥) → ◌≡◌ {A = ℕ} (test eqb kind 9 then x else 0) 0
+unfolding test◌then◌else◌
 second_other kind x n = rw (ne_eqb kind 9 n)
 
 module _ {xs : List ℕ} {k kind : ℕ} {t : Tab} (f : Forming xs k kind t) (p q : ℕ) where
@@ -242,7 +242,7 @@ module _ {xs : List ℕ} {k kind : ℕ} {t : Tab} (f : Forming xs k kind t) (p q
   pub form_high : 12 < kind → Made t t 0 (type_from [] (map (denote t) (take k xs)) (kind, p, q)) 0
   form_high h = none_made f.below.wf (high_unknown (map (denote t) (take k xs)) kind p q h)
 
-  module _ {a b : ℕ} (l : kind < 8 → ⊥) (m : 12 < kind → ⊥) (ea : a ≡ number_in (take k xs) p) (eb : b ≡ (if eqb kind 9 then number_in (take k xs) q else 0)) where
+  module _ {a b : ℕ} (l : kind < 8 → ⊥) (m : 12 < kind → ⊥) (ea : a ≡ number_in (take k xs) p) (eb : b ≡ (test eqb kind 9 then number_in (take k xs) q else 0)) where
     second_below : b < t.n
     second_below = elim (ℕ_discrete kind 9) [
       | yes e ↦ rw (eb ∙ second_dict kind _ e) (number_below f.below q)

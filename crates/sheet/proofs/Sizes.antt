@@ -7,7 +7,7 @@ use native.Mathlib.Omega.{arith}
 use borrow.Author.Tests.{eq-eqb, ne_eqb}
 use lib.ListN.{length, get_or, drop, drop_of_length-le, length-append}
 use lib.Seq.{drop-cons}
-use Rattle.meaning.specs.Base.{if◌then◌else◌}
+use Rattle.meaning.specs.Base.{test◌then◌else◌}
 use Rattle.meaning.specs.Types.{Ty, unknown, kind, parts}
 use Rattle.meaning.specs.Sheet.{elements_in, elements_of}
 use Rattle.meaning.proofs.SheetTypes.{number_plain, number_above}
@@ -21,11 +21,11 @@ use Rattle.sheet.proofs.Marking.{types_length, type_at_lem}
 -- ---- the elements of one type
 
 pub elements_tuple : (t : Ty) → kind t ≡ 10 → elements_in t ≡ parts t
-unfolding elements_in if◌then◌else◌
+unfolding elements_in test◌then◌else◌
 elements_tuple t e = rw (eq-eqb _ _ e)
 
 pub elements_none : (t : Ty) → (kind t ≡ 10 → ⊥) → elements_in t ≡ []
-unfolding elements_in if◌then◌else◌
+unfolding elements_in test◌then◌else◌
 elements_none t n = rw (ne_eqb _ _ n)
 
 module _ {cs : List ℕ} {i k : ℕ} (told : KindOf cs i k) where

@@ -11,7 +11,7 @@ use borrow.Author.Tests.{eq-eqb, ne_eqb}
 use lib.ListN.{length, get_or, set, take, drop, length-set, length-append, drop_of_length-le, get_or-append}
 use lib.Seq.{drop-cons, drop-drop, take-suc-set, get_or-append_seam}
 use Rattle.meaning.specs.Limits.{most_types}
-use Rattle.meaning.specs.Base.{choose, if◌then◌else◌, word, records}
+use Rattle.meaning.specs.Base.{choose, test◌then◌else◌, word, records}
 use Rattle.meaning.specs.Types.{Ty, tuple, tys, kind}
 use Rattle.meaning.specs.Sheet.{Entry, Triple, types_of, elements_in, elements_of, type_record, type_records}
 use Rattle.meaning.specs.Read.{triple, numbered, type_from, types_from, entries_in, is_sheet}
@@ -71,19 +71,19 @@ piece_words bs at n p q h =
 
 module _ (us : List Ty) where
   record_kind : (from : ℕ) (t : Ty) → (type_record us from t).0 ≡ kind t
-  unfolding type_record if◌then◌else◌
+  unfolding type_record test◌then◌else◌
   record_kind from t = elim (ℕ_discrete (kind t) 10) [ yes e ↦ rw (eq-eqb _ _ e) (sym e) | no n ↦ rw (ne_eqb _ _ n) ]
 
   record_first : (from : ℕ) (t : Ty) → kind t ≡ 10 → (type_record us from t).1 ≡ from
-  unfolding type_record if◌then◌else◌
+  unfolding type_record test◌then◌else◌
   record_first from t e = rw (eq-eqb _ _ e)
 
   record_second : (from : ℕ) (t : Ty) → kind t ≡ 10 → (type_record us from t).2 ≡ length (elements_in t)
-  unfolding type_record if◌then◌else◌
+  unfolding type_record test◌then◌else◌
   record_second from t e = rw (eq-eqb _ _ e) (ap length (sym (elements_tuple t e)))
 
   sum_records : (from : ℕ) (ts : List Ty) → tuple_sum (type_records us from ts) ≡ length (elements_of ts)
-  unfolding tuple_sum type_records elements_of if◌then◌else◌
+  unfolding tuple_sum type_records elements_of test◌then◌else◌
   sum_records from [] = refl
   sum_records from (t ∷ ts) =
       let ih = sum_records (from + length (elements_in t)) ts in
@@ -130,11 +130,11 @@ module _ (bs : List ℕ) (h : is_sheet bs ≡ true) where
 -- ---- one record
 
 from_other : (es fs : List ℕ) (us : List Ty) (a b c : ℕ) → (a ≡ 10 → ⊥) → type_from es us (a, b, c) ≡ type_from fs us (a, b, c)
-unfolding type_from choose if◌then◌else◌
+unfolding type_from choose test◌then◌else◌
 from_other es fs us a b c n = rw (ne_eqb a 10 n)
 
 from_tuple : (es : List ℕ) (us : List Ty) (a b c : ℕ) → a ≡ 10 → type_from es us (a, b, c) ≡ tuple (tys (map (numbered us) (take c (drop b es))))
-unfolding type_from choose if◌then◌else◌
+unfolding type_from choose test◌then◌else◌
 from_tuple es us a b c e = rw (ne_eqb a 8 (λ z. absurd (omega arith)), ne_eqb a 9 (λ z. absurd (omega arith)), eq-eqb a 10 e)
 
 module _ {bs xs : List ℕ} {k used : ℕ} {t : Tab} (y : Typing bs xs k used t) where
@@ -152,11 +152,11 @@ module _ {bs xs : List ℕ} {k used : ℕ} {t : Tab} (y : Typing bs xs k used t)
         triple_at bs (40 + 12 * k) ea (eb ∙ ap (word bs) e4) (ec ∙ ap (word bs) e8)
 
     sum_other : (a ≡ 10 → ⊥) → tuple_sum (types_left bs k) ≡ tuple_sum (types_left bs (k + 1))
-    unfolding tuple_sum if◌then◌else◌
+    unfolding tuple_sum test◌then◌else◌
     sum_other n = rw (triples_step bs 40 (word bs 4) k y.here, here_is, ne_eqb a 10 n)
 
     sum_tuple : a ≡ 10 → tuple_sum (types_left bs k) ≡ c + tuple_sum (types_left bs (k + 1))
-    unfolding tuple_sum if◌then◌else◌
+    unfolding tuple_sum test◌then◌else◌
     sum_tuple e = rw (triples_step bs 40 (word bs 4) k y.here, here_is, eq-eqb a 10 e)
 
     pub typing_forming : (a ≡ 10 → ⊥) → Forming xs k a t

@@ -11,7 +11,7 @@ use lib.Dec.{leb}
 use lib.ListN.{length, get_or, set, take, drop, replicate, length-set, length-append, length-drop, length-map, length-replicate, get_or-replicate}
 use lib.Seq.{length-take-le, get_or-set_same, get_or-set_other}
 use Rattle.meaning.specs.Limits.{most_types, most_text}
-use Rattle.meaning.specs.Base.{if◌then◌else◌, words, count}
+use Rattle.meaning.specs.Base.{test◌then◌else◌, words, count}
 use Rattle.meaning.specs.Types.{Ty}
 use Rattle.meaning.specs.Sheet.{Entry, types_of, number, elements_of, type_records, spellings, name_records, sheet_of}
 use Rattle.meaning.specs.Answer.{written}
@@ -289,7 +289,7 @@ module _ {source cs cells ms : List ℕ} {N M n : ℕ} (w : Walked source (tab c
         subst (λ u. length (sheet_of (listed source u cells n)) ≡ total) (own_tab w.marked) (total_is f e_t)
 
     pub wrote_not : (out : List ℕ) → length out < 40 + 12 * T + 4 * E + 12 * n + S → Wrote (listed source (tab cs N M) cells n) false 0 out out
-    unfolding written if◌then◌else◌
+    unfolding written test◌then◌else◌
     wrote_not out h =
         let es = listed source (tab cs N M) cells n in
         let no : leb (length (sheet_of es)) (length out) ≡ false = lt-leb (length (sheet_of es)) (length out) (omega (arith, sheet_long)) in
@@ -301,7 +301,7 @@ module _ {source cs cells ms : List ℕ} {N M n : ℕ} (w : Walked source (tab c
 
     pub wrote_all : (out new : List ℕ) → (length out < 40 + 12 * T + 4 * E + 12 * n + S → ⊥) → Put out new 0 (sheet_of (listed source (tab_of cs ms) cells n))
         → Wrote (listed source (tab cs N M) cells n) true (40 + 12 * T + 4 * E + 12 * n + S) out new
-    unfolding written if◌then◌else◌
+    unfolding written test◌then◌else◌
     wrote_all out new h p =
         let es = listed source (tab cs N M) cells n in
         let yes_fits : leb (length (sheet_of es)) (length out) ≡ true = le-leb (length (sheet_of es)) (length out) (omega (arith, sheet_long)) in

@@ -2,7 +2,7 @@
 -- table's numbers in the sheet's order, then how many they are and the table's counts.
 use Rattle.std.specs.Prelude.{◌≡◌, ℕ, ◌+◌, ◌*◌, ◌≤◌, ◌<◌, eqb, length, get_or, set, take, drop}
 use mathlib.Core.List.{List, [], ◌∷◌, map, Memᴰ}
-use Rattle.meaning.specs.Base.{if◌then◌else◌}
+use Rattle.meaning.specs.Base.{test◌then◌else◌}
 use Rattle.meaning.specs.Limits.{most_types}
 use Rattle.meaning.specs.Types.{Ty}
 use Rattle.meaning.specs.Sheet.{met, position}
@@ -71,7 +71,7 @@ pub record Marked (t : Tab) (ms : List ℕ) : Type 0 where
 -- i is the next type of the sheet, if it has no number
 unfoldable pub completed : List ℕ → ℕ → List ℕ
 completed ms i =
-    if eqb (get_or ms i 0) 1 then set (set (set ms i (8 + count_in ms)) (order_from + count_in ms) i) met_cell (count_in ms + 1) else ms
+    test eqb (get_or ms i 0) 1 then set (set (set ms i (8 + count_in ms)) (order_from + count_in ms) i) met_cell (count_in ms + 1) else ms
 
 pub record Completing (ms : List ℕ) (i : ℕ) : Type 0 where
   pub number : i < most_numbers

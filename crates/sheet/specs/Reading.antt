@@ -1,7 +1,7 @@
 -- The reader's steps: the areas of a byte string, and what each step makes of them.
 use Rattle.std.specs.Prelude.{◌≡◌, Bool, true, false, List, [], ◌∷◌, map, ℕ, ◌+◌, ◌-◌, ◌*◌, ◌≤◌, ◌<◌, eqb, ltb, length, get_or, take, drop}
 use Rattle.meaning.specs.Limits.{most_names, longest_name, most_types, most_elements, largest_sheet}
-use Rattle.meaning.specs.Base.{if◌then◌else◌, word, records}
+use Rattle.meaning.specs.Base.{test◌then◌else◌, word, records}
 use Rattle.meaning.specs.Types.{Ty, tuple, tys}
 use Rattle.meaning.specs.Sheet.{Entry, Triple, sheet_of, texts_stand}
 use Rattle.meaning.specs.Read.{triple, numbered, type_from, types_from, entries_in, is_sheet}
@@ -33,7 +33,7 @@ elements_in bs = words_at bs (elements_at bs) (word bs 12)
 -- how many elements the Tuples of the records have
 unfoldable pub tuple_sum : List Triple → ℕ
 tuple_sum [] = 0
-tuple_sum (r ∷ rs) = let later = tuple_sum rs in if eqb r.0 10 then r.2 + later else later
+tuple_sum (r ∷ rs) = let later = tuple_sum rs in test eqb r.0 10 then r.2 + later else later
 
 pub record Bounds (bs : List ℕ) : Type 0 where
   pub short : length bs ≤ largest_sheet
@@ -51,7 +51,7 @@ pub record Told (P : Type 0) (bs : List ℕ) (r : Bool) : Type 0 where
 
 -- the table's number of a sheet's number, over the table's numbers of the types before
 unfoldable pub number_in : List ℕ → ℕ → ℕ
-number_in xs n = if ltb n 8 then n else get_or xs (n - 8) 0
+number_in xs n = test ltb n 8 then n else get_or xs (n - 8) 0
 
 -- each of the numbers is one of the table
 pub record Below (t : Tab) (xs : List ℕ) : Type 0 where

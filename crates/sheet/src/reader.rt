@@ -1,6 +1,6 @@
 // The sheet's reader: it refuses no more than it must to read on, and then the writer decides.
 ghost use Rattle.std.specs.Prelude.{◌≡◌, [], map, false, eqb, length, take, ℕ, ◌+◌, ◌≤◌, ◌<◌};
-ghost use Rattle.meaning.specs.Base.{word, if◌then◌else◌};
+ghost use Rattle.meaning.specs.Base.{word, test◌then◌else◌};
 ghost use Rattle.meaning.specs.Limits.{most_types};
 ghost use Rattle.meaning.specs.Read.{type_from};
 ghost use Rattle.types.specs.Table.{most_numbers, capacity, Fresh, tab, denote, Wf, Made};
@@ -141,7 +141,7 @@ fn form_tuple(
 
 fn second_in(numbers: &Numbers, k: usize, kind: usize, q: usize) -> usize
     requires { k ≤ most_types }
-    ensures { result ≡ (if eqb kind 9 then number_in (take k numbers.now) q else 0) }
+    ensures { result ≡ (test eqb kind 9 then number_in (take k numbers.now) q else 0) }
 {
     if kind == DICT {
         return number_in(numbers, k, q);

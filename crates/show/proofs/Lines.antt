@@ -10,7 +10,7 @@ use lib.Dec.{leb}
 use lib.ListN.{length, get_or, drop, length-append, drop_of_length-le}
 use lib.Seq.{drop-cons}
 use Rattle.meaning.specs.Limits.{longest_shown}
-use Rattle.meaning.specs.Base.{if◌then◌else◌, choose, bytes}
+use Rattle.meaning.specs.Base.{test◌then◌else◌, choose, bytes}
 use Rattle.meaning.specs.Types.{Ty, unknown, kind, text}
 use Rattle.meaning.specs.Sheet.{Entry}
 use Rattle.meaning.specs.Show.{dotted, shown, entry_text, entries_text, change_text}
@@ -48,16 +48,16 @@ unfolding size_at clipped
 short_told {cs} {lens} {i} z h = rw (z.each i h) (clip_told (length (text (type_at cs i))))
 
 pub shown_whole : (ty : Ty) → leb (length (text ty)) longest_shown ≡ true → shown ty ≡ text ty
-unfolding shown if◌then◌else◌
+unfolding shown test◌then◌else◌
 shown_whole ty e = rw e
 
 pub shown_dotted : (ty : Ty) → leb (length (text ty)) longest_shown ≡ false → shown ty ≡ dotted (kind ty)
-unfolding shown if◌then◌else◌
+unfolding shown test◌then◌else◌
 shown_dotted ty e = rw e
 
 -- a kind that has no dotted form
 pub no_dots : (k : ℕ) → (k ≡ 8 → ⊥) → (k ≡ 9 → ⊥) → (k ≡ 10 → ⊥) → (k ≡ 11 → ⊥) → (k ≡ 12 → ⊥) → dotted k ≡ []
-unfolding dotted choose if◌then◌else◌ bytes
+unfolding dotted choose test◌then◌else◌ bytes
 no_dots k a b c d e = rw (ne_eqb k 8 a, ne_eqb k 9 b, ne_eqb k 10 c, ne_eqb k 11 d, ne_eqb k 12 e)
 
 pub wrote_nothing : (d : List ℕ) (at : ℕ) → at ≤ length d → Wrote d at [] d at

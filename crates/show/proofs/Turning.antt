@@ -9,7 +9,7 @@ use borrow.Author.Tests.{le-leb}
 use lib.ListN.{length, take, drop, length-append}
 use lib.Seq.{take-append_seam}
 use Rattle.meaning.specs.Limits.{largest_sheet}
-use Rattle.meaning.specs.Base.{if◌then◌else◌, count, same_text}
+use Rattle.meaning.specs.Base.{test◌then◌else◌, count, same_text}
 use Rattle.meaning.specs.Types.{Ty-discrete, same}
 use Rattle.meaning.specs.Sheet.{Entry, sheet_of}
 use Rattle.meaning.specs.Read.{entries_in}
@@ -69,7 +69,7 @@ module _ {bs cs cells : List ℕ} {r : ReadSheet} (o : Opened bs cs cells r) whe
 
       pub alone_written : {fits : Bool} {size : ℕ} {d e : List ℕ} → length d ≡ largest_alone → Wrote (listed bs (tab cs r.counts.types r.counts.elements) new 1) fits size d e
           → (take size e ≡ sheet_of (entry_of bs k ∷ [])) × (size ≤ length e)
-      unfolding written if◌then◌else◌ overlaid
+      unfolding written test◌then◌else◌ overlaid
       alone_written {fits} {size} {d} {e} l w =
           let s = sheet_of (entry_of bs k ∷ []) in
           let f : length s ≤ length d = omega (arith, alone_fits, l) in

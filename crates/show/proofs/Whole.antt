@@ -9,7 +9,7 @@ use native.Mathlib.Omega.{arith}
 use lib.ListN.{length, take}
 use lib.Seq.{length-take-le}
 use Rattle.meaning.specs.Limits.{largest_show, largest_changes}
-use Rattle.meaning.specs.Base.{if◌then◌else◌, choose}
+use Rattle.meaning.specs.Base.{test◌then◌else◌, choose}
 use Rattle.meaning.specs.Read.{entries_in, read_sheet}
 use Rattle.meaning.specs.Show.{entries_text, changes_text, changes, InWords, in_words, show_answer, changes_answer}
 use Rattle.meaning.proofs.Answers.{overlaid_front, overlaid_none}
@@ -85,7 +85,7 @@ unfoldable telling_from : ℕ → ℕ → Telling
 telling_from code size = choose code NoSheet ((0, Told size) ∷ (10, NoRoom) ∷ [])
 
 telling_back : (r : Telling) → telling_from (telling_code r) (telling_length r) ≡ r
-unfolding telling_from choose if◌then◌else◌
+unfolding telling_from choose test◌then◌else◌
 telling_back (Told n) = refl
 telling_back NoRoom = refl
 telling_back NoSheet = refl

@@ -6,7 +6,7 @@ use native.Mathlib.Omega.{arith}
 use native.Mathlib.Decide.{ℕ_discrete}
 use lib.ListN.{get_or, set, length-set}
 use lib.Seq.{get_or-set_same, get_or-set_other}
-use Rattle.meaning.specs.Base.{choose, if◌then◌else◌}
+use Rattle.meaning.specs.Base.{choose, test◌then◌else◌}
 use Rattle.meaning.specs.Types.{Ty}
 use Rattle.meaning.specs.Image.{Name}
 use Rattle.meaning.specs.Message.{refusal}
@@ -104,7 +104,7 @@ refused_kept z f = record { long = f.long; ret = f.ret; top = f.top; coded = λ 
 
 -- one type that is named: the second number is not looked at
 one_named : (ws : List Name) (t : Tab) (c a b d : ℕ) → types_named c ≡ 1 → pieces ws t c a b ≡ pieces ws t c a d
-unfolding pieces choose if◌then◌else◌
+unfolding pieces choose test◌then◌else◌
 one_named ws t c a b d e = rw e
 
 module _ {ns ms : List ℕ} {code place a b : ℕ} (f : Refused ns ms code place a b) {t : Tab} (w : Wf t) (first : 1 ≤ types_named code → a < t.n)

@@ -65,9 +65,9 @@ module _ {bs : List ℕ} {i until : ℕ} {d : Node} (p : Passing bs i until) (h 
   ]
 
   pub passing_over : (d.kind ≡ 8 → ⊥) → (d.kind ≡ 11 → ⊥) → (d.kind ≡ 12 → ⊥) → (d.kind < 9) ⊎ (10 < d.kind) → Passing bs d.stop until
-  passing_over if def block other =
+  passing_over test def block other =
       let closed : Closed d.kind = record {
-        no_if = if;
+        no_if = test;
         no_while = λ q. ⊎_elim (λ l. omega (arith, q, l)) (λ l. omega (arith, q, l)) other;
         no_for = λ q. ⊎_elim (λ l. omega (arith, q, l)) (λ l. omega (arith, q, l)) other;
         no_def = def;

@@ -10,7 +10,7 @@ use native.Mathlib.Numerals.{add-one}
 use borrow.Author.Tests.{lt-ltb, le-ltb}
 use lib.Dec.{ltb}
 use lib.ListN.{length, get_or, replicate, get_or-replicate, length-replicate, get_or-eq_default}
-use Rattle.meaning.specs.Base.{◌or◌, if◌then◌else◌, choose, is_in, count}
+use Rattle.meaning.specs.Base.{◌or◌, test◌then◌else◌, choose, is_in, count}
 use Rattle.meaning.specs.Types.{Ty}
 use Rattle.meaning.specs.Tree.{Expr, Stmts, on, otherwise, ◌else_arms◌, place, first_condition}
 use Rattle.meaning.specs.Image.{Name, plain, name_of, node_count, nodes_of, node_of, names_of, depth}
@@ -42,17 +42,17 @@ use Rattle.stmt.proofs.Laws.{ended_done, ended_wrong, was_done, was_deep, was_wr
 -- ---- one branch
 
 pub block_when : (bs : List ℕ) (n i : ℕ) → 1 < n → arm_block bs n i ≡ stop_of (nodes_of bs) i
-unfolding arm_block if◌then◌else◌
+unfolding arm_block test◌then◌else◌
 block_when bs n i p = rw (lt-ltb 1 n p)
 
 pub block_last : (bs : List ℕ) (n i : ℕ) → n ≤ 1 → arm_block bs n i ≡ i
-unfolding arm_block if◌then◌else◌
+unfolding arm_block test◌then◌else◌
 block_last bs n i p = rw (le-ltb 1 n p)
 
 arms_step : (bs : List ℕ) (e : ℕ → Expr) (b : ℕ → Stmts) (n i : ℕ) → 0 < n
     → arms_from (nodes_of bs) e b n i
-    ≡ (if ltb 1 n then on (e i) (b (stop_of (nodes_of bs) i)) else otherwise (b i)) else_arms arms_from (nodes_of bs) e b (n - 2) (stop_of (nodes_of bs) (arm_block bs n i))
-unfolding arms_from arm_block if◌then◌else◌
+    ≡ (test ltb 1 n then on (e i) (b (stop_of (nodes_of bs) i)) else otherwise (b i)) else_arms arms_from (nodes_of bs) e b (n - 2) (stop_of (nodes_of bs) (arm_block bs n i))
+unfolding arms_from arm_block test◌then◌else◌
 arms_step bs e b zero i p = absurd (omega arith)
 arms_step bs e b (suc zero) i p = refl
 arms_step bs e b (suc (suc n)) i p =
@@ -102,7 +102,7 @@ module _ {bs : List ℕ} {nodes : ℕ} {t : Tab} {fs : Rows} {top : ℕ} {st : L
     pub arm_last : (setting : Setting) {drops : Bool} {u : Tab} {gs : Rows} {high got : ℕ} {su : List ℕ} {code : ℕ} {place' : Places} {a b : ℕ} → dropping setting ≡ drops
         → Done (names_of bs) (body_at bs setting loop drops d i (state_of t fs top ret)) t u gs top high got su i (stop_of (nodes_of bs) i) (node_count bs) code place' a b
         → Done (names_of bs) (armed_at bs setting loop d n i (state_of t fs top ret)) t u gs top high got su i (stop_of (nodes_of bs) (arm_block bs n i)) (node_count bs) code place' a b
-    unfolding armed_at body_at arm if◌then◌else◌
+    unfolding armed_at body_at arm test◌then◌else◌
     arm_last setting y c = rw (block_last bs n i p) (done_as (rw (le-ltb 1 n p, ← y)) c)
 
   -- a branch with a condition
@@ -117,7 +117,7 @@ module _ {bs : List ℕ} {nodes : ℕ} {t : Tab} {fs : Rows} {top : ℕ} {st : L
 
     when_is : (setting : Setting) → armed_at bs setting loop d n i (state_of t fs top ret)
         ≡ (condition_at bs d i (state_of t fs top ret) >>= λ s. body_at bs setting loop (dropping setting) d (stop_of (nodes_of bs) i) s)
-    unfolding armed_at condition_at body_at arm if◌then◌else◌
+    unfolding armed_at condition_at body_at arm test◌then◌else◌
     when_is setting = rw (lt-ltb 1 n p)
 
     module _ {u : Tab} {su : List ℕ} {code : ℕ} {place' : Places} {a b : ℕ}
@@ -350,13 +350,13 @@ ClashNoted n (Clash d) = n ≡ first_number d.first
 
 merge_ended : (ws : List Name) (u : Tab) (gs : Rows) (top : ℕ) (y : Ty) (c n : ℕ) (m : Merge) → ClashNoted n m
     → merge_end ws c m (state (frames_of u gs top) y) ≡ ended ws u gs top y (merge_code m) (places c n) (clash_name m) 0
-unfolding merge_end ended first_at pieces types_named is_in choose if◌then◌else◌ ◌or◌
+unfolding merge_end ended first_at pieces types_named is_in choose test◌then◌else◌ ◌or◌
 merge_ended ws u gs top y c n Whole e = refl
 merge_ended ws u gs top y c n (Clash d) e = rw (e, node_number d.first)
 
 merge_named : {fs gs : Rows} {top : ℕ} {ms : List ℕ} {cs : List Bool} {c n M : ℕ} (u : Tab) (m : Merge) → Committed fs gs top ms cs m → c < M
     → Named u M (merge_code m) (places c n) (clash_name m) 0
-unfolding types_named is_in if◌then◌else◌ ◌or◌
+unfolding types_named is_in test◌then◌else◌ ◌or◌
 merge_named u Whole k h = named_well
 merge_named u (Clash x) k h =
     let n = clash_name_lem u k in

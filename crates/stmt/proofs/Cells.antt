@@ -10,7 +10,7 @@ use native.Mathlib.Omega.{arith}
 use native.Mathlib.Decide.{ℕ_discrete}
 use lib.ListN.{length, set, length-set}
 use lib.Seq.{get_or-set_same, get_or-set_other}
-use Rattle.meaning.specs.Base.{◌or◌, if◌then◌else◌}
+use Rattle.meaning.specs.Base.{◌or◌, test◌then◌else◌}
 use Rattle.meaning.specs.Types.{Ty}
 use Rattle.meaning.specs.Image.{Name, node_count, nodes_from}
 use Rattle.meaning.specs.Operators.{Checked}
@@ -163,21 +163,21 @@ end_handed {e} {ms} k = handed e ms
 
 -- what code and noted number tell, the first node's own number tells
 points_same : (code m : ℕ) (f : First) → first_node f ≡ first_at code m → first_at code (first_number f) ≡ first_at code m
-unfolding first_at if◌then◌else◌
+unfolding first_at test◌then◌else◌
 points_same code m f e = by (eqb code 23 or eqb code 25) e
   where
-    by : (q : Bool) → first_node f ≡ (if q then node_from m else none) → (if q then node_from (first_number f) else none) ≡ (if q then node_from m else none)
+    by : (q : Bool) → first_node f ≡ (test q then node_from m else none) → (test q then node_from (first_number f) else none) ≡ (test q then node_from m else none)
     by true h = node_number f ∙ h
     by false h = refl
 
 pub points_ended : (code m : ℕ) (q : Answer) (f : First) → first_node f ≡ first_at code m → first_at (ended_as q code) (first_number f) ≡ first_at (ended_as q code) m
-unfolding first_at ◌or◌ if◌then◌else◌
+unfolding first_at ◌or◌ test◌then◌else◌
 points_ended code m answer.Done f e = refl
 points_ended code m answer.Wrong f e = points_same code m f e
 points_ended code m answer.TooDeep f e = refl
 
 pub points_at : (code m : ℕ) (f : First) → (code ≡ 23) ⊎ (code ≡ 25) → first_node f ≡ node_from m → first_node f ≡ first_at code m
-unfolding first_at ◌or◌ if◌then◌else◌
+unfolding first_at ◌or◌ test◌then◌else◌
 points_at code m f (inl z) e = rw z e
 points_at code m f (inr z) e = rw z e
 
@@ -188,7 +188,7 @@ pub tells_refuses : {e : Answer} {ms : List ℕ} {f : First} → Tells ms (e ≡
 tells_refuses {f = f} k p = record { coded = k.coded; typing = k.typing; points = p ∙ sym (points_same _ _ f p) }
 
 pub done_refuses : Refuses answer.Done 0 Nowhere
-unfolding first_at ◌or◌ if◌then◌else◌
+unfolding first_at ◌or◌ test◌then◌else◌
 done_refuses = record { coded = λ e. done_apart e; typing = λ e. done_apart e; points = refl }
 
 -- for the checker's cases
@@ -395,17 +395,17 @@ module _ {ns ms : List ℕ} {code n a b : ℕ} (f : Refused ns ms code n a b) (h
 
 -- ---- Break and Continue
 
-pub outside_well : {ns : List ℕ} (loop : Bool) (code : ℕ) {i : ℕ} → loop ≡ true → Settled ns ns outcome.Ok (if loop then 0 else code) i 0 0
-unfolding if◌then◌else◌
+pub outside_well : {ns : List ℕ} (loop : Bool) (code : ℕ) {i : ℕ} → loop ≡ true → Settled ns ns outcome.Ok (test loop then 0 else code) i 0 0
+unfolding test◌then◌else◌
 outside_well loop code e = rw e settled_well
 
 pub outside_ill : {ns ms : List ℕ} (loop : Bool) {code i : ℕ} → (code ≡ 0 → ⊥) → loop ≡ false → Refused ns ms code i 0 0
-    → Settled ns ms outcome.Err (if loop then 0 else code) i 0 0
-unfolding if◌then◌else◌
+    → Settled ns ms outcome.Err (test loop then 0 else code) i 0 0
+unfolding test◌then◌else◌
 outside_ill loop z e f = rw e (settled_ill z f)
 
-outside_typing : (loop : Bool) (code : ℕ) → (code ≡ 9 → ⊥) → (if loop then 0 else code) ≡ 9 → ⊥
-unfolding if◌then◌else◌
+outside_typing : (loop : Bool) (code : ℕ) → (code ≡ 9 → ⊥) → (test loop then 0 else code) ≡ 9 → ⊥
+unfolding test◌then◌else◌
 outside_typing true code n z = absurd (omega arith)
 outside_typing false code n z = n z
 
@@ -425,6 +425,6 @@ module _ {ns ms : List ℕ} {o : Outcome} {code place : ℕ} (s : Settled ns ms 
     | no z ↦ tells_refused z y (s.ill z).1
   ]
 
-pub tells_outside : {ns ms : List ℕ} {o : Outcome} (loop : Bool) (code : ℕ) {place : ℕ} → Settled ns ms o (if loop then 0 else code) place 0 0 → Noting ns
+pub tells_outside : {ns ms : List ℕ} {o : Outcome} (loop : Bool) (code : ℕ) {place : ℕ} → Settled ns ms o (test loop then 0 else code) place 0 0 → Noting ns
     → (code ≡ 9 → ⊥) → Tells ms (o ≡ outcome.Err)
 tells_outside loop code s n y = tells_settled s n (outside_typing loop code y)

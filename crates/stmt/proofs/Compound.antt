@@ -9,7 +9,7 @@ use native.Mathlib.Decide.{ℕ_discrete}
 use native.Mathlib.Numerals.{add-one}
 use borrow.Author.Tests.{lt-ltb, le-ltb}
 use lib.ListN.{set}
-use Rattle.meaning.specs.Base.{◌or◌, if◌then◌else◌, choose, is_in, if_some}
+use Rattle.meaning.specs.Base.{◌or◌, test◌then◌else◌, choose, is_in, if_some}
 use Rattle.meaning.specs.Tree.{place}
 use Rattle.meaning.specs.Image.{Name, node_count, nodes_of, node_of, names_of}
 use Rattle.meaning.specs.Decode.{stop_of, past, params_from, expr_at, block_at}
@@ -66,7 +66,7 @@ module _ {bs : List ℕ} {nodes : ℕ} {t u : Tab} {fs : Rows} {top : ℕ} {st s
 
   pub elements_none : {there : Bool} {got m : ℕ} → code ≡ 0 → ElementOf u.cells number there got → there ≡ false
       → Iterated bs d t u fs top su i e (node_count bs) 24 (places i m) 0 number 0
-  unfolding checked over_elements if_some pieces types_named is_in choose if◌then◌else◌ ◌or◌
+  unfolding checked over_elements if_some pieces types_named is_in choose test◌then◌else◌ ◌or◌
   elements_none {there} {got} {m} z o y =
       let g = q.fine.grown in
       let one : types_named 24 ≡ 1 = refl in
@@ -259,7 +259,7 @@ module _ {bs : List ℕ} {nodes : ℕ} {t : Tab} {fs : Rows} {top : ℕ} {st : L
 
   pub def_deep : {m : ℕ} → 7 ≤ top → (setting : Setting) (loop : Bool)
       → Done (names_of bs) (acted bs setting loop d i (state_of t fs top ret)) t t fs top top ret st i (stop_of (nodes_of bs) i) (node_count bs) 9 (places i m) 0 0
-  unfolding if_room if◌then◌else◌
+  unfolding if_room test◌then◌else◌
   def_deep o setting loop = too_deep_lem refl (def_is setting loop ∙ rw (length_frames t fs top, le-ltb (top + 1) 8 (omega arith)))
       (record { grown = grown_refl r.ready.wf; types_spent = omega (arith, def_wide); placed = q.there })
 
@@ -305,7 +305,7 @@ module _ {bs : List ℕ} {nodes : ℕ} {t : Tab} {fs : Rows} {top : ℕ} {st : L
 
     def_answer : (setting : Setting) (loop : Bool) → acted bs setting loop d i (state_of t fs top ret)
         ≡ after (with_returns (denote t ret)) (popped (body_at bs setting false false d k (state_of t es (top + 1) 0)))
-    unfolding if_room if◌then◌else◌ enter
+    unfolding if_room test◌then◌else◌ enter
     def_answer setting loop =
         def_is setting loop
         ∙ rw (length_frames t fs top, lt-ltb (top + 1) 8 (omega arith), ← w.0, entered, unknown_number r.ready.wf)

@@ -9,7 +9,7 @@ use native.Mathlib.Decide.{ℕ_discrete}
 use native.Mathlib.Numerals.{add-one}
 use borrow.Author.Tests.{eq-eqb, ne_eqb, eqb-true, leb-true}
 use lib.Dec.{eqb}
-use Rattle.meaning.specs.Base.{◌or◌, if◌then◌else◌, choose, is_in}
+use Rattle.meaning.specs.Base.{◌or◌, test◌then◌else◌, choose, is_in}
 use Rattle.meaning.specs.Types.{Ty}
 use Rattle.meaning.specs.Tree.{Expr, place}
 use Rattle.meaning.specs.Image.{Name, name_count, node_count, nodes_from, nodes_of, node_of, depth, arg_below, count_stands}
@@ -41,7 +41,7 @@ use Rattle.stmt.specs.Contract.{state_of, setting_if, Stmt, Pair, Within, Fine, 
 -- ---- the setting: code that is told whether it is plain drops exactly if it is
 
 pub drops_if : (b : Bool) → dropping (setting_if b) ≡ b
-unfolding dropping if◌then◌else◌
+unfolding dropping test◌then◌else◌
 drops_if true = refl
 drops_if false = refl
 
@@ -49,16 +49,16 @@ drops_if false = refl
 
 module _ (ws : List Name) (u : Tab) (gs : Rows) (high : ℕ) (y : Ty) where
   pub ended_done : (code : ℕ) (place : Places) (a b : ℕ) → code ≡ 0 → ended ws u gs high y code place a b ≡ done (state (frames_of u gs high) y)
-  unfolding ended if◌then◌else◌
+  unfolding ended test◌then◌else◌
   ended_done code place a b z = rw (eq-eqb code 0 z)
 
   pub ended_deep : (code : ℕ) (place : Places) (a b : ℕ) → code ≡ 9 → ended ws u gs high y code place a b ≡ too_deep place.here
-  unfolding ended if◌then◌else◌
+  unfolding ended test◌then◌else◌
   ended_deep code place a b z = rw (ne_eqb code 0 (λ e. omega arith), eq-eqb code 9 z)
 
   pub ended_wrong : (code : ℕ) (place : Places) (a b : ℕ) → (code ≡ 0 → ⊥) → (code ≡ 9 → ⊥)
       → ended ws u gs high y code place a b ≡ wrong (conflict code place.here (first_at code place.since) (pieces ws u code a b)) (state (frames_of u gs high) y)
-  unfolding ended if◌then◌else◌
+  unfolding ended test◌then◌else◌
   ended_wrong code place a b z n = rw (ne_eqb code 0 z, ne_eqb code 9 n)
 
   pub ended_alone : (code : ℕ) (place : Places) (a b : ℕ) → (code ≡ 0 → ⊥) → (code ≡ 9 → ⊥) → Alone code
@@ -108,7 +108,7 @@ named_none code place e p = record {
 
 -- code 0 whatever the rest
 pub named_well : {u : Tab} {M : ℕ} {place : Places} {a b : ℕ} → Named u M 0 place a b
-unfolding types_named is_in if◌then◌else◌ ◌or◌
+unfolding types_named is_in test◌then◌else◌ ◌or◌
 named_well =
     let e : types_named 0 ≡ 0 = refl in
     record {
@@ -334,7 +334,7 @@ module _ {bs : List ℕ} (s : Sound bs) where
       (within_at w q.deep (omega arith), within_end (within_child w (omega arith)).3 (omega arith))
 
   pub one_child : {i d k : ℕ} → Stmt bs i d k → (k ≡ 6) ⊎ (k ≡ 7) → (At bs (i + 1) d) × (stop_of (nodes_of bs) (i + 1) ≡ stop_of (nodes_of bs) i)
-  unfolding count_stands choose if◌then◌else◌
+  unfolding count_stands choose test◌then◌else◌
   one_child {i} q (inl e) = only_child q (eqb-true _ 1 (counted i 6 q.there (q.kind ∙ e)))
   one_child {i} q (inr e) = only_child q (eqb-true _ 1 (counted i 7 q.there (q.kind ∙ e)))
 
@@ -350,23 +350,23 @@ module _ {bs : List ℕ} (s : Sound bs) where
       }
 
   pub pair_assign : {i d : ℕ} → Stmt bs i d 5 → Pair bs i d
-  unfolding count_stands choose if◌then◌else◌
+  unfolding count_stands choose test◌then◌else◌
   pair_assign {i} q = pair_of q (eqb-true _ 2 (counted i 5 q.there q.kind))
 
   pub pair_while : {i d : ℕ} → Stmt bs i d 9 → Pair bs i d
-  unfolding count_stands choose if◌then◌else◌
+  unfolding count_stands choose test◌then◌else◌
   pair_while {i} q = pair_of q (eqb-true _ 2 (counted i 9 q.there q.kind))
 
   pub pair_for : {i d : ℕ} → Stmt bs i d 10 → Pair bs i d
-  unfolding count_stands choose if◌then◌else◌
+  unfolding count_stands choose test◌then◌else◌
   pair_for {i} q = pair_of q (eqb-true _ 2 (counted i 10 q.there q.kind))
 
   pub count_if : {i d : ℕ} → Stmt bs i d 8 → 2 ≤ (node_of (nodes_of bs) i).children
-  unfolding count_stands choose if◌then◌else◌
+  unfolding count_stands choose test◌then◌else◌
   count_if {i} q = leb-true 2 _ (counted i 8 q.there q.kind)
 
   pub count_def : {i d : ℕ} → Stmt bs i d 11 → 1 ≤ (node_of (nodes_of bs) i).children
-  unfolding count_stands choose if◌then◌else◌
+  unfolding count_stands choose test◌then◌else◌
   count_def {i} q = leb-true 1 _ (counted i 11 q.there q.kind)
 
   -- ---- a node's arg: a name or less

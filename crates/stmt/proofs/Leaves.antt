@@ -10,7 +10,7 @@ use native.Mathlib.Decide.{ℕ_discrete}
 use native.Mathlib.Numerals.{add-one}
 use borrow.Author.Tests.{ne_eqb}
 use lib.ListN.{set}
-use Rattle.meaning.specs.Base.{◌or◌, if◌then◌else◌, choose, is_in, if_some}
+use Rattle.meaning.specs.Base.{◌or◌, test◌then◌else◌, choose, is_in, if_some}
 use Rattle.meaning.specs.Types.{Ty, bool, plain}
 use Rattle.meaning.specs.Image.{Name, node_count, nodes_of, node_of, names_of}
 use Rattle.meaning.specs.Decode.{stop_of, past, params_from, expr_at, block_at, act_at}
@@ -70,7 +70,7 @@ module _ {bs : List ℕ} {nodes : ℕ} {t u : Tab} {fs : Rows} {top : ℕ} {st s
 
   pub condition_other : {m : ℕ} → code ≡ 0 → (number ≡ 2 → ⊥)
       → Assigned (names_of bs) (λ y. condition_at bs d i (state (frames_of t fs top) y)) t u fs top su i e (node_count bs) 36 (places i m) 0 0
-  unfolding condition_at condition checked if◌then◌else◌ pieces types_named is_in choose ◌or◌
+  unfolding condition_at condition checked test◌then◌else◌ pieces types_named is_in choose ◌or◌
   condition_other {m} z o =
       let w = q.fine.grown.wf in
       let no = same_no (denote u number) bool (λ x. o (w.inj number 2 (q.below z) (omega (arith, w.base)) (x ∙ sym (bool_number w)))) in
@@ -86,7 +86,7 @@ module _ {bs : List ℕ} {nodes : ℕ} {t u : Tab} {fs : Rows} {top : ℕ} {st s
 
   pub condition_done : code ≡ 0 → number ≡ 2
       → Assigned (names_of bs) (λ y. condition_at bs d i (state (frames_of t fs top) y)) t u fs top su i e (node_count bs) 0 (places 0 0) 0 0
-  unfolding condition_at condition checked if◌then◌else◌
+  unfolding condition_at condition checked test◌then◌else◌
   condition_done z o =
       let w = q.fine.grown.wf in
       let so = same_yes (denote u number) bool (ap (denote u) o ∙ bool_number w) in
@@ -149,7 +149,7 @@ module _ {bs : List ℕ} {nodes : ℕ} {t u : Tab} {fs : Rows} {top : ℕ} {st s
 
     pub give_wrong : {there : Bool} {got m : ℕ} → code ≡ 0 → Agreement ret number there got → there ≡ false
         → Done (names_of bs) (returned_at bs d i (state_of t fs top ret)) t u fs top top ret su i e (node_count bs) 22 (places i m) ret number
-    unfolding returned_at checked return_rule if_some pieces types_named is_in choose if◌then◌else◌ ◌or◌
+    unfolding returned_at checked return_rule if_some pieces types_named is_in choose test◌then◌else◌ ◌or◌
     give_wrong {there} {got} {m = m'} z o y =
         let g = q.fine.grown in
         let m : ret < u.n = omega (arith, g.more) in
@@ -243,32 +243,32 @@ module _ {bs : List ℕ} {nodes : ℕ} {t : Tab} {fs : Rows} {top : ℕ} {st : L
       }
 
   only_says : (m c : ℕ) → (c ≡ 9 → ⊥) → (c ≡ 0 → ⊥) → Alone c → pieces (names_of bs) t c 0 0 ≡ []
-      → only_in loop c i (state_of t fs top ret) ≡ ended (names_of bs) t fs top (denote t ret) (if loop then 0 else c) (places i m) 0 0
-  unfolding only_in if◌then◌else◌
+      → only_in loop c i (state_of t fs top ret) ≡ ended (names_of bs) t fs top (denote t ret) (test loop then 0 else c) (places i m) 0 0
+  unfolding only_in test◌then◌else◌
   only_says m c n z h p = by loop
     where
-      by : (l : Bool) → (if l then done (state_of t fs top ret) else refuse c i [] (state_of t fs top ret)) ≡ ended (names_of bs) t fs top (denote t ret) (if l then 0 else c) (places i m) 0 0
+      by : (l : Bool) → (test l then done (state_of t fs top ret) else refuse c i [] (state_of t fs top ret)) ≡ ended (names_of bs) t fs top (denote t ret) (test l then 0 else c) (places i m) 0 0
       by true = sym (ended_done (names_of bs) t fs top (denote t ret) 0 (places i m) 0 0 refl)
       by false = rw (← p) (sym (ended_alone (names_of bs) t fs top (denote t ret) c (places i m) 0 0 z n h))
 
-  either : (P : ℕ → Type 0) (c : ℕ) → P 0 → P c → P (if loop then 0 else c)
-  unfolding if◌then◌else◌
+  either : (P : ℕ → Type 0) (c : ℕ) → P 0 → P c → P (test loop then 0 else c)
+  unfolding test◌then◌else◌
   either P c a b = by loop
     where
-      by : (l : Bool) → P (if l then 0 else c)
+      by : (l : Bool) → P (test l then 0 else c)
       by true = a
       by false = b
 
-  pub simple_break : (setting : Setting) {code m : ℕ} → k ≡ 1 → code ≡ (if loop then 0 else 20)
+  pub simple_break : (setting : Setting) {code m : ℕ} → k ≡ 1 → code ≡ (test loop then 0 else 20)
       → Done (names_of bs) (acted bs setting loop d i (state_of t fs top ret)) t t fs top top ret st i (stop_of (nodes_of bs) i) (node_count bs) code (places i m) 0 0
-  unfolding acted act pieces types_named is_in choose if◌then◌else◌ ◌or◌
+  unfolding acted act pieces types_named is_in choose test◌then◌else◌ ◌or◌
   simple_break setting e o =
       rw o (stays (either (λ c. c ≡ 9 → ⊥) 20 (λ x. absurd (omega arith)) (λ x. absurd (omega arith))) (either (λ c. types_named c ≡ 0) 20 refl refl)
       (rw (break_at (nodes_of bs) (λ j. expr_at (nodes_of bs) d j) (λ j. block_at (nodes_of bs) d j) i (q.kind ∙ e)) (only_says _ 20 (λ x. absurd (omega arith)) (λ x. absurd (omega arith)) (λ x. absurd (omega arith), λ x. absurd (omega arith)) refl)))
 
-  pub simple_continue : (setting : Setting) {code m : ℕ} → k ≡ 2 → code ≡ (if loop then 0 else 21)
+  pub simple_continue : (setting : Setting) {code m : ℕ} → k ≡ 2 → code ≡ (test loop then 0 else 21)
       → Done (names_of bs) (acted bs setting loop d i (state_of t fs top ret)) t t fs top top ret st i (stop_of (nodes_of bs) i) (node_count bs) code (places i m) 0 0
-  unfolding acted act pieces types_named is_in choose if◌then◌else◌ ◌or◌
+  unfolding acted act pieces types_named is_in choose test◌then◌else◌ ◌or◌
   simple_continue setting e o =
       rw o (stays (either (λ c. c ≡ 9 → ⊥) 21 (λ x. absurd (omega arith)) (λ x. absurd (omega arith))) (either (λ c. types_named c ≡ 0) 21 refl refl)
       (rw (continue_at (nodes_of bs) (λ j. expr_at (nodes_of bs) d j) (λ j. block_at (nodes_of bs) d j) i (q.kind ∙ e)) (only_says _ 21 (λ x. absurd (omega arith)) (λ x. absurd (omega arith)) (λ x. absurd (omega arith), λ x. absurd (omega arith)) refl)))
@@ -304,7 +304,7 @@ module _ {bs : List ℕ} {nodes : ℕ} {t : Tab} {fs : Rows} {top : ℕ} {st : L
   -- Pass, Class, and any kind that is no statement's
   nothing_at : (setting : Setting) → (k ≡ 1 → ⊥) → (k ≡ 2 → ⊥) → (k ≡ 5 → ⊥) → (k ≡ 6 → ⊥) → (k ≡ 7 → ⊥) → Bodiless k
       → acted bs setting loop d i (state_of t fs top ret) ≡ done (state_of t fs top ret)
-  unfolding acted act act_at choose if◌then◌else◌
+  unfolding acted act act_at choose test◌then◌else◌
   nothing_at setting a b c f g n = elim (ℕ_discrete k 4) [
     | yes z ↦ rw (class_at (nodes_of bs) (λ j. expr_at (nodes_of bs) d j) (λ j. block_at (nodes_of bs) d j) i (q.kind ∙ z))
     | no z ↦ elim (ℕ_discrete k 3) [

@@ -7,7 +7,7 @@ use native.Mathlib.Omega.{arith}
 use native.Mathlib.Decide.{ℕ_discrete}
 use borrow.Author.Tests.{lt-ltb}
 use lib.ListN.{length, replicate, length-replicate, get_or-replicate}
-use Rattle.meaning.specs.Base.{◌and◌, if◌then◌else◌}
+use Rattle.meaning.specs.Base.{◌and◌, test◌then◌else◌}
 use Rattle.meaning.specs.Types.{Ty, unknown}
 use Rattle.meaning.specs.Image.{Node, node_count, nodes_from, nodes_of, node_of, names_of, depth}
 use Rattle.meaning.specs.Decode.{stop_of, stmt_at, stmts_from, tree_of}
@@ -30,7 +30,7 @@ use Rattle.stmt.proofs.Laws.{ended_done, ended_deep, ended_wrong, was_done, was_
 use Rattle.stmt.proofs.Bodies.{block_down}
 
 root_depth : (ds : List Node) → 0 < length ds → 0 < (node_of ds 0).stop → 1 ≤ depth 0 0 ds
-unfolding depth node_of if◌then◌else◌ ◌and◌
+unfolding depth node_of test◌then◌else◌ ◌and◌
 root_depth [] p h = absurd (omega arith)
 root_depth (d ∷ ds) p h = rw (lt-ltb 0 d.stop h) (omega arith)
 

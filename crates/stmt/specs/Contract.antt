@@ -1,7 +1,7 @@
 -- What the walk over the statements asks, and how it ends.
 use Rattle.std.specs.Prelude.{◌≡◌, Bool, List, [], ◌∷◌, ℕ, ◌+◌, ◌≤◌, ◌<◌, ltb, length}
 use Rattle.meaning.specs.Limits.{most_nodes, deepest}
-use Rattle.meaning.specs.Base.{if◌then◌else◌}
+use Rattle.meaning.specs.Base.{test◌then◌else◌}
 use Rattle.meaning.specs.Types.{Ty}
 use Rattle.meaning.specs.Tree.{place, on, otherwise}
 use Rattle.meaning.specs.Image.{Name, node_count, nodes_of, node_of, names_of, depth}
@@ -28,7 +28,7 @@ state_of t fs top ret = state (frames_of t fs top) (denote t ret)
 
 -- the setting, which code tells by whether it is plain
 abbrev pub setting_if : Bool → Setting
-setting_if b = if b then plain else strict
+setting_if b = test b then plain else strict
 
 -- ---- the parts of the walk, by node
 
@@ -65,13 +65,13 @@ returned_at bs d i s =
 
 -- of the n nodes of an If from i on, the first branch's Block: after its condition, or itself where it is the last
 unfoldable pub arm_block : List ℕ → ℕ → ℕ → ℕ
-arm_block bs n i = if ltb 1 n then stop_of (nodes_of bs) i else i
+arm_block bs n i = test ltb 1 n then stop_of (nodes_of bs) i else i
 
 -- and that branch
 unfoldable pub armed_at : List ℕ → Setting → Bool → ℕ → ℕ → ℕ → State → End
 armed_at bs setting loop d n i s =
     arm (names_of bs) setting loop
-    (if ltb 1 n
+    (test ltb 1 n
     then on (expr_at (nodes_of bs) d i) (block_at (nodes_of bs) d (stop_of (nodes_of bs) i))
     else otherwise (block_at (nodes_of bs) d i)) s
 

@@ -6,7 +6,7 @@
 #![tactic(auto)]
 
 ghost use Rattle.std.specs.Prelude.{◌≡◌, ◌-◌};
-ghost use Rattle.meaning.specs.Base.{if◌then◌else◌};
+ghost use Rattle.meaning.specs.Base.{test◌then◌else◌};
 ghost use Rattle.types.specs.Table.{tab};
 ghost use Rattle.frames.specs.Env.{first_node, first_number};
 ghost use Rattle.state.specs.Notes.{places, Noting};
@@ -160,7 +160,7 @@ fn give(
 // A Break or Continue: outside a loop it is refused by the code.
 fn outside(notes: &mut Notes, code: u32, place: usize, looped: bool) -> Outcome
     requires { Noting notes.old × (code ≡ 0 → ⊥) }
-    ensures { Settled notes.old notes.new result (if looped then 0 else code) place 0 0 }
+    ensures { Settled notes.old notes.new result (test looped then 0 else code) place 0 0 }
 {
     if looped {
         return Outcome::Ok;

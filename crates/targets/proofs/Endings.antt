@@ -6,7 +6,7 @@ use Prim.Native.Nat.{ℕ, ◌≤◌}
 use native.Mathlib.Omega.{arith}
 use borrow.Author.Tests.{eq-eqb, ne_eqb}
 use lib.ListN.{length}
-use Rattle.meaning.specs.Base.{◌or◌, if◌then◌else◌}
+use Rattle.meaning.specs.Base.{◌or◌, test◌then◌else◌}
 use Rattle.meaning.specs.Types.{Ty}
 use Rattle.meaning.specs.Image.{Name}
 use Rattle.meaning.specs.Message.{refusal, conflict}
@@ -23,24 +23,24 @@ use Rattle.targets.specs.Ending.{first_at, Alone, ended, Named, Left, Assigned}
 -- ---- the first node
 
 pub first_none : {code : ℕ} (m : ℕ) → Alone code → first_at code m ≡ none
-unfolding first_at ◌or◌ if◌then◌else◌
+unfolding first_at ◌or◌ test◌then◌else◌
 first_none {code} m h = rw (ne_eqb code 23 h.0, ne_eqb code 25 h.1)
 
 -- ---- an end, by its code
 
 module _ (ws : List Name) (u : Tab) (gs : Rows) (high : ℕ) (y : Ty) (code : ℕ) (place : Places) (a b : ℕ) where
   pub ended_well : code ≡ 0 → ended ws u gs high y code place a b ≡ done (state (frames_of u gs high) y)
-  unfolding ended if◌then◌else◌
+  unfolding ended test◌then◌else◌
   ended_well z = rw (eq-eqb code 0 z)
 
   pub ended_deep : code ≡ 9 → ended ws u gs high y code place a b ≡ too_deep place.here
-  unfolding ended if◌then◌else◌
+  unfolding ended test◌then◌else◌
   ended_deep z = rw (ne_eqb code 0 (λ e. omega arith), eq-eqb code 9 z)
 
   pub ended_wrong : (code ≡ 0 → ⊥) → (code ≡ 9 → ⊥)
       → ended ws u gs high y code place a b
       ≡ wrong (conflict code place.here (first_at code place.since) (pieces ws u code a b)) (state (frames_of u gs high) y)
-  unfolding ended if◌then◌else◌
+  unfolding ended test◌then◌else◌
   ended_wrong z n = rw (ne_eqb code 0 z, ne_eqb code 9 n)
 
   -- by a code that points at no first place

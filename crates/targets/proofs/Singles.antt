@@ -10,7 +10,7 @@ use native.Mathlib.Numerals.{sub-one}
 use borrow.Author.Tests.{eqb-true}
 use lib.Dec.{eqb}
 use lib.ListN.{length}
-use Rattle.meaning.specs.Base.{if◌then◌else◌, choose, base_open}
+use Rattle.meaning.specs.Base.{test◌then◌else◌, choose, base_open}
 use Rattle.meaning.specs.Types.{Ty}
 use Rattle.meaning.specs.Tree.{Expr, at, Form, variable, attribute, tuple_of, index}
 use Rattle.meaning.specs.Image.{Name, Node, node_of, nodes_of, names_of, node_count, depth}
@@ -123,8 +123,8 @@ module _ (ws : List Name) (ds : List Node) (d i : ℕ) (h : d ≡ 0 → ⊥) (y 
   Refused : Form → Type 0
   Refused f = assign_form ws i f y s ≡ refuse 28 i [] s
 
-  if_refused : (b : Bool) (f g : Form) → (b ≡ true → Refused f) → Refused g → Refused (if b then f else g)
-  unfolding if◌then◌else◌
+  if_refused : (b : Bool) (f g : Form) → (b ≡ true → Refused f) → Refused g → Refused (test b then f else g)
+  unfolding test◌then◌else◌
   if_refused true f g p q = p refl
   if_refused false f g p q = q
 

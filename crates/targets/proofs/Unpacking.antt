@@ -7,7 +7,7 @@ use Prim.Native.Nat.{ℕ, ◌<◌}
 use native.Mathlib.Omega.{arith}
 use borrow.Author.Tests.{eq-eqb, ne_eqb}
 use lib.ListN.{length, replicate, length-replicate, get_or-replicate}
-use Rattle.meaning.specs.Base.{if_some, or_else, if◌then◌else◌, choose, base_open}
+use Rattle.meaning.specs.Base.{if_some, or_else, test◌then◌else◌, choose, base_open}
 use Rattle.meaning.specs.Types.{Ty, unknown, kind, parts, part}
 use Rattle.meaning.specs.Walk.{State, End, unpacked, unpack_into}
 use Rattle.types.specs.Table.{Tab, capacity, Wf, Grown, denote}
@@ -23,25 +23,25 @@ use Rattle.targets.proofs.Endings.{named_none}
 
 module _ (k : ℕ) (y : Ty) where
   unpacked_unknown : kind y ≡ 0 → unpacked k y ≡ some (replicate k unknown)
-  unfolding unpacked choose if◌then◌else◌
+  unfolding unpacked choose test◌then◌else◌
   unpacked_unknown e = rw e
 
   unpacked_list : kind y ≡ 8 → unpacked k y ≡ some (replicate k (part 0 y))
-  unfolding unpacked choose if◌then◌else◌
+  unfolding unpacked choose test◌then◌else◌
   unpacked_list e = rw e
 
   unpacked_tuple : kind y ≡ 10 → unpacked k y ≡ some (parts y)
-  unfolding unpacked choose if◌then◌else◌
+  unfolding unpacked choose test◌then◌else◌
   unpacked_tuple e = rw e
 
   unpacked_none : (kind y ≡ 0 → ⊥) → (kind y ≡ 8 → ⊥) → (kind y ≡ 10 → ⊥) → unpacked k y ≡ none
-  unfolding unpacked choose if◌then◌else◌
+  unfolding unpacked choose test◌then◌else◌
   unpacked_none a b c = rw (ne_eqb (kind y) 0 a, ne_eqb (kind y) 8 b, ne_eqb (kind y) 10 c)
 
   -- where it can be unpacked, the targets get as many types as they are
   into_spread : (ts : List Ty) → unpacked k y ≡ some ts → length ts ≡ k → (n : ℕ) (s : State) (go : List Ty → End)
       → unpack_into n k y s go ≡ go (spread k y)
-  unfolding unpack_into spread if_some or_else if◌then◌else◌
+  unfolding unpack_into spread if_some or_else test◌then◌else◌
   into_spread ts e l n s go = rw (e, eq-eqb (length ts) k l)
 
   spread_is : (ts : List Ty) → unpacked k y ≡ some ts → spread k y ≡ ts

@@ -2,7 +2,7 @@
 use Rattle.std.specs.Prelude.{◌≡◌, List, ℕ, ◌+◌, ◌≤◌, ◌<◌, eqb, length}
 use Rattle.std.proofs.Math.Option.{Option, none}
 use Rattle.meaning.specs.Limits.{most_nodes}
-use Rattle.meaning.specs.Base.{◌or◌, if◌then◌else◌}
+use Rattle.meaning.specs.Base.{◌or◌, test◌then◌else◌}
 use Rattle.meaning.specs.Types.{Ty}
 use Rattle.meaning.specs.Image.{Name}
 use Rattle.meaning.specs.Message.{conflict}
@@ -14,7 +14,7 @@ use Rattle.state.specs.Notes.{Places}
 
 -- 25 and 23 "point at the first place too", and no other code does; m is the first node as it is noted
 unfoldable pub first_at : ℕ → ℕ → Option ℕ
-first_at code m = if eqb code 23 or eqb code 25 then node_from m else none
+first_at code m = test eqb code 23 or eqb code 25 then node_from m else none
 
 abbrev pub Alone : ℕ → Type 0
 Alone code = (code ≡ 23 → ⊥) × (code ≡ 25 → ⊥)
@@ -23,7 +23,7 @@ Alone code = (code ≡ 23 → ⊥) × (code ≡ 25 → ⊥)
 unfoldable pub ended : List Name → Tab → Rows → ℕ → Ty → ℕ → Places → ℕ → ℕ → End
 ended ws t fs top y code place a b =
     let s : State = state (frames_of t fs top) y in
-    if eqb code 0 then done s else if eqb code 9 then too_deep place.here
+    test eqb code 0 then done s else test eqb code 9 then too_deep place.here
     else wrong (conflict code place.here (first_at code place.since) (pieces ws t code a b)) s
 
 -- what a message names is within the table, and its counts fit a word; the place is one of M nodes

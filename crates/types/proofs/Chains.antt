@@ -7,7 +7,7 @@ use native.Mathlib.Omega.{arith}
 use native.Mathlib.Decide.{dec_lt, ℕ_discrete}
 use borrow.Author.Tests.{ne_eqb}
 use lib.ListN.{length, get_or, take, drop}
-use Rattle.meaning.specs.Base.{if◌then◌else◌}
+use Rattle.meaning.specs.Base.{test◌then◌else◌}
 use Rattle.types.specs.Layout.{first_in, link_in, elements_from, slots_from, slots_end}
 use Rattle.types.specs.Table.{capacity, step, steps, record_hash, tuple_hash, slot_of, slot_at, Chains, Chained}
 use Rattle.types.specs.Steps.{RecordAt, TupleAt}
@@ -28,12 +28,12 @@ unfolding slot_of
 slot_as cs ds h e = rw e
 
 pub slot_record : {cs : List ℕ} {k p q i : ℕ} → (k ≡ 10 → ⊥) → RecordAt cs k p q i → slot_at cs i ≡ slot_of cs (record_hash k p q)
-unfolding slot_at if◌then◌else◌
+unfolding slot_at test◌then◌else◌
 slot_record {k = k} n r = rw (r.kind_is, r.first_is, r.second_is, ne_eqb k 10 n)
 
 pub slot_tuple : {cs st : List ℕ} {s q i : ℕ} → elements_from cs + first_in cs i + q ≤ length cs → s + q ≤ length st → TupleAt cs st s q i
     → slot_at cs i ≡ slot_of cs (tuple_hash (take q (drop s st)))
-unfolding slot_at if◌then◌else◌
+unfolding slot_at test◌then◌else◌
 slot_tuple {cs} {st} {s} {q} {i} h l r =
     rw (r.kind_is, r.second_is, piece_same cs st (elements_from cs + first_in cs i) s q h l r.elements.at)
 

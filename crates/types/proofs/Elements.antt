@@ -8,14 +8,14 @@ use native.Mathlib.Decide.{ℕ_discrete}
 use borrow.Author.Tests.{ne_eqb}
 use lib.Dec.{eqb}
 use lib.ListN.{length, length-append}
-use Rattle.meaning.specs.Base.{count, if◌then◌else◌}
+use Rattle.meaning.specs.Base.{count, test◌then◌else◌}
 use Rattle.meaning.specs.Sheet.{elements_in, elements_of}
 use Rattle.types.specs.Table.{Tab, kind_at, second_at, tupled, denote, Wf}
 use Rattle.types.proofs.Laws.{kind_of, parts_many}
 
 module _ {t : Tab} (w : Wf t) where
-  own_elements : (i : ℕ) → i < t.n → length (elements_in (denote t i)) ≡ (if eqb (kind_at t i) 10 then second_at t i else 0)
-  unfolding elements_in if◌then◌else◌
+  own_elements : (i : ℕ) → i < t.n → length (elements_in (denote t i)) ≡ (test eqb (kind_at t i) 10 then second_at t i else 0)
+  unfolding elements_in test◌then◌else◌
   own_elements i h = rw (kind_of w i h) (elim (ℕ_discrete (kind_at t i) 10) [
     | yes e ↦ rw e (parts_many w i h e)
     | no n ↦ rw (ne_eqb (kind_at t i) 10 n)

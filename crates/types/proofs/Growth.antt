@@ -6,7 +6,7 @@ use native.Mathlib.Omega.{arith}
 use native.Mathlib.Decide.{dec_lt, ℕ_discrete}
 use borrow.Author.Tests.{ne_eqb}
 use lib.ListN.{length, get_or}
-use Rattle.meaning.specs.Base.{if◌then◌else◌}
+use Rattle.meaning.specs.Base.{test◌then◌else◌}
 use Rattle.meaning.specs.Types.{Ty, tys}
 use Rattle.types.specs.Layout.{kind_cell, first_cell, second_cell, link_cell, elements_from}
 use Rattle.types.specs.Table.{Tab, capacity, kind_at, first_at, second_at, element_at, slot_at, shape, denote, Low, tupled, Chains, Chained, Wf, Grown, Made}
@@ -81,7 +81,7 @@ module _ (t u : Tab) (w : Wf t) (x : Next t u) where
 
   -- an old record is in the chain that it was in
   slot_kept : (i : ℕ) → i < t.n → slot_at u.cells i ≡ slot_at t.cells i
-  unfolding slot_at if◌then◌else◌
+  unfolding slot_at test◌then◌else◌
   slot_kept i h = elim (ℕ_discrete (kind_at t i) 10) [
     | yes e ↦
         rw (
@@ -107,7 +107,7 @@ module _ (t u : Tab) (w : Wf t) (x : Next t u) where
   tupled_kept (suc k) h = rw (kind_kept k (omega arith), second_kept k (omega arith), tupled_kept k (omega arith))
 
   next_apart : tupled u.cells u.n ≤ u.m
-  unfolding tupled if◌then◌else◌
+  unfolding tupled test◌then◌else◌
   next_apart = rw (x.count, add_one t.n) (elim (ℕ_discrete (kind_at u t.n) 10) [
     | yes e ↦ rw e (omega (arith, x.own e, tupled_kept t.n (omega arith), w.apart))
     | no n ↦ rw (ne_eqb (kind_at u t.n) 10 n) (omega (arith, x.wider, tupled_kept t.n (omega arith), w.apart))

@@ -8,7 +8,7 @@ use native.Mathlib.Decide.{dec_lt, ℕ_discrete}
 use borrow.Author.Tests.{eqb-true, eqb-false}
 use lib.Dec.{eqb}
 use lib.ListN.{length, get_or, length-map, get_or-map}
-use Rattle.meaning.specs.Base.{choose, if◌then◌else◌}
+use Rattle.meaning.specs.Base.{choose, test◌then◌else◌}
 use Rattle.meaning.specs.Types.{unknown, list, dict, tuple, map_iter, filter_iter, tys, same, kind, plain, parts, part}
 use Rattle.meaning.proofs.Choices.{same_yes, same_no, plain_kind}
 use Rattle.types.specs.Layout.{elements_from}
@@ -36,23 +36,23 @@ module _ {t : Tab} (w : Wf t) (i : ℕ) (h : i < t.n) where
   record_kind e = sym kind_of ∙ e
 
   pub list_is : kind_at t i ≡ 8 → denote t i ≡ list (denote t (first_at t i))
-  unfolding shape shaped choose if◌then◌else◌
+  unfolding shape shaped choose test◌then◌else◌
   list_is e = rw e at denote_eq
 
   pub dict_is : kind_at t i ≡ 9 → denote t i ≡ dict (denote t (first_at t i)) (denote t (second_at t i))
-  unfolding shape shaped choose if◌then◌else◌
+  unfolding shape shaped choose test◌then◌else◌
   dict_is e = rw e at denote_eq
 
   pub tuple_is : kind_at t i ≡ 10 → denote t i ≡ tuple (tys (map (denote t) (elements_at t i)))
-  unfolding shape shaped choose if◌then◌else◌
+  unfolding shape shaped choose test◌then◌else◌
   tuple_is e = rw e at denote_eq
 
   pub map_is : kind_at t i ≡ 11 → denote t i ≡ map_iter (denote t (first_at t i))
-  unfolding shape shaped choose if◌then◌else◌
+  unfolding shape shaped choose test◌then◌else◌
   map_is e = rw e at denote_eq
 
   pub filter_is : kind_at t i ≡ 12 → denote t i ≡ filter_iter (denote t (first_at t i))
-  unfolding shape shaped choose if◌then◌else◌
+  unfolding shape shaped choose test◌then◌else◌
   filter_is e = rw e at denote_eq
 
   -- a Tuple's elements

@@ -2,7 +2,7 @@
 use mathlib.Core.Path.{◌≡◌, refl, sym, ap}
 use Prim.Native.Nat.{ℕ, zero, suc, ◌≤◌, ◌<◌}
 use native.Mathlib.Omega.{arith}
-use Rattle.meaning.specs.Base.{choose, if◌then◌else◌}
+use Rattle.meaning.specs.Base.{choose, test◌then◌else◌}
 use Rattle.meaning.specs.Types.{Ty, Tys, unknown, list, tuple, map_iter, filter_iter, kind, plain, parts, part}
 use Rattle.types.specs.Table.{shaped}
 
@@ -25,12 +25,12 @@ each_kind P p0 p1 p2 p3 p4 p5 p6 p7 p8 p9 p10 p11 p12 (suc (suc (suc (suc (suc (
 
 module _ (a b : Ty) (ts : Tys) where
   pub shaped_kind : (k : ℕ) → k ≤ 12 → kind (shaped k a b ts) ≡ k
-  unfolding shaped choose if◌then◌else◌ plain kind
+  unfolding shaped choose test◌then◌else◌ plain kind
   shaped_kind = each_kind (λ k. kind (shaped k a b ts) ≡ k) refl refl refl refl refl refl refl refl refl refl refl refl refl
 
   -- a plain type has no part, and its record has 0, which is Unknown, as `part` has
   pub shaped_first : (k : ℕ) → k ≤ 12 → (k ≡ 10 → ⊥) → (k < 8 → a ≡ unknown) → part 0 (shaped k a b ts) ≡ a
-  unfolding shaped choose if◌then◌else◌ plain part parts
+  unfolding shaped choose test◌then◌else◌ plain part parts
   shaped_first =
       each_kind (λ k. (k ≡ 10 → ⊥) → (k < 8 → a ≡ unknown) → part 0 (shaped k a b ts) ≡ a)
       (λ n u. sym (u (omega arith)))
@@ -48,7 +48,7 @@ module _ (a b : Ty) (ts : Tys) where
       (λ n u. refl)
 
   pub shaped_second : (k : ℕ) → k ≤ 12 → (k ≡ 10 → ⊥) → ((k ≡ 9 → ⊥) → b ≡ unknown) → part 1 (shaped k a b ts) ≡ b
-  unfolding shaped choose if◌then◌else◌ plain part parts
+  unfolding shaped choose test◌then◌else◌ plain part parts
   shaped_second =
       each_kind (λ k. (k ≡ 10 → ⊥) → ((k ≡ 9 → ⊥) → b ≡ unknown) → part 1 (shaped k a b ts) ≡ b)
       (λ n u. sym (u (λ e. absurd (omega arith))))
@@ -68,7 +68,7 @@ module _ (a b : Ty) (ts : Tys) where
 -- a type goes by its parts only if its kind has parts, and by its elements only if it is a Tuple
 pub shaped_cong : {a b c d : Ty} {ts us : Tys} (k : ℕ) → k ≤ 12 → (8 ≤ k → (k ≡ 10 → ⊥) → a ≡ c) → (k ≡ 9 → b ≡ d) → (k ≡ 10 → ts ≡ us)
     → shaped k a b ts ≡ shaped k c d us
-unfolding shaped choose if◌then◌else◌
+unfolding shaped choose test◌then◌else◌
 shaped_cong {a} {b} {c} {d} {ts} {us} =
     each_kind (λ k. (8 ≤ k → (k ≡ 10 → ⊥) → a ≡ c) → (k ≡ 9 → b ≡ d) → (k ≡ 10 → ts ≡ us) → shaped k a b ts ≡ shaped k c d us)
     (λ p q e. refl)

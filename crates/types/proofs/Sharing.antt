@@ -10,7 +10,7 @@ use borrow.Author.Tests.{eq-eqb, ne_eqb}
 use lib.Dec.{eqb}
 use lib.ListN.{length, get_or, take, drop, drop_of_length-le}
 use lib.Seq.{drop-cons}
-use Rattle.meaning.specs.Base.{◌and◌, if◌then◌else◌, all}
+use Rattle.meaning.specs.Base.{◌and◌, test◌then◌else◌, all}
 use Rattle.meaning.specs.Types.{unknown, same, common}
 use Rattle.types.specs.Layout.{first_in, second_in, elements_from}
 use Rattle.types.specs.Table.{Tab, kind_at, first_at, second_at, elements_at, denote, Wf}
@@ -26,7 +26,7 @@ pub record Sharing (xs : List ℕ) (j : ℕ) : Type 0 where
   pub some : 0 < length xs
   pub left : all (eqb (get_or xs 0 0)) (drop j xs) ≡ all (eqb (get_or xs 0 0)) (drop 1 xs)
 
-shared_by : (xs : List ℕ) → 0 < length xs → shared xs ≡ (if all (eqb (get_or xs 0 0)) (drop 1 xs) then get_or xs 0 0 else 0)
+shared_by : (xs : List ℕ) → 0 < length xs → shared xs ≡ (test all (eqb (get_or xs 0 0)) (drop 1 xs) then get_or xs 0 0 else 0)
 unfolding shared
 shared_by [] h = absurd (omega arith)
 shared_by (x ∷ xs) h = refl
@@ -45,14 +45,14 @@ module _ (xs : List ℕ) (j : ℕ) (s : Sharing xs j) where
   sharing_more h e = record { some = s.some; left = rw (eq-eqb (get_or xs 0 0) (get_or xs j 0) (sym e)) at (sharing_step h) }
 
   pub sharing_not : j < length xs → (get_or xs j 0 ≡ get_or xs 0 0 → ⊥) → shared xs ≡ 0
-  unfolding ◌and◌ if◌then◌else◌
+  unfolding ◌and◌ test◌then◌else◌
   sharing_not h n =
       let l : false ≡ all (eqb (get_or xs 0 0)) (drop 1 xs) =
       rw (ne_eqb (get_or xs 0 0) (get_or xs j 0) (λ e. n (sym e))) at (sharing_step h) in
       shared_by xs s.some ∙ rw (← l)
 
   pub sharing_all : length xs ≤ j → shared xs ≡ get_or xs 0 0
-  unfolding all if◌then◌else◌
+  unfolding all test◌then◌else◌
   sharing_all h =
       let l : true ≡ all (eqb (get_or xs 0 0)) (drop 1 xs) = rw (drop_of_length-le xs h) at s.left in
       shared_by xs s.some ∙ rw (← l)
@@ -87,8 +87,8 @@ module _ {t : Tab} (w : Wf t) where
   all_same x h (y ∷ ys) l =
       rw (same_number w x y h (l 0 (omega arith)), all_same x h ys (λ j a. l (suc j) (omega arith)))
 
-  chosen : (b : Bool) (x : ℕ) → denote t (if b then x else 0) ≡ (if b then denote t x else unknown)
-  unfolding if◌then◌else◌
+  chosen : (b : Bool) (x : ℕ) → denote t (test b then x else 0) ≡ (test b then denote t x else unknown)
+  unfolding test◌then◌else◌
   chosen true x = refl
   chosen false x = unknown_number w
 
@@ -98,8 +98,8 @@ module _ {t : Tab} (w : Wf t) where
   shared_common (x ∷ xs) l =
       chosen (all (eqb x) xs) x ∙ rw (all_same x (l 0 (omega arith)) xs (λ j a. l (suc j) (omega arith)))
 
-  low_choice : (b : Bool) (x : ℕ) → x < t.n → (if b then x else 0) < t.n
-  unfolding if◌then◌else◌
+  low_choice : (b : Bool) (x : ℕ) → x < t.n → (test b then x else 0) < t.n
+  unfolding test◌then◌else◌
   low_choice true x h = h
   low_choice false x h = omega (arith, w.base)
 

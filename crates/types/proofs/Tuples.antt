@@ -8,7 +8,7 @@ use native.Mathlib.Decide.{dec_lt}
 use borrow.Author.Count.{below_more}
 use lib.ListN.{length, get_or, set, take, drop, length-set}
 use lib.Seq.{get_or-set_same, get_or-set_other}
-use Rattle.meaning.specs.Base.{choose, if◌then◌else◌}
+use Rattle.meaning.specs.Base.{choose, test◌then◌else◌}
 use Rattle.meaning.specs.Types.{Ty, tuple, tys, kind, parts}
 use Rattle.types.specs.Layout.{kind_in, first_in, second_in, elements_from, slots_from}
 use Rattle.types.specs.Table.{Tab, tab, capacity, kind_at, first_at, second_at, tuple_hash, slot_of, shaped, shape, denote, Made}
@@ -87,7 +87,7 @@ module _ (t : Tab) (st : List ℕ) (s q : ℕ) (x : Listed t st s q) where
   pub tuple_new : {r slot : ℕ} {ds es : List ℕ} → Found (TupleAt t.cells st s q) t.n r → t.n ≤ r → slot ≡ slot_of t.cells (tuple_hash (take q (drop s st)))
       → {a : ℕ} → a ≡ elements_from t.cells + t.m → Copied t.cells ds a st s q
       → Added ds es slot t.n 10 t.m q → Made t (tab es (t.n + 1) (t.m + q)) t.n (tuple (tys (map (denote t) (take q (drop s st))))) q
-  unfolding shape shaped choose if◌then◌else◌
+  unfolding shape shaped choose test◌then◌else◌
   tuple_new {r} {slot} {ds} {es} f h z {a} from c v =
       let u : Tab = tab es (t.n + 1) (t.m + q) in
       let w = x.wf in

@@ -5,7 +5,7 @@ use mathlib.Core.List.{List}
 use mathlib.Core.Option.{none, some}
 use Prim.Native.Nat.{ℕ, ◌≤◌, ◌<◌}
 use native.Mathlib.Omega.{arith}
-use Rattle.meaning.specs.Base.{choose, if◌then◌else◌}
+use Rattle.meaning.specs.Base.{choose, test◌then◌else◌}
 use Rattle.meaning.specs.Types.{Ty, kind, plain, part}
 use Rattle.meaning.specs.Rules.{element_of}
 use Rattle.types.specs.Layout.{kind_in}
@@ -18,7 +18,7 @@ use Rattle.types.proofs.Readers.{kind_told}
 -- ---- element_of by kinds
 
 part_element : (ty : Ty) (k : ℕ) → k ≤ 12 → 8 ≤ k → (k ≡ 10 → ⊥) → kind ty ≡ k → element_of ty ≡ some (part 0 ty)
-unfolding element_of choose if◌then◌else◌
+unfolding element_of choose test◌then◌else◌
 part_element ty =
     each_kind (λ k. 8 ≤ k → (k ≡ 10 → ⊥) → kind ty ≡ k → element_of ty ≡ some (part 0 ty))
     (λ l n e. absurd (omega arith))
@@ -36,7 +36,7 @@ part_element ty =
     (λ l n e. rw e)
 
 no_element : (ty : Ty) (k : ℕ) → k ≤ 12 → k < 8 → (k ≡ 0 → ⊥) → (k ≡ 3 → ⊥) → (k ≡ 6 → ⊥) → kind ty ≡ k → element_of ty ≡ none
-unfolding element_of choose if◌then◌else◌
+unfolding element_of choose test◌then◌else◌
 no_element ty =
     each_kind (λ k. k < 8 → (k ≡ 0 → ⊥) → (k ≡ 3 → ⊥) → (k ≡ 6 → ⊥) → kind ty ≡ k → element_of ty ≡ none)
     (λ l a b c e. absurd (a refl))
@@ -60,14 +60,14 @@ module _ (cs : List ℕ) (i k : ℕ) (read : k ≡ kind_in cs i) where
   own t e w h = sym ((kind_told cs i k read).says t e w h)
 
   pub walk_tuple : {r : ℕ} → k ≡ 10 → CommonOf cs i r → ElementOf cs i true r
-  unfolding element_of choose if◌then◌else◌ perhaps
+  unfolding element_of choose test◌then◌else◌ perhaps
   walk_tuple e c = record {
     says = λ t s w h. let o : kind (denote t i) ≡ 10 = own t s w h ∙ e in rw o (ap some (sym (c.says t s w h o).means));
     below = λ t s w h. (c.says t s w h (own t s w h ∙ e)).below;
   }
 
   pub walk_part : {r : ℕ} → 8 ≤ k → (k ≡ 10 → ⊥) → PartOf cs 0 i r → ElementOf cs i true r
-  unfolding if◌then◌else◌ perhaps
+  unfolding test◌then◌else◌ perhaps
   walk_part l n p = record {
     says = λ t s w h.
         let o = own t s w h in
@@ -77,28 +77,28 @@ module _ (cs : List ℕ) (i k : ℕ) (read : k ≡ kind_in cs i) where
   }
 
   pub walk_unknown : k ≡ 0 → ElementOf cs i true 0
-  unfolding element_of choose if◌then◌else◌ perhaps plain
+  unfolding element_of choose test◌then◌else◌ perhaps plain
   walk_unknown e = record {
     says = λ t s w h. rw (own t s w h ∙ e) (ap some (sym (plain_number w 0 (omega arith))));
     below = λ t s w h. omega (arith, w.base);
   }
 
   pub walk_string : k ≡ 3 → ElementOf cs i true 3
-  unfolding element_of choose if◌then◌else◌ perhaps plain
+  unfolding element_of choose test◌then◌else◌ perhaps plain
   walk_string e = record {
     says = λ t s w h. rw (own t s w h ∙ e) (ap some (sym (plain_number w 3 (omega arith))));
     below = λ t s w h. omega (arith, w.base);
   }
 
   pub walk_range : k ≡ 6 → ElementOf cs i true 1
-  unfolding element_of choose if◌then◌else◌ perhaps plain
+  unfolding element_of choose test◌then◌else◌ perhaps plain
   walk_range e = record {
     says = λ t s w h. rw (own t s w h ∙ e) (ap some (sym (plain_number w 1 (omega arith))));
     below = λ t s w h. omega (arith, w.base);
   }
 
   pub walk_not : k < 8 → (k ≡ 0 → ⊥) → (k ≡ 3 → ⊥) → (k ≡ 6 → ⊥) → ElementOf cs i false 0
-  unfolding if◌then◌else◌ perhaps
+  unfolding test◌then◌else◌ perhaps
   walk_not l a b c = record {
     says = λ t s w h. no_element (denote t i) k (omega arith) l a b c (own t s w h);
     below = λ t s w h. omega (arith, w.base);

@@ -7,7 +7,7 @@ use borrow.Author.Count.{below_more}
 use borrow.Author.Tests.{ne_eqb}
 use lib.ListN.{length, get_or, set, length-set}
 use lib.Seq.{get_or-set_same, get_or-set_other}
-use Rattle.meaning.specs.Base.{if◌then◌else◌}
+use Rattle.meaning.specs.Base.{test◌then◌else◌}
 use Rattle.meaning.specs.Types.{kind}
 use Rattle.types.specs.Layout.{kind_cell, kind_in, first_cell, second_cell, link_cell}
 use Rattle.types.specs.Table.{Tab, tab, capacity, kind_at, shape, denote, Low, tupled, Chains, Fresh, Wf}
@@ -96,7 +96,7 @@ chains_none f = record {
 
 -- records that are no Tuples have no elements
 tupled_none : (cs : List ℕ) (k : ℕ) → ((i : ℕ) → i < k → kind_in cs i ≡ 10 → ⊥) → tupled cs k ≡ 0
-unfolding tupled if◌then◌else◌
+unfolding tupled test◌then◌else◌
 tupled_none cs zero n = refl
 tupled_none cs (suc k) n = rw (ne_eqb (kind_in cs k) 10 (n k (omega arith))) (omega (arith, tupled_none cs k (λ i h. n i (omega arith))))
 

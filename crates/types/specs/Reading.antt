@@ -1,7 +1,7 @@
 -- What the readers of the table tell of number i, whatever the counts of the table that the cells cs hold; and what they need.
 use Rattle.std.specs.Prelude.{◌≡◌, Bool, List, [], ◌∷◌, ℕ, suc, ◌+◌, ◌≤◌, ◌<◌, eqb, length}
 use Rattle.std.proofs.Math.Option.{Option, none, some}
-use Rattle.meaning.specs.Base.{if◌then◌else◌, all}
+use Rattle.meaning.specs.Base.{test◌then◌else◌, all}
 use Rattle.meaning.specs.Types.{Ty, kind, parts, part, common}
 use Rattle.meaning.specs.Rules.{element_of}
 use Rattle.meaning.specs.Walk.{agreed}
@@ -69,7 +69,7 @@ pub record ElementAt (cs : List ℕ) (i j r : ℕ) : Type 0 where
 -- the number that all share, or 0
 unfoldable pub shared : List ℕ → ℕ
 shared [] = 0
-shared (x ∷ xs) = if all (eqb x) xs then x else 0
+shared (x ∷ xs) = test all (eqb x) xs then x else 0
 
 -- the type that all elements share, or Unknown
 pub record CommonOf (cs : List ℕ) (i r : ℕ) : Type 0 where
@@ -79,7 +79,7 @@ pub record CommonOf (cs : List ℕ) (i r : ℕ) : Type 0 where
 
 -- a type by its number, or none
 unfoldable pub perhaps : Tab → Bool → ℕ → Option Ty
-perhaps t there r = if there then some (denote t r) else none
+perhaps t there r = test there then some (denote t r) else none
 
 -- what a walk over a value of the type gives
 pub record ElementOf (cs : List ℕ) (i : ℕ) (there : Bool) (r : ℕ) : Type 0 where

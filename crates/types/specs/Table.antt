@@ -1,7 +1,7 @@
 -- The table of numbered types: what a number means, when a table is sound, and what may become of one.
 use Rattle.std.specs.Prelude.{◌≡◌, List, [], ◌∷◌, ◌++◌, map, ℕ, zero, suc, ◌+◌, ◌*◌, ◌%◌, ◌≤◌, ◌<◌, eqb, length, get_or, take, drop}
 use Rattle.meaning.specs.Limits.{most_nodes}
-use Rattle.meaning.specs.Base.{choose, if◌then◌else◌}
+use Rattle.meaning.specs.Base.{choose, test◌then◌else◌}
 use Rattle.types.specs.Layout.{kind_cell, kind_in, first_in, second_in, link_in, elements_from, slots_from, slots_end}
 unfoldable pub use Rattle.types.specs.Layout.{capacity}
 use Rattle.meaning.specs.Types.{Ty, Tys, unknown, list, dict, tuple, map_iter, filter_iter, tys, no_types, plain}
@@ -85,7 +85,7 @@ pub record Low (t : Tab) (i : ℕ) : Type 0 where
 -- how many elements the Tuples among the first k records have together
 unfoldable pub tupled : List ℕ → ℕ → ℕ
 tupled cs zero = 0
-tupled cs (suc k) = (if eqb (kind_in cs k) 10 then second_in cs k else 0) + tupled cs k
+tupled cs (suc k) = (test eqb (kind_in cs k) 10 then second_in cs k else 0) + tupled cs k
 
 -- ---- the chains, by which a type's number is found: each structured number is in the one that its record's hash names
 
@@ -112,7 +112,7 @@ slot_of cs h = slots_from cs + h % capacity cs
 unfoldable pub slot_at : List ℕ → ℕ → ℕ
 slot_at cs i =
     slot_of cs
-    (if eqb (kind_in cs i) 10
+    (test eqb (kind_in cs i) 10
     then tuple_hash (take (second_in cs i) (drop (elements_from cs + first_in cs i) cs))
     else record_hash (kind_in cs i) (first_in cs i) (second_in cs i))
 

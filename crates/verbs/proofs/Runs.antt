@@ -11,7 +11,7 @@ use lib.Dec.{eqb}
 use lib.ListN.{length, get_or, take}
 use lib.Seq.{length-take-le, take_all}
 use Rattle.meaning.specs.Limits.{largest_sheet, sheet_buffer, message_buffer, read_at_most}
-use Rattle.meaning.specs.Base.{if◌then◌else◌, bytes, same_text}
+use Rattle.meaning.specs.Base.{test◌then◌else◌, bytes, same_text}
 use Rattle.meaning.specs.Image.{nodes_of}
 use Rattle.meaning.specs.Decode.{tree_of}
 use Rattle.meaning.specs.Sheet.{Entry}
@@ -69,10 +69,10 @@ one_renewed w v x y = (
 -- what `sheet` tells of the line is a refusal's, all of it, and of an accepted script nothing: (false of a program that prints `accepted ..` beside
 -- the sheet)
 pub refusal_told : {a : Answer} {s s₁ o o₁ : List ℕ} (w : Written) → Writes a s s₁ o o₁ w → take w.line o₁ ≡ refusal_of a
-unfolding refusal_of if◌then◌else◌
+unfolding refusal_of test◌then◌else◌
 refusal_told {a} {o = o} w x = rw (x.told, x.line) (by (eqb a.code 0))
   where
-    by : (b : Bool) → take (length (if b then [] else told_text a)) (overlaid (told_text a) o) ≡ (if b then [] else told_text a)
+    by : (b : Bool) → take (length (test b then [] else told_text a)) (overlaid (told_text a) o) ≡ (test b then [] else told_text a)
     by true = refl
     by false = overlaid_front (told_text a) o
 
@@ -119,7 +119,7 @@ changes_fine old new = by (read_sheet old) refl (read_sheet new) refl
 
 -- byte 6 of the line: s of `stays`, m of `may`
 stays_alone : (k : Steadiness) → known_text 0 k ≡ known_text 0 steady → k ≡ steady
-unfolding known_text bytes if◌then◌else◌
+unfolding known_text bytes test◌then◌else◌
 stays_alone steady e = refl
 stays_alone (def_in_if n start end) e = absurd (let q = ap (λ (w : List ℕ). get_or w 6 0) e in omega (arith, q))
 stays_alone (faulty f) e = absurd (let q = ap length e in omega (arith, q))

@@ -13,7 +13,7 @@ use denote.Enum.Declared.{tag_of}
 use lib.ListN.{length, take}
 use lib.Seq.{length-take-le}
 use Rattle.meaning.specs.Limits.{sheet_buffer, message_buffer, largest_show, largest_changes}
-use Rattle.meaning.specs.Base.{◌or◌, if◌then◌else◌, if_some, bytes}
+use Rattle.meaning.specs.Base.{◌or◌, test◌then◌else◌, if_some, bytes}
 use Rattle.meaning.specs.Sheet.{Entry}
 use Rattle.meaning.specs.Read.{entries_in, is_sheet, read_sheet}
 use Rattle.meaning.specs.Answer.{Answer, bare, answer, read_answer, overlaid, meaning_open}
@@ -60,11 +60,11 @@ use Rattle.verbs.specs.declared.Status.TheVariants.{Fine, Changed, Refused}
 -- ---- the status
 
 pub status_fine : {c : ℕ} → c ≡ 0 → Fine ≡ status_of c
-unfolding status_of if◌then◌else◌
+unfolding status_of test◌then◌else◌
 status_fine {c} e = rw (eq-eqb c 0 e)
 
 pub status_refused : {c : ℕ} → (c ≡ 0 → ⊥) → Refused ≡ status_of c
-unfolding status_of if◌then◌else◌
+unfolding status_of test◌then◌else◌
 status_refused {c} n = rw (ne_eqb c 0 n)
 
 pub digit_is : {s t : Status} {d : ℕ} → s ≡ t → d ≡ 48 + status_number t → d ≡ 48 + status_number s
@@ -83,12 +83,12 @@ span_wrote start end a b n = and_then (and_then a b) n
 
 pub first_wrote : (code start end : ℕ) {d e f : List ℕ} {at i j : ℕ} → (code ≡ 23) ⊎ (code ≡ 25) → Wrote d at (bytes "first set here") e i
     → Wrote e i (span_text start end) f j → Wrote d at (first_text code start end) f j
-unfolding first_text ◌or◌ if◌then◌else◌
+unfolding first_text ◌or◌ test◌then◌else◌
 first_wrote code start end (inl z) a b = rw z (and_then a b)
 first_wrote code start end (inr z) a b = rw z (and_then a b)
 
 pub first_none : (code start end : ℕ) {d : List ℕ} {at : ℕ} → ((code ≡ 23) ⊎ (code ≡ 25) → ⊥) → at ≤ length d → Wrote d at (first_text code start end) d at
-unfolding first_text ◌or◌ if◌then◌else◌
+unfolding first_text ◌or◌ test◌then◌else◌
 first_none code start end {d} {at} n h = rw (ne_eqb code 23 (λ e. n (inl e)), ne_eqb code 25 (λ e. n (inr e))) (wrote [] (omega (arith, h)) (sym (put_nil d at)) (omega arith))
 
 -- behind the answer's own line
@@ -114,12 +114,12 @@ says_check {a} l q w e = record { front = told_front a l.front l.told q w; statu
 
 pub known_strict : (setting n start end : ℕ) {d e : List ℕ} {at r : ℕ} → setting ≡ 1 → Wrote d at (bytes "known stays known: strict\n") e r
     → Wrote d at (known_text setting (def_in_if n start end)) e r
-unfolding known_text if◌then◌else◌
+unfolding known_text test◌then◌else◌
 known_strict setting n start end s w = rw (eq-eqb setting 1 s) w
 
-pub known_changes : (setting n start end : ℕ) {d e f : List ℕ} {at i r : ℕ} → (setting ≡ 1 → ⊥) → Wrote d at (bytes "known may change: def inside an if") e i
+pub known_changes : (setting n start end : ℕ) {d e f : List ℕ} {at i r : ℕ} → (setting ≡ 1 → ⊥) → Wrote d at (bytes "known may change: def inside an test") e i
     → Wrote e i (span_text start end) f r → Wrote d at (known_text setting (def_in_if n start end)) f r
-unfolding known_text if◌then◌else◌
+unfolding known_text test◌then◌else◌
 known_changes setting n start end s w v = rw (ne_eqb setting 1 s) (and_then w v)
 
 -- what an answer means, it means alone
@@ -128,7 +128,7 @@ module _ (setting : ℕ) {s : Steady} {d e : List ℕ} {at r : ℕ} where
   knows_so k p w =
       record { tells = λ j q. subst (λ (i : Steadiness). Wrote d at (known_text setting i) e r) (some-injective k j (sym p ∙ q)) w }
 
-  pub knows_steady : s ≡ IsSteady → Wrote d at (bytes "known stays known: no def inside an if\n") e r → Knows setting s d at e r
+  pub knows_steady : s ≡ IsSteady → Wrote d at (bytes "known stays known: no def inside an test\n") e r → Knows setting s d at e r
   unfolding known_text
   knows_steady p w = knows_so steady (ap meant p) w
 
@@ -160,11 +160,11 @@ says_known setting bs {old} x e k =
 -- ---- `sheet`
 
 no_refusal : (a : Answer) → a.code ≡ 0 → [] ≡ refusal_of a
-unfolding refusal_of if◌then◌else◌
+unfolding refusal_of test◌then◌else◌
 no_refusal a e = rw (eq-eqb a.code 0 e)
 
 a_refusal : (a : Answer) → (a.code ≡ 0 → ⊥) → told_text a ≡ refusal_of a
-unfolding refusal_of if◌then◌else◌
+unfolding refusal_of test◌then◌else◌
 a_refusal a n = rw (ne_eqb a.code 0 n)
 
 module _ {a : Answer} {old mid new s s₁ m m₁ : List ℕ} {size code count start end r : ℕ} (l : Lined a old mid s s₁ m m₁ size code count) (q : SecondTold a start end)
@@ -206,11 +206,11 @@ module _ {a : Conversion} {n : Converting} {s s₁ : List ℕ} (x : Hands a n s 
   code_same = ap (λ (k : Converting). k.code) x.numbers
 
   no_text : a.code ≡ 0 → [] ≡ unconverted_text a
-  unfolding unconverted_text if◌then◌else◌
+  unfolding unconverted_text test◌then◌else◌
   no_text e = rw (eq-eqb a.code 0 e)
 
   a_text : (a.code ≡ 0 → ⊥) → refused_line (bare a.code a.place) ≡ unconverted_text a
-  unfolding unconverted_text if◌then◌else◌
+  unfolding unconverted_text test◌then◌else◌
   a_text z = rw (ne_eqb a.code 0 z)
 
   pub renews_fine : (old : List ℕ) → n.code ≡ 0
@@ -271,15 +271,15 @@ module _ (bs : List ℕ) where
 
 module _ {c : ℕ} (n : ℕ) where
   pub compared_refused : (c ≡ 0 → ⊥) → Refused ≡ compared_as c n
-  unfolding compared_as if◌then◌else◌
+  unfolding compared_as test◌then◌else◌
   compared_refused z = rw (ne_eqb c 0 z)
 
   pub compared_equal : c ≡ 0 → n ≡ 0 → Fine ≡ compared_as c n
-  unfolding compared_as if◌then◌else◌
+  unfolding compared_as test◌then◌else◌
   compared_equal z e = rw (eq-eqb c 0 z, eq-eqb n 0 e)
 
   pub compared_changed : c ≡ 0 → (n ≡ 0 → ⊥) → Changed ≡ compared_as c n
-  unfolding compared_as if◌then◌else◌
+  unfolding compared_as test◌then◌else◌
   compared_changed z e = rw (eq-eqb c 0 z, ne_eqb n 0 e)
 
 -- a change has a line

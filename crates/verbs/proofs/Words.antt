@@ -7,7 +7,7 @@ use native.Mathlib.Omega.{arith}
 use borrow.Author.Tests.{eq-eqb, ne_eqb}
 use denote.Enum.Declared.{tag_of}
 use lib.ListN.{length, get_or}
-use Rattle.meaning.specs.Base.{if◌then◌else◌, bytes, same_text}
+use Rattle.meaning.specs.Base.{test◌then◌else◌, bytes, same_text}
 use Rattle.meaning.specs.Answer.{meaning_open}
 use Rattle.verbs.specs.Words.{verb_of, kind_of, with_file, with_word, nothing_asked, asked_by, setting_if, no_file, one_file, two_files, verb_asked, known_asked, command_of, command_told, words_open}
 use Rattle.verbs.specs.declared.Verb.{Verb}
@@ -26,41 +26,41 @@ use Rattle.verbs.specs.contracts.Files.{the_type}
 module _ (w : List ℕ) where
   module _ (a : same_text w (bytes "check") ≡ true) where
     pub is_check : Check ≡ verb_of w
-    unfolding verb_of if◌then◌else◌
+    unfolding verb_of test◌then◌else◌
     is_check = rw a
 
   module _ (a : same_text w (bytes "check") ≡ false) where
     pub is_sheet_lem : same_text w (bytes "sheet") ≡ true → Sheet ≡ verb_of w
-    unfolding verb_of if◌then◌else◌
+    unfolding verb_of test◌then◌else◌
     is_sheet_lem b = rw (a, b)
 
     module _ (b : same_text w (bytes "sheet") ≡ false) where
       pub is_show : same_text w (bytes "show") ≡ true → Show ≡ verb_of w
-      unfolding verb_of if◌then◌else◌
+      unfolding verb_of test◌then◌else◌
       is_show c = rw (a, b, c)
 
       module _ (c : same_text w (bytes "show") ≡ false) where
         pub is_changes : same_text w (bytes "changes") ≡ true → Changes ≡ verb_of w
-        unfolding verb_of if◌then◌else◌
+        unfolding verb_of test◌then◌else◌
         is_changes d = rw (a, b, c, d)
 
         module _ (d : same_text w (bytes "changes") ≡ false) where
           pub is_load : same_text w (bytes "load") ≡ true → Load ≡ verb_of w
-          unfolding verb_of if◌then◌else◌
+          unfolding verb_of test◌then◌else◌
           is_load e = rw (a, b, c, d, e)
 
           module _ (e : same_text w (bytes "load") ≡ false) where
             pub is_convert : same_text w (bytes "convert") ≡ true → Convert ≡ verb_of w
-            unfolding verb_of if◌then◌else◌
+            unfolding verb_of test◌then◌else◌
             is_convert f = rw (a, b, c, d, e, f)
 
             module _ (f : same_text w (bytes "convert") ≡ false) where
               pub is_help : same_text w (bytes "help") ≡ true → Help ≡ verb_of w
-              unfolding verb_of if◌then◌else◌
+              unfolding verb_of test◌then◌else◌
               is_help g = rw (a, b, c, d, e, f, g)
 
               pub is_nothing : same_text w (bytes "help") ≡ false → Nothing ≡ verb_of w
-              unfolding verb_of if◌then◌else◌
+              unfolding verb_of test◌then◌else◌
               is_nothing g = rw (a, b, c, d, e, f, g)
 
 no_first : (w : List ℕ) → length w ≡ 0 → get_or w 0 0 ≡ 45 → ⊥
@@ -69,26 +69,26 @@ no_first (x ∷ w) e h = omega (arith, e)
 
 module _ (w : List ℕ) where
   pub is_strict : same_text w (bytes "--strict") ≡ true → Strict ≡ kind_of w
-  unfolding kind_of if◌then◌else◌
+  unfolding kind_of test◌then◌else◌
   is_strict a = rw a
 
   module _ (a : same_text w (bytes "--strict") ≡ false) where
     pub is_known : same_text w (bytes "--known") ≡ true → Known ≡ kind_of w
-    unfolding kind_of if◌then◌else◌
+    unfolding kind_of test◌then◌else◌
     is_known b = rw (a, b)
 
     module _ (b : same_text w (bytes "--known") ≡ false) where
       pub is_input : same_text w (bytes "-") ≡ true → Input ≡ kind_of w
-      unfolding kind_of if◌then◌else◌
+      unfolding kind_of test◌then◌else◌
       is_input c = rw (a, b, c)
 
       module _ (c : same_text w (bytes "-") ≡ false) where
         pub is_unknown : get_or w 0 0 ≡ 45 → Unknown ≡ kind_of w
-        unfolding kind_of if◌then◌else◌
+        unfolding kind_of test◌then◌else◌
         is_unknown d = rw (a, b, c, eq-eqb (get_or w 0 0) 45 d)
 
         pub is_name : (get_or w 0 0 ≡ 45 → ⊥) → Name ≡ kind_of w
-        unfolding kind_of if◌then◌else◌
+        unfolding kind_of test◌then◌else◌
         is_name d = rw (a, b, c, ne_eqb (get_or w 0 0) 45 d)
 
         pub is_empty : length w ≡ 0 → Name ≡ kind_of w
@@ -119,28 +119,28 @@ still_wrong a e = rw e
 
 module _ (w : Asked) (a : ℕ) {k : Kind} where
   pub strict_twice : k ≡ Strict → w.strict ≡ true → record { strict = true; known = w.known; input = w.input; files = Wrong } ≡ with_word w a k
-  unfolding with_word if◌then◌else◌
+  unfolding with_word test◌then◌else◌
   strict_twice e h = rw (e, h)
 
   pub strict_once : k ≡ Strict → w.strict ≡ false → record { strict = true; known = w.known; input = w.input; files = w.files } ≡ with_word w a k
-  unfolding with_word if◌then◌else◌
+  unfolding with_word test◌then◌else◌
   strict_once e h = rw (e, h)
 
   pub known_twice : k ≡ Known → w.known ≡ true → record { strict = w.strict; known = true; input = w.input; files = Wrong } ≡ with_word w a k
-  unfolding with_word if◌then◌else◌
+  unfolding with_word test◌then◌else◌
   known_twice e h = rw (e, h)
 
   pub known_once : k ≡ Known → w.known ≡ false → record { strict = w.strict; known = true; input = w.input; files = w.files } ≡ with_word w a k
-  unfolding with_word if◌then◌else◌
+  unfolding with_word test◌then◌else◌
   known_once e h = rw (e, h)
 
   pub input_twice : k ≡ Input → w.input ≡ true → record { strict = w.strict; known = w.known; input = true; files = Wrong } ≡ with_word w a k
-  unfolding with_word if◌then◌else◌
+  unfolding with_word test◌then◌else◌
   input_twice e h = rw (e, h)
 
   pub input_once : {f : Files} → k ≡ Input → w.input ≡ false → f ≡ with_file w.files a
       → record { strict = w.strict; known = w.known; input = true; files = f } ≡ with_word w a k
-  unfolding with_word if◌then◌else◌
+  unfolding with_word test◌then◌else◌
   input_once e h p = rw (e, h, p)
 
   pub named : {f : Files} → k ≡ Name → f ≡ with_file w.files a → record { strict = w.strict; known = w.known; input = w.input; files = f } ≡ with_word w a k
@@ -154,11 +154,11 @@ module _ (w : Asked) (a : ℕ) {k : Kind} where
 -- ---- what is to be done
 
 pub strict_setting : {b : Bool} → b ≡ true → 1 ≡ setting_if b
-unfolding setting_if if◌then◌else◌
+unfolding setting_if test◌then◌else◌
 strict_setting e = rw e
 
 pub plain_setting : {b : Bool} → b ≡ false → 0 ≡ setting_if b
-unfolding setting_if if◌then◌else◌
+unfolding setting_if test◌then◌else◌
 plain_setting e = rw e
 
 none_else : (c : Command) (f : Files) → (f ≡ None → ⊥) → BadWords ≡ no_file c f
@@ -209,19 +209,19 @@ module _ {v : Verb} (w : Asked) where
   no_load p h = rw p (two_else _ w.files h)
 
   pub strict_show : v ≡ Show → w.strict ≡ true → BadWords ≡ verb_asked v w
-  unfolding verb_asked if◌then◌else◌
+  unfolding verb_asked test◌then◌else◌
   strict_show p b = rw (p, b)
 
   pub strict_changes : v ≡ Changes → w.strict ≡ true → BadWords ≡ verb_asked v w
-  unfolding verb_asked if◌then◌else◌
+  unfolding verb_asked test◌then◌else◌
   strict_changes p b = rw (p, b)
 
   pub strict_convert : v ≡ Convert → w.strict ≡ true → BadWords ≡ verb_asked v w
-  unfolding verb_asked if◌then◌else◌
+  unfolding verb_asked test◌then◌else◌
   strict_convert p b = rw (p, b)
 
   pub strict_help : v ≡ Help → w.strict ≡ true → BadWords ≡ verb_asked v w
-  unfolding verb_asked if◌then◌else◌
+  unfolding verb_asked test◌then◌else◌
   strict_help p b = rw (p, b)
 
   pub asks_nothing : v ≡ Nothing → NoVerb ≡ verb_asked v w
@@ -230,35 +230,35 @@ module _ {v : Verb} (w : Asked) where
 
   module _ (b : w.strict ≡ false) where
     pub asks_show : {i : ℕ} → v ≡ Show → w.files ≡ One i → ShowSheet i ≡ verb_asked v w
-    unfolding verb_asked one_file if◌then◌else◌
+    unfolding verb_asked one_file test◌then◌else◌
     asks_show p q = rw (p, b, q)
 
     pub no_show : v ≡ Show → ((i : ℕ) → w.files ≡ One i → ⊥) → BadWords ≡ verb_asked v w
-    unfolding verb_asked if◌then◌else◌
+    unfolding verb_asked test◌then◌else◌
     no_show p h = rw (p, b) (one_else _ w.files h)
 
     pub asks_changes : {i j : ℕ} → v ≡ Changes → w.files ≡ Two i j → TellChanges i j ≡ verb_asked v w
-    unfolding verb_asked two_files if◌then◌else◌
+    unfolding verb_asked two_files test◌then◌else◌
     asks_changes p q = rw (p, b, q)
 
     pub no_changes : v ≡ Changes → ((i j : ℕ) → w.files ≡ Two i j → ⊥) → BadWords ≡ verb_asked v w
-    unfolding verb_asked if◌then◌else◌
+    unfolding verb_asked test◌then◌else◌
     no_changes p h = rw (p, b) (two_else _ w.files h)
 
     pub asks_convert : {i : ℕ} → v ≡ Convert → w.files ≡ One i → ConvertImage i ≡ verb_asked v w
-    unfolding verb_asked one_file if◌then◌else◌
+    unfolding verb_asked one_file test◌then◌else◌
     asks_convert p q = rw (p, b, q)
 
     pub no_convert : v ≡ Convert → ((i : ℕ) → w.files ≡ One i → ⊥) → BadWords ≡ verb_asked v w
-    unfolding verb_asked if◌then◌else◌
+    unfolding verb_asked test◌then◌else◌
     no_convert p h = rw (p, b) (one_else _ w.files h)
 
     pub asks_help : v ≡ Help → w.files ≡ None → Usage ≡ verb_asked v w
-    unfolding verb_asked no_file if◌then◌else◌
+    unfolding verb_asked no_file test◌then◌else◌
     asks_help p q = rw (p, b, q)
 
     pub no_help : v ≡ Help → (w.files ≡ None → ⊥) → BadWords ≡ verb_asked v w
-    unfolding verb_asked if◌then◌else◌
+    unfolding verb_asked test◌then◌else◌
     no_help p h = rw (p, b) (none_else _ w.files h)
 
 -- ---- with `--known`, and without
@@ -278,11 +278,11 @@ module _ {v : Verb} (w : Asked) where
 
 module _ (v : Verb) (w : Asked) where
   pub with_known : w.known ≡ true → known_asked v w ≡ command_of v w
-  unfolding command_of if◌then◌else◌
+  unfolding command_of test◌then◌else◌
   with_known k = rw k
 
   pub without : w.known ≡ false → verb_asked v w ≡ command_of v w
-  unfolding command_of if◌then◌else◌
+  unfolding command_of test◌then◌else◌
   without k = rw k
 
 -- the other verbs do not take it
@@ -321,13 +321,13 @@ file_counts (Two i j) a = omega arith
 file_counts Wrong a = omega arith
 
 -- a flag, once
-flag_counts : (b : Bool) (f : Files) → min 4 (flagged b + counted f + 1) ≤ 1 + counted (if b then Wrong else f)
-unfolding counted flagged if◌then◌else◌
+flag_counts : (b : Bool) (f : Files) → min 4 (flagged b + counted f + 1) ≤ 1 + counted (test b then Wrong else f)
+unfolding counted flagged test◌then◌else◌
 flag_counts true f = omega arith
 flag_counts false f = omega arith
 
-input_counts : (b : Bool) (f : Files) (a : ℕ) → min 4 (counted f + 1) ≤ counted (if b then Wrong else with_file f a)
-unfolding counted if◌then◌else◌
+input_counts : (b : Bool) (f : Files) (a : ℕ) → min 4 (counted f + 1) ≤ counted (test b then Wrong else with_file f a)
+unfolding counted test◌then◌else◌
 input_counts true f a = omega arith
 input_counts false f a = file_counts f a
 
@@ -375,8 +375,8 @@ one_many c (One i) h = absurd (omega (arith, h))
 one_many c (Two i j) h = refl
 one_many c Wrong h = refl
 
-or_bad : (b : Bool) {c : Command} → c ≡ BadWords → (if b then BadWords else c) ≡ BadWords
-unfolding if◌then◌else◌
+or_bad : (b : Bool) {c : Command} → c ≡ BadWords → (test b then BadWords else c) ≡ BadWords
+unfolding test◌then◌else◌
 or_bad true e = refl
 or_bad false e = e
 

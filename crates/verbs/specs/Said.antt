@@ -2,7 +2,7 @@
 use Rattle.std.specs.Prelude.{◌≡◌, List, [], ◌∷◌, ◌++◌, ℕ, ◌+◌, eqb, length}
 use Rattle.std.proofs.Math.Option.{some}
 use Rattle.meaning.specs.Limits.{sheet_buffer, message_buffer, largest_changes}
-use Rattle.meaning.specs.Base.{◌or◌, if◌then◌else◌, if_some, bytes}
+use Rattle.meaning.specs.Base.{◌or◌, test◌then◌else◌, if_some, bytes}
 use Rattle.meaning.specs.Sheet.{Entry}
 use Rattle.meaning.specs.Read.{read_sheet}
 use Rattle.meaning.specs.Answer.{Answer, bare, answer, overlaid}
@@ -32,7 +32,7 @@ status_number Misused = 3
 
 -- of the check's code
 unfoldable pub status_of : ℕ → Status
-status_of code = if eqb code 0 then Fine else Refused
+status_of code = test eqb code 0 then Fine else Refused
 
 -- ---- what is said
 
@@ -51,7 +51,7 @@ span_text start end = spaced (start ∷ []) ++ spaced (end ∷ []) ++ bytes "\n"
 
 -- 25 and 23 "point at the first place too": a line more, with the second span
 unfoldable pub first_text : ℕ → ℕ → ℕ → List ℕ
-first_text code start end = if eqb code 23 or eqb code 25 then bytes "first set here" ++ span_text start end else []
+first_text code start end = test eqb code 23 or eqb code 25 then bytes "first set here" ++ span_text start end else []
 
 -- an answer: the line of `typecheck`, and that line
 unfoldable pub told_text : Answer → List ℕ
@@ -68,9 +68,9 @@ check_said a = record { text = told_text a; status = status_of a.code }
 -- `check --known`: a line more, whether "known stays known", and why; of what is no image, none. 1 is strict, under which it does whatever
 -- the program is.
 unfoldable pub known_text : ℕ → Steadiness → List ℕ
-known_text setting steady = bytes "known stays known: no def inside an if\n"
+known_text setting steady = bytes "known stays known: no def inside an test\n"
 known_text setting (def_in_if n start end) =
-    if eqb setting 1 then bytes "known stays known: strict\n" else bytes "known may change: def inside an if" ++ span_text start end
+    test eqb setting 1 then bytes "known stays known: strict\n" else bytes "known may change: def inside an test" ++ span_text start end
 known_text setting (faulty f) = []
 
 -- what was written at a place tells what the answer s of `steady` means
@@ -91,7 +91,7 @@ known_said setting bs =
 
 -- `sheet`: the sheet for standard output, and what tells of a refusal for standard error
 unfoldable pub refusal_of : Answer → List ℕ
-refusal_of a = if eqb a.code 0 then [] else told_text a
+refusal_of a = test eqb a.code 0 then [] else told_text a
 
 -- what tells of the answer stands at the front of its buffer in either case; told of it is as much as the refusal has
 pub record Writes (a : Answer) (old_sheet new_sheet old_line new_line : List ℕ) (w : Written) : Type 0 where
@@ -102,7 +102,7 @@ pub record Writes (a : Answer) (old_sheet new_sheet old_line new_line : List ℕ
 
 -- `convert`: the image for standard output, and what tells of a refusal for standard error, the line of `typecheck`
 unfoldable pub unconverted_text : Conversion → List ℕ
-unconverted_text a = if eqb a.code 0 then [] else refused_line (bare a.code a.place)
+unconverted_text a = test eqb a.code 0 then [] else refused_line (bare a.code a.place)
 
 pub record Renews (a : Conversion) (old_image new_image old_line new_line : List ℕ) (w : Renewed) : Type 0 where
   pub image : Fronted a.image old_image new_image w.image
@@ -127,7 +127,7 @@ changes_said old new = if_some (compared old new) (λ cs. record { text = change
 
 -- the same status by the code and the length of what `show::changes` told
 unfoldable pub compared_as : ℕ → ℕ → Status
-compared_as code size = if eqb code 0 then if eqb size 0 then Fine else Changed else Refused
+compared_as code size = test eqb code 0 then test eqb size 0 then Fine else Changed else Refused
 
 -- `load`: what is no sheet counts as the sheet of no names, so that every name is new
 unfoldable pub names_in : List ℕ → List Entry

@@ -1,6 +1,6 @@
 -- What the words behind the program's name ask for. (The program's own; in no document.)
 use Rattle.std.specs.Prelude.{Bool, true, false, List, [], ◌∷◌, ℕ, ◌+◌, eqb, get_or}
-use Rattle.meaning.specs.Base.{if◌then◌else◌, bytes, same_text}
+use Rattle.meaning.specs.Base.{test◌then◌else◌, bytes, same_text}
 use Rattle.verbs.specs.declared.Verb.{Verb}
 use Rattle.verbs.specs.declared.Verb.TheVariants.{Check, Sheet, Show, Changes, Load, Convert, Help, Nothing}
 use Rattle.verbs.specs.declared.Kind.{Kind}
@@ -15,22 +15,22 @@ use Rattle.verbs.specs.declared.Command.TheVariants.{CheckImage, CheckKnown, Wri
 
 unfoldable pub verb_of : List ℕ → Verb
 verb_of w =
-    if same_text w (bytes "check") then Check
-    else if same_text w (bytes "sheet") then Sheet
-    else if same_text w (bytes "show") then Show
-    else if same_text w (bytes "changes") then Changes
-    else if same_text w (bytes "load") then Load
-    else if same_text w (bytes "convert") then Convert
-    else if same_text w (bytes "help") then Help
+    test same_text w (bytes "check") then Check
+    else test same_text w (bytes "sheet") then Sheet
+    else test same_text w (bytes "show") then Show
+    else test same_text w (bytes "changes") then Changes
+    else test same_text w (bytes "load") then Load
+    else test same_text w (bytes "convert") then Convert
+    else test same_text w (bytes "help") then Help
     else Nothing
 
 -- `-` is standard input, and no name begins with a `-`: `./-x` is the file `-x`
 unfoldable pub kind_of : List ℕ → Kind
 kind_of w =
-    if same_text w (bytes "--strict") then Strict
-    else if same_text w (bytes "--known") then Known
-    else if same_text w (bytes "-") then Input
-    else if eqb (get_or w 0 0) 45 then Unknown
+    test same_text w (bytes "--strict") then Strict
+    else test same_text w (bytes "--known") then Known
+    else test same_text w (bytes "-") then Input
+    else test eqb (get_or w 0 0) 45 then Unknown
     else Name
 
 -- ---- the words behind the verb, one after the other: a is the argument's number
@@ -43,9 +43,9 @@ with_file Wrong a = Wrong
 
 -- `--strict` once, `--known` once, standard input once, and no word of another kind
 unfoldable pub with_word : Asked → ℕ → Kind → Asked
-with_word w a Strict = record { strict = true; known = w.known; input = w.input; files = if w.strict then Wrong else w.files }
-with_word w a Known = record { strict = w.strict; known = true; input = w.input; files = if w.known then Wrong else w.files }
-with_word w a Input = record { strict = w.strict; known = w.known; input = true; files = if w.input then Wrong else with_file w.files a }
+with_word w a Strict = record { strict = true; known = w.known; input = w.input; files = test w.strict then Wrong else w.files }
+with_word w a Known = record { strict = w.strict; known = true; input = w.input; files = test w.known then Wrong else w.files }
+with_word w a Input = record { strict = w.strict; known = w.known; input = true; files = test w.input then Wrong else with_file w.files a }
 with_word w a Name = record { strict = w.strict; known = w.known; input = w.input; files = with_file w.files a }
 with_word w a Unknown = record { strict = w.strict; known = w.known; input = w.input; files = Wrong }
 
@@ -60,7 +60,7 @@ asked_by w a (v ∷ vs) = asked_by (with_word w a (kind_of v)) (a + 1) vs
 -- ---- what is to be done
 
 unfoldable pub setting_if : Bool → ℕ
-setting_if strict = if strict then 1 else 0
+setting_if strict = test strict then 1 else 0
 
 -- no file, one or two: what is done with them, and nothing where there are others
 unfoldable pub no_file : Command → Files → Command
@@ -86,10 +86,10 @@ unfoldable pub verb_asked : Verb → Asked → Command
 verb_asked Check w = one_file (λ i. CheckImage (setting_if w.strict) i) w.files
 verb_asked Sheet w = one_file (λ i. WriteSheet (setting_if w.strict) i) w.files
 verb_asked Load w = two_files (λ i j. LoadImage (setting_if w.strict) i j) w.files
-verb_asked Show w = if w.strict then BadWords else one_file (λ i. ShowSheet i) w.files
-verb_asked Changes w = if w.strict then BadWords else two_files (λ i j. TellChanges i j) w.files
-verb_asked Convert w = if w.strict then BadWords else one_file (λ i. ConvertImage i) w.files
-verb_asked Help w = if w.strict then BadWords else no_file Usage w.files
+verb_asked Show w = test w.strict then BadWords else one_file (λ i. ShowSheet i) w.files
+verb_asked Changes w = test w.strict then BadWords else two_files (λ i j. TellChanges i j) w.files
+verb_asked Convert w = test w.strict then BadWords else one_file (λ i. ConvertImage i) w.files
+verb_asked Help w = test w.strict then BadWords else no_file Usage w.files
 verb_asked Nothing w = NoVerb
 
 -- with it: `check` alone tells whether known stays known
@@ -104,7 +104,7 @@ known_asked Help w = BadWords
 known_asked Nothing w = NoVerb
 
 unfoldable pub command_of : Verb → Asked → Command
-command_of verb w = if w.known then known_asked verb w else verb_asked verb w
+command_of verb w = test w.known then known_asked verb w else verb_asked verb w
 
 -- of all words behind the program's name; the first of them is argument 1
 unfoldable pub command_told : List (List ℕ) → Command

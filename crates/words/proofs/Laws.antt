@@ -10,7 +10,7 @@ use native.Mathlib.Omega.{arith}
 use lib.ListN.{length, get_or, set, take, drop, length-append, length-drop, take-append-drop, get_or-append}
 use lib.Seq.{length-take-le, take_at, drop_at, take-append-le, drop-append-le, drop-drop, get_or-drop, get_or-take, get_or-append_seam, split_at, paste-zero, sets-eq}
 use borrow.Author.Tests.{lt-ltb, le-ltb}
-use Rattle.meaning.specs.Base.{if◌then◌else◌, bytes, same_text, digits, decimal, word, words}
+use Rattle.meaning.specs.Base.{test◌then◌else◌, bytes, same_text, digits, decimal, word, words}
 use Rattle.meaning.specs.Answer.{overlaid}
 use Rattle.meaning.proofs.SheetWords.{Small, four_bytes, words_length}
 use Rattle.words.specs.Words.{put_at, Wrote}
@@ -167,11 +167,11 @@ put_read_each d at ns k within h small =
 -- ---- decimal
 
 digits_one : (most n : ℕ) → n < 10 → digits (suc most) n ≡ (48 + n) ∷ []
-unfolding digits if◌then◌else◌
+unfolding digits test◌then◌else◌
 digits_one most n h = rw lt-ltb
 
 digits_more : (most n : ℕ) → 10 ≤ n → digits (suc most) n ≡ digits most (n / 10) ++ ((48 + n % 10) ∷ [])
-unfolding digits if◌then◌else◌
+unfolding digits test◌then◌else◌
 digits_more most n h = rw le-ltb
 
 -- that more digits were allowed changes nothing

@@ -9,7 +9,7 @@ use lib.Dec.{eqb, ltb}
 use lib.ListN.{length, get_or, set, drop, drop_of_length-le}
 use lib.Seq.{drop-cons, sets-eq}
 use borrow.Author.Tests.{eq-eqb, ne_eqb, le-leb, lt-leb, ltb-true, ltb-false}
-use Rattle.meaning.specs.Base.{◌and◌, if◌then◌else◌, all, same_text, before, decimal}
+use Rattle.meaning.specs.Base.{◌and◌, test◌then◌else◌, all, same_text, before, decimal}
 use Rattle.meaning.specs.Image.{printable}
 use Rattle.meaning.proofs.Choices.{and_false}
 use Rattle.meaning.proofs.SheetWords.{Small}
@@ -52,11 +52,11 @@ module _ (a b : List ℕ) (i : ℕ) where
     same_agree e = rw (drop-cons a i 0 ha, drop-cons b i 0 hb, eq-eqb _ _ e, add-one)
 
     pub before_differ : (get_or a i 0 ≡ get_or b i 0 → ⊥) → before (drop i a) (drop i b) ≡ ltb (get_or a i 0) (get_or b i 0)
-    unfolding before if◌then◌else◌
+    unfolding before test◌then◌else◌
     before_differ n = rw (drop-cons a i 0 ha, drop-cons b i 0 hb, ne_eqb _ _ n)
 
     pub before_agree : get_or a i 0 ≡ get_or b i 0 → before (drop i a) (drop i b) ≡ before (drop (i + 1) a) (drop (i + 1) b)
-    unfolding before if◌then◌else◌
+    unfolding before test◌then◌else◌
     before_agree e = rw (drop-cons a i 0 ha, drop-cons b i 0 hb, eq-eqb _ _ e, add-one)
 
 -- ---- a test of each element

@@ -1,5 +1,5 @@
 use Rattle.image.proofs.Choosing.{below_if_odd, below_if, below_loop, below_def, below_block, below_other}
-use Rattle.meaning.specs.Base.{if◌then◌else◌}
+use Rattle.meaning.specs.Base.{test◌then◌else◌}
 use Prim.Native.Nat.{◌+◌}
 use borrow.Author.Tests.{eq-eqb, ne_eqb}
 use mathlib.Core.Path.{sym, ◌∙◌}
@@ -17,7 +17,7 @@ returns-then-j-eq1 c =
     sym (below_if_odd a.parent a.c a.j a.kind c.in-8.is c.if-j-eq1.true)
 
 pub returns-then-j-c : goal.returns-then-j-c
-unfolding if◌then◌else◌
+unfolding test◌then◌else◌
 returns-then-j-c c =
     let a = c.args in
     sym (rw (eq-eqb (a.j + 1) a.c c.if-j-c.true) at (below_def a.parent a.c a.j a.kind c.in-11.is))
@@ -28,7 +28,7 @@ returns-else-j-eq1 c =
     c.block_or_expression.ensures ∙ sym (below_if a.parent a.c a.j a.kind c.in-8.is c.if-j-eq1.false)
 
 pub returns-else-j-c : goal.returns-else-j-c
-unfolding if◌then◌else◌
+unfolding test◌then◌else◌
 returns-else-j-c c =
     let a = c.args in
     sym (rw (ne_eqb (a.j + 1) a.c c.if-j-c.false) at (below_def a.parent a.c a.j a.kind c.in-11.is))

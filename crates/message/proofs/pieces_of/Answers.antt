@@ -1,6 +1,6 @@
 use mathlib.Core.Path.{refl}
 use native.Mathlib.Omega.{arith}
-use Rattle.meaning.specs.Base.{◌or◌, is_in, if◌then◌else◌}
+use Rattle.meaning.specs.Base.{◌or◌, is_in, test◌then◌else◌}
 use Rattle.rules.specs.Outcome.{types_named}
 use Rattle.message.proofs.Telling.{chosen, form_as, first_below, both_below, one_given, two_given, given_two, given_none, says_nothing, says_number}
 use Rattle.message.proofs.Codes.{Names, two_among, two_operands, one_among, one_operand, one_later, none_statement, none_condition, none_high, says_one, says_two, says_none, says_23, says_26, says_37, says_38}
@@ -16,37 +16,37 @@ named-requires-clause-image_value c =
     c.requires.image_value
 
 pub counted-requires : goal.counted-requires
-unfolding types_named is_in ◌or◌ if◌then◌else◌
+unfolding types_named is_in ◌or◌ test◌then◌else◌
 counted-requires c =
     c.requires.tells.small (λ e. absurd (omega (arith, c.in-26.is))) (rw c.in-26.is)
 
 pub called-requires-clause-headed : goal.called-requires-clause-headed
-unfolding types_named is_in ◌or◌ if◌then◌else◌
+unfolding types_named is_in ◌or◌ test◌then◌else◌
 called-requires-clause-headed c =
     c.requires.headed
 
 pub called-requires-clause-image_value : goal.called-requires-clause-image_value
-unfolding types_named is_in ◌or◌ if◌then◌else◌
+unfolding types_named is_in ◌or◌ test◌then◌else◌
 called-requires-clause-image_value c =
     c.requires.image_value
 
 pub called-requires-clause-b_bound : goal.called-requires-clause-b_bound
-unfolding types_named is_in ◌or◌ if◌then◌else◌
+unfolding types_named is_in ◌or◌ test◌then◌else◌
 called-requires-clause-b_bound c =
     (c.requires.tells.small (λ e. absurd (omega (arith, c.in-37.is))) (rw c.in-37.is)).1
 
 pub passed-requires-clause-headed : goal.passed-requires-clause-headed
-unfolding types_named is_in ◌or◌ if◌then◌else◌
+unfolding types_named is_in ◌or◌ test◌then◌else◌
 passed-requires-clause-headed c =
     c.requires.headed
 
 pub passed-requires-clause-image_value : goal.passed-requires-clause-image_value
-unfolding types_named is_in ◌or◌ if◌then◌else◌
+unfolding types_named is_in ◌or◌ test◌then◌else◌
 passed-requires-clause-image_value c =
     c.requires.image_value
 
 pub passed-requires-clause-b_bound : goal.passed-requires-clause-b_bound
-unfolding types_named is_in ◌or◌ if◌then◌else◌
+unfolding types_named is_in ◌or◌ test◌then◌else◌
 passed-requires-clause-b_bound c =
     (c.requires.tells.small (λ e. absurd (omega (arith, c.in-38.is))) (rw c.in-38.is)).1
 

@@ -1,13 +1,13 @@
-use Rattle.meaning.specs.Base.{if◌then◌else◌}
+use Rattle.meaning.specs.Base.{test◌then◌else◌}
 use Rattle.rules.specs.Leaves.{second_code}
 use Rattle.rules.proofs.second_code.Goals as goal
 
 pub returns-then-filters : goal.returns-then-filters
-unfolding second_code if◌then◌else◌
+unfolding second_code test◌then◌else◌
 returns-then-filters c =
     rw c.if-filters.true
 
 pub returns : goal.returns
-unfolding second_code if◌then◌else◌
+unfolding second_code test◌then◌else◌
 returns c =
     rw c.if-filters.false
