@@ -258,7 +258,7 @@ fn skip<R: Read>(from: &mut R, start: usize, to: usize) -> bool {
 }
 
 // A record that is longer than the buffer is cut. Its line is the same, if the buffer has 59,937 bytes: `line_cut` in
-// proofs/Cutting.antt. That what stands in the buffer is the record's front is believed, as `io` promises no bytes.
+// proofs/Cutting.antt. That what stands in the buffer is the record's front is believed, as `std` promises no bytes.
 fn next<R: Read>(from: &mut R, buf: &mut [u8]) -> Got
     ensures { result.length ≤ length buf.new }
 {
