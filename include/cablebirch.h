@@ -1,6 +1,6 @@
 /* Cablebirch: a proved script checker. MIT licence.
  *
- * Two archives for x86-64 Linux, in target/staticlib; `rt staticlib checker` and `rt staticlib load` prove and write them:
+ * Two archives for x86-64 Linux, in target/staticlib; `tools/staticlib checker` and `tools/staticlib load` prove and write them:
  *
  *     libchecker.a    cablebirch_check, cablebirch_read_sheet, cablebirch_write_sheet
  *     libload.a       cablebirch_load, cablebirch_show, cablebirch_changes, cablebirch_steady, cablebirch_convert
