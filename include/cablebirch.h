@@ -1,6 +1,6 @@
 /* Cablebirch: a proved script checker. MIT licence.
  *
- * Two archives for x86-64 Linux, in target/staticlib; `rt staticlib checker` and `rt staticlib load` prove and write them:
+ * Two archives for x86-64 Linux, in target/staticlib; `tools/staticlib checker` and `tools/staticlib load` prove and write them:
  *
  *     libchecker.a    cablebirch_check, cablebirch_read_sheet, cablebirch_write_sheet
  *     libload.a       cablebirch_load, cablebirch_show, cablebirch_changes, cablebirch_steady, cablebirch_convert
@@ -11,11 +11,10 @@
  * buffer that is written must not overlap another buffer. No pointer may be null, even where its length is 0.
  *
  * They allocate nothing and work on the caller's stack. The most that each was seen to need (measured on the deepest inputs known, by
- * bench/stack, and not proved): cablebirch_check and cablebirch_load 219 KB (218,600 and 218,712 bytes), cablebirch_read_sheet and
- * cablebirch_write_sheet 90 KB (89,704 and 89,768), cablebirch_show 124 KB (123,944), cablebirch_changes 253 KB (252,472),
- * cablebirch_steady and cablebirch_convert 5 KB (4,252 and 4,268). With a message buffer of more than CABLEBIRCH_MESSAGE_ROOM,
- * cablebirch_check and cablebirch_load need more where a message names a type that is nested deeper than such a buffer can tell: 292,520
- * and 292,632 bytes for one of 1,891 levels.
+ * bench/stack, and not proved): cablebirch_check and cablebirch_load 209 KB (208,320 and 208,288 bytes), cablebirch_read_sheet and
+ * cablebirch_write_sheet 90 KB (89,640 and 89,752), cablebirch_show 124 KB (123,848), cablebirch_changes 253 KB (252,216),
+ * cablebirch_steady and cablebirch_convert 5 KB (4,248 and 4,296). A message buffer of more than CABLEBIRCH_MESSAGE_ROOM moved none of
+ * these: a message that names a type of 1,891 levels took 201,512 and 201,480 bytes.
  *
  * A script loads unseen exactly when it is accepted and its sheet equals the last approved sheet, byte for byte:
  *

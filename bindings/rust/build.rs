@@ -14,7 +14,7 @@ fn main() {
         let library = folder.join(format!("lib{}.a", name));
         println!("cargo:rerun-if-changed={}", library.display());
         if !library.is_file() {
-            println!("cargo:warning=no {}: `rt staticlib {}` writes it", library.display(), name);
+            println!("cargo:warning=no {}: `tools/staticlib {}` writes it", library.display(), name);
         }
         println!("cargo:rustc-link-lib=static={}", name);
     }

@@ -17,9 +17,8 @@
 //! ```
 //!
 //! The functions keep no state: any number of threads may call them at once. They work on the caller's stack: [`check`] was seen to
-//! need 218,600 bytes at most, [`load`] 218,712, [`read_sheet`] 89,704, [`write_sheet`] 89,768, [`show`] 123,944, [`changes`] 252,472,
-//! [`steady`] 4,252 and [`convert`] 4,268; with a message buffer of more than [`MESSAGE_ROOM`], [`check`] up to 292,520 and [`load`] up to
-//! 292,632, where a message names a type nested 1,891 deep (measured, not proved: `bench/stack`).
+//! need 208,320 bytes at most, [`load`] 208,288, [`read_sheet`] 89,640, [`write_sheet`] 89,752, [`show`] 123,848, [`changes`] 252,216,
+//! [`steady`] 4,248 and [`convert`] 4,296, with a message buffer of more than [`MESSAGE_ROOM`] too (measured, not proved: `bench/stack`).
 
 #![warn(missing_docs)]
 

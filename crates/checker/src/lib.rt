@@ -344,7 +344,7 @@ pub fn write_sheet(sheet: &[u8], out: &mut [u8]) -> Rewriting
     Rewriting::NoRoom
 }
 
-// ---- for C and Rust
+// ---- for C and Rust: the static library `checker_c` exports these
 
 // An answer in the scope's numbers.
 #[repr(C)]
@@ -433,13 +433,7 @@ pub fn replied(a: Answer) -> Reply
 }
 
 // `check` for other languages.
-#[unsafe(no_mangle)]
-pub extern "C" fn cablebirch_check(
-    setting: u32,
-    image: &[u8],
-    sheet: &mut [u8],
-    message: &mut [u8],
-) -> Reply
+pub fn cablebirch_check(setting: u32, image: &[u8], sheet: &mut [u8], message: &mut [u8]) -> Reply
     ensures { Replies
         (answer setting image.now (length sheet.old) (length message.old))
         (reply_means result) sheet.old sheet.new message.old message.new }
@@ -448,8 +442,7 @@ pub extern "C" fn cablebirch_check(
 }
 
 // `read_sheet` for other languages: 0 or 12.
-#[unsafe(no_mangle)]
-pub extern "C" fn cablebirch_read_sheet(sheet: &[u8]) -> u32
+pub fn cablebirch_read_sheet(sheet: &[u8]) -> u32
     ensures { result ≡ (read_answer sheet.now).code }
 {
     match read_sheet(sheet) {
@@ -469,8 +462,7 @@ fn relaid(r: Rewriting) -> Reply
 }
 
 // `write_sheet` for other languages: 0, 10 or 12.
-#[unsafe(no_mangle)]
-pub extern "C" fn cablebirch_write_sheet(sheet: &[u8], out: &mut [u8]) -> Reply
+pub fn cablebirch_write_sheet(sheet: &[u8], out: &mut [u8]) -> Reply
     ensures { Relaid (rewritten sheet.now (length out.old))
         (reply_means result) out.old out.new }
 {

@@ -56,7 +56,7 @@ pub fn load(
     Loading::Look(n)
 }
 
-// ---- for C and Rust
+// ---- for C and Rust: the static library `load_c` exports these
 
 // The case, 0 loads, 1 look and 2 refused, and the check's answer in the scope's numbers.
 #[repr(C)]
@@ -125,8 +125,7 @@ fn decided(r: Loading) -> Verdict
 }
 
 // `load` for other languages.
-#[unsafe(no_mangle)]
-pub extern "C" fn cablebirch_load(
+pub fn cablebirch_load(
     setting: u32,
     image: &[u8],
     approved: &[u8],
@@ -168,8 +167,7 @@ fn in_numbers(t: Telling) -> Words
 }
 
 // `show::show` for other languages.
-#[unsafe(no_mangle)]
-pub extern "C" fn cablebirch_show(sheet: &[u8], out: &mut [u8]) -> Words
+pub fn cablebirch_show(sheet: &[u8], out: &mut [u8]) -> Words
     ensures { Tells (show_answer sheet.now (length out.old))
         result.code result.length out.old out.new }
 {
@@ -177,8 +175,7 @@ pub extern "C" fn cablebirch_show(sheet: &[u8], out: &mut [u8]) -> Words
 }
 
 // `show::changes` for other languages.
-#[unsafe(no_mangle)]
-pub extern "C" fn cablebirch_changes(old: &[u8], new: &[u8], out: &mut [u8]) -> Words
+pub fn cablebirch_changes(old: &[u8], new: &[u8], out: &mut [u8]) -> Words
     ensures { Tells (changes_answer old.now new.now (length out.old))
         result.code result.length out.old out.new }
 {
@@ -218,8 +215,7 @@ fn blamed(j: Judged) -> Steady
 }
 
 // `steady::steady` for other languages.
-#[unsafe(no_mangle)]
-pub extern "C" fn cablebirch_steady(image: &[u8]) -> Steady
+pub fn cablebirch_steady(image: &[u8]) -> Steady
     ensures { steady_means result ≡ steady_numbers (steadiness image.now) }
 {
     match steady::steady(image) {
@@ -255,8 +251,7 @@ pub struct Converted {
 const SHORT_OUTPUT: u32 = 15;
 
 // `convert::convert` for other languages.
-#[unsafe(no_mangle)]
-pub extern "C" fn cablebirch_convert(image: &[u8], out: &mut [u8]) -> Converted
+pub fn cablebirch_convert(image: &[u8], out: &mut [u8]) -> Converted
     ensures { Hands (convert_answer image.now (length out.old))
         (converted_means result) out.old out.new }
 {
