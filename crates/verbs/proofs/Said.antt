@@ -117,7 +117,7 @@ pub known_strict : (setting n start end : ℕ) {d e : List ℕ} {at r : ℕ} →
 unfolding known_text test◌then◌else◌
 known_strict setting n start end s w = rw (eq-eqb setting 1 s) w
 
-pub known_changes : (setting n start end : ℕ) {d e f : List ℕ} {at i r : ℕ} → (setting ≡ 1 → ⊥) → Wrote d at (bytes "known may change: def inside an test") e i
+pub known_changes : (setting n start end : ℕ) {d e f : List ℕ} {at i r : ℕ} → (setting ≡ 1 → ⊥) → Wrote d at (bytes "known may change: def inside an if") e i
     → Wrote e i (span_text start end) f r → Wrote d at (known_text setting (def_in_if n start end)) f r
 unfolding known_text test◌then◌else◌
 known_changes setting n start end s w v = rw (ne_eqb setting 1 s) (and_then w v)
@@ -128,7 +128,7 @@ module _ (setting : ℕ) {s : Steady} {d e : List ℕ} {at r : ℕ} where
   knows_so k p w =
       record { tells = λ j q. subst (λ (i : Steadiness). Wrote d at (known_text setting i) e r) (some-injective k j (sym p ∙ q)) w }
 
-  pub knows_steady : s ≡ IsSteady → Wrote d at (bytes "known stays known: no def inside an test\n") e r → Knows setting s d at e r
+  pub knows_steady : s ≡ IsSteady → Wrote d at (bytes "known stays known: no def inside an if\n") e r → Knows setting s d at e r
   unfolding known_text
   knows_steady p w = knows_so steady (ap meant p) w
 

@@ -68,9 +68,9 @@ check_said a = record { text = told_text a; status = status_of a.code }
 -- `check --known`: a line more, whether "known stays known", and why; of what is no image, none. 1 is strict, under which it does whatever
 -- the program is.
 unfoldable pub known_text : ℕ → Steadiness → List ℕ
-known_text setting steady = bytes "known stays known: no def inside an test\n"
+known_text setting steady = bytes "known stays known: no def inside an if\n"
 known_text setting (def_in_if n start end) =
-    test eqb setting 1 then bytes "known stays known: strict\n" else bytes "known may change: def inside an test" ++ span_text start end
+    test eqb setting 1 then bytes "known stays known: strict\n" else bytes "known may change: def inside an if" ++ span_text start end
 known_text setting (faulty f) = []
 
 -- what was written at a place tells what the answer s of `steady` means

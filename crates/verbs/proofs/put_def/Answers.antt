@@ -22,9 +22,9 @@ put-words-requires c =
 pub put_span-requires : goal.put_span-requires
 unfolding bytes
 put_span-requires c =
-    omega (arith, c.requires, (wrote (bytes "known may change: def inside an test") (omega (arith, c.requires)) c.put-words.ensures.buf_after c.put-words.ensures.value).long, (wrote (bytes "known may change: def inside an test") (omega (arith, c.requires)) c.put-words.ensures.buf_after c.put-words.ensures.value).ends)
+    omega (arith, c.requires, (wrote (bytes "known may change: def inside an if") (omega (arith, c.requires)) c.put-words.ensures.buf_after c.put-words.ensures.value).long, (wrote (bytes "known may change: def inside an if") (omega (arith, c.requires)) c.put-words.ensures.buf_after c.put-words.ensures.value).ends)
 
 pub returns : goal.returns
 unfolding bytes
 returns c =
-    known_changes _ _ _ _ c.if-setting-eq-STRICT.false (wrote (bytes "known may change: def inside an test") (omega (arith, c.requires)) c.put-words.ensures.buf_after c.put-words.ensures.value) c.put_span.ensures.wrote
+    known_changes _ _ _ _ c.if-setting-eq-STRICT.false (wrote (bytes "known may change: def inside an if") (omega (arith, c.requires)) c.put-words.ensures.buf_after c.put-words.ensures.value) c.put_span.ensures.wrote

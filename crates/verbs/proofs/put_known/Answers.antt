@@ -16,7 +16,7 @@ put_def-requires c =
 pub returns-in-Steady : goal.returns-in-Steady
 unfolding bytes
 returns-in-Steady c =
-    knows_steady _ c.in-Steady.is (wrote (bytes "known stays known: no def inside an test\n") (omega (arith, c.requires)) c.put.ensures.buf_after c.put.ensures.value)
+    knows_steady _ c.in-Steady.is (wrote (bytes "known stays known: no def inside an if\n") (omega (arith, c.requires)) c.put.ensures.buf_after c.put.ensures.value)
 
 pub returns-in-DefInIf : goal.returns-in-DefInIf
 returns-in-DefInIf c =
