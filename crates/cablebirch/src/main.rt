@@ -294,7 +294,7 @@ fn run_changes(rt: &HostRuntime, a: usize, b: usize) -> Status {
     print(rt, text(&out, 0, done.length), status)
 }
 
-// The system's words for what keeps an approved sheet from being read, of which `os` has no text to go on behind.
+// The system's words for what keeps an approved sheet from being read. The line goes on behind them.
 fn say_reason(error: i32) {
     match error {
         ENOENT => say(b"No such file or directory"),
