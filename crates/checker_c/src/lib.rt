@@ -1,5 +1,5 @@
-// The exports of `checker`, for C and Rust: a static library of its own, since a crate is a library or a static library,
-// not both. Each calls the library's function of the same name, and states its clauses again.
+// The exports of `checker`, for C and Rust: a static library of its own, since a crate is a library or a static one, not
+// both. Each calls the library's function of the same name, and states its clauses again.
 #![tactic(auto)]
 
 ghost use Rattle.std.specs.Prelude.{◌≡◌, length};

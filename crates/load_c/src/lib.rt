@@ -1,4 +1,4 @@
-// The exports of `load`, for C and Rust: a static library of its own, since a crate is a library or a static library, not
+// The exports of `load`, for C and Rust: a static library of its own, since a crate is a library or a static one, not
 // both. Each calls the library's function of the same name, and states its clauses again.
 #![tactic(auto)]
 

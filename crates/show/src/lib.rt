@@ -8,7 +8,7 @@ ghost use Rattle.meaning.specs.Types.{text, same as same_type};
 ghost use Rattle.meaning.specs.Sheet.{sheet_of};
 ghost use Rattle.meaning.specs.Read.{entries_in};
 ghost use Rattle.meaning.specs.Show.{dotted, shown, entry_text, entries_text, came, went, turned, changes_text};
-ghost use Rattle.meaning.specs.Show.{changes as changesOf, in_words, show_answer, changes_answer};
+ghost use Rattle.meaning.specs.Show.{changes as changes_of, in_words, show_answer, changes_answer};
 ghost use Rattle.types.specs.Reading.{type_at};
 ghost use Rattle.words.specs.Words.{Wrote};
 ghost use Rattle.message.specs.Texts.{AllKnown};
@@ -350,10 +350,10 @@ fn put_changes(
 ) -> usize
     requires opened { Opened old_sheet.now old_table.now old_names.now old }
     requires opened_2 { Opened new_sheet.now new_table.now new_names.now new }
-    requires new_sheet_in_bounds { length (changes_text (changesOf (entries_in old_sheet.now) (entries_in new_sheet.now)))
+    requires new_sheet_in_bounds { length (changes_text (changes_of (entries_in old_sheet.now) (entries_in new_sheet.now)))
         ≤ length out.old }
     ensures { Wrote out.old 0
-        (changes_text (changesOf (entries_in old_sheet.now) (entries_in new_sheet.now)))
+        (changes_text (changes_of (entries_in old_sheet.now) (entries_in new_sheet.now)))
         out.new result }
 {
     let all = old.names + new.names;

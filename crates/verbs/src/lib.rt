@@ -7,13 +7,13 @@ ghost use Rattle.meaning.specs.Limits.{sheet_buffer, message_buffer, largest_sho
 ghost use Rattle.meaning.specs.Read.{is_sheet};
 ghost use Rattle.meaning.specs.Answer.{answer};
 ghost use Rattle.meaning.specs.Convert.{convert_answer};
-ghost use Rattle.meaning.specs.Show.{changes_text, changes as changesOf};
+ghost use Rattle.meaning.specs.Show.{changes_text, changes as changes_of};
 ghost use Rattle.line.specs.Printing.{Fronted};
 ghost use Rattle.words.specs.Words.{Wrote};
 ghost use Rattle.meaning.specs.Known.{def_in_if};
 ghost use Rattle.show.specs.Words.{telling_length};
 ghost use Rattle.verbs.specs.Words.{verb_of, with_file, with_word, setting_if, known_asked};
-ghost use Rattle.verbs.specs.Words.{kind_of as kindTold, command_of as commandAsked};
+ghost use Rattle.verbs.specs.Words.{kind_of as kind_told, command_of as command_asked};
 ghost use Rattle.verbs.specs.Said.{status_number, status_of, Says, span_text, first_text, check_said, line_room};
 ghost use Rattle.verbs.specs.Said.{Knows, known_text, known_line, known_room, known_said, Writes, Renews};
 ghost use Rattle.verbs.specs.Said.{show_said, compared_as, changes_said, names_in, look_text};
@@ -81,7 +81,7 @@ pub enum Kind {
 
 // `-` alone is standard input. No name begins with a `-`, so that a misspelt `--strict` is not taken for a file.
 pub fn kind_of(word: &[u8]) -> Kind
-    ensures { result ≡ kindTold word.now }
+    ensures { result ≡ kind_told word.now }
 {
     if same(word, b"--strict") {
         return Kind::Strict;
@@ -214,7 +214,7 @@ fn known_asked(verb: Verb, w: Asked) -> Command
 
 // A verb and the number of its files must fit, and only what checks an image may be strict.
 pub fn command_of(verb: Verb, w: Asked) -> Command
-    ensures { result ≡ commandAsked verb w }
+    ensures { result ≡ command_asked verb w }
 {
     if w.known {
         return known_asked(verb, w);
@@ -546,7 +546,7 @@ fn put_changed(approved: &[u8], sheet: &[u8], out: &mut [u8]) -> usize
     requires sheet_value { is_sheet sheet.now ≡ true }
     requires largest_changes_in_bounds { largest_changes ≤ length out.old }
     ensures { Fronted
-        (changes_text (changesOf (names_in approved.now) (names_in sheet.now)))
+        (changes_text (changes_of (names_in approved.now) (names_in sheet.now)))
         out.old out.new result }
 {
     let reading = read_sheet(approved);

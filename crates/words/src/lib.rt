@@ -3,7 +3,7 @@
 #![tactic(auto)]
 
 ghost use Rattle.std.specs.Prelude.{◌≡◌, [], ◌∷◌, ◌+◌, ◌<◌, ◌≤◌, length, take, drop};
-ghost use Rattle.meaning.specs.Base.{word, words, same_text, before as comesBefore, decimal, all};
+ghost use Rattle.meaning.specs.Base.{word, words, same_text, before as comes_before, decimal, all};
 ghost use Rattle.meaning.specs.Image.{printable, text_stands};
 ghost use Rattle.words.specs.Words.{put_at};
 
@@ -90,7 +90,7 @@ pub fn same(a: &[u8], b: &[u8]) -> bool
 }
 
 pub fn before(a: &[u8], b: &[u8]) -> bool
-    ensures { result ≡ comesBefore a.now b.now }
+    ensures { result ≡ comes_before a.now b.now }
 {
     let mut i = 0;
     while i < a.len() {
