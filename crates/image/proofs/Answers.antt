@@ -50,6 +50,9 @@ answer_back (Err (TooDeep i)) = refl
 pub fault_injective : {r s : Judged} → fault_of r ≡ fault_of s → r ≡ s
 fault_injective {r} {s} e = sym (answer_back r) ∙ (ap answer_of e ∙ answer_back s)
 
+pub fault_in_injective : {f g : Fault} → fault_in f ≡ fault_in g → f ≡ g
+fault_in_injective {f} {g} e = let k : ◌≡◌ {A = Judged} (Err f) (Err g) = fault_injective (ap some e) in cc
+
 -- two answers that meet the promise of `judge` are equal
 pub one_answer : (bs : List ℕ) {r s : Judged} → fault_of r ≡ image_fault bs → fault_of s ≡ image_fault bs → r ≡ s
 one_answer bs p q = fault_injective (p ∙ sym q)
