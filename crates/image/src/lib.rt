@@ -13,7 +13,7 @@ ghost use Rattle.meaning.specs.Base.{◌and◌, ◌or◌, test◌then◌else◌,
 ghost use Rattle.meaning.proofs.Faults.{Headed};
 ghost use Rattle.image.specs.Kinds.{record_stands, root_stands};
 ghost use Rattle.words.specs.Words.{put_at};
-ghost use Rattle.image.specs.Outcome.{fault_of, place_of, code_told, place_told};
+ghost use Rattle.image.specs.Outcome.{fault_in, fault_of, place_of};
 ghost use Rattle.image.specs.Parts.{Laid, node_means, name_means, record_of, name_stands};
 ghost use Rattle.image.specs.Parts.{one_argument, two_arguments, On, Moved};
 
@@ -23,7 +23,7 @@ pub mod literals;
 pub mod roles;
 
 use limits::{DEEPEST, MOST_NAMES, MOST_NODES, MOST_TEXT};
-use words::{get_word, put_word, same, text, text_stands, wide16};
+use words::{get_word, put_word, same, text, text_stands};
 
 // "Name record, 5 words: text start, text length 1..64, role, p, q": the bytes at which all but the first start.
 const LEN: usize = 4;
@@ -59,17 +59,9 @@ const UNARY_OPERATORS: usize = 3;
 
 const BINARY_OPERATORS: usize = 14;
 
-// What a search over names or nodes found: the first that fails, or none.
-#[derive(Clone, Copy)]
-pub enum Found {
-    At(usize),
-    Nowhere,
-}
-
-// A well-formed image, or the refusals 1 to 8, those of a name or a node with its number.
-#[derive(Clone, Copy)]
-pub enum Judged {
-    WellFormed,
+// The refusals 1 to 8, those of a name or a node with its number.
+#[derive(Clone, Copy, PartialEq, Eq)]
+pub enum Fault {
     BadHead,
     BadCount,
     BadOffset,
@@ -80,11 +72,30 @@ pub enum Judged {
     TooDeep(usize),
 }
 
-// A refusal in document 01's numbers. A well-formed image has none: 0 and 0.
-#[derive(Clone, Copy)]
-pub struct Fault {
+// A refusal in document 01's numbers.
+#[derive(Clone, Copy, PartialEq, Eq)]
+pub struct Numbers {
     pub code: u32,
     pub place: usize,
+}
+
+// By the codes of document 01.
+impl From<Fault> for Numbers {
+    ghost from_gives = { λ f n. (n.code ≡ (fault_in f).code) × (n.place ≡ (fault_in f).place) };
+
+    fn from(f: Fault) -> Numbers {
+        let (code, place) = match f {
+            Fault::BadHead => (1, 0),
+            Fault::BadCount => (2, 0),
+            Fault::BadOffset => (3, 0),
+            Fault::BadName(i) => (4, i),
+            Fault::UnsafeName(i) => (5, i),
+            Fault::BadNode(i) => (6, i),
+            Fault::BadNesting(i) => (7, i),
+            Fault::TooDeep(i) => (8, i),
+        };
+        Numbers { code, place }
+    }
 }
 
 // The header's counts, and where the areas start.
@@ -316,27 +327,25 @@ fn name_stands(texts: &[u8], last: usize, from: usize, r: NameAt) -> bool
     role_stands(r)
 }
 
-fn broken_name(image: &[u8], texts: &[u8], names: usize) -> Found
+fn broken_name(image: &[u8], texts: &[u8], names: usize) -> Option<usize>
     requires headed { Headed image.now }
     requires names_value { (names ≡ name_count image.now) × (texts.now ≡ texts_of image.now) }
     ensures { place_of result ≡ broken_name image.now }
 {
-    let mut i = 0;
     let mut last = 0;
     let mut from = 0;
-    while i < names {
+    for i in 0..names {
         let r = name_at(image, i);
         if !name_stands(texts, last, from, r) {
-            return Found::At(i);
+            return Some(i);
         }
         last = from;
         from += r.len as usize;
-        i += 1;
     }
     if from != texts.len() {
-        return Found::At(i);
+        return Some(names);
     }
-    Found::Nowhere
+    None
 }
 
 // ---- 5: builtins whose rule looks at arguments that their role does not ask for
@@ -449,20 +458,18 @@ fn safe_at(image: &[u8], texts: usize, k: usize) -> bool
     safe_name(name_text(image, texts, k), r)
 }
 
-fn unsafe_name(image: &[u8], texts: usize, names: usize) -> Found
+fn unsafe_name(image: &[u8], texts: usize, names: usize) -> Option<usize>
     requires headed { Headed image.now }
     requires image_value { broken_name image.now ≡ none }
     requires texts_value { (texts ≡ texts_from image.now) × (names ≡ name_count image.now) }
     ensures { place_of result ≡ unsafe_name image.now }
 {
-    let mut k = 0;
-    while k < names {
+    for k in 0..names {
         if !safe_at(image, texts, k) {
-            return Found::At(k);
+            return Some(k);
         }
-        k += 1;
     }
-    Found::Nowhere
+    None
 }
 
 // ---- 6: what one node record shows
@@ -569,20 +576,18 @@ fn node_stands(image: &[u8], names: usize, nodes: usize, count: usize, i: usize)
     record_stands(names, d)
 }
 
-fn broken_node(image: &[u8], names: usize, nodes: usize, count: usize) -> Found
+fn broken_node(image: &[u8], names: usize, nodes: usize, count: usize) -> Option<usize>
     requires headed { Headed image.now }
     requires names_value { (names ≡ name_count image.now) × (nodes ≡ nodes_from image.now)
         × (count ≡ node_count image.now) }
     ensures { place_of result ≡ broken_node image.now }
 {
-    let mut i = 0;
-    while i < count {
+    for i in 0..count {
         if !node_stands(image, names, nodes, count, i) {
-            return Found::At(i);
+            return Some(i);
         }
-        i += 1;
     }
-    Found::Nowhere
+    None
 }
 
 // ---- 7: children
@@ -680,24 +685,22 @@ fn root_stands(image: &[u8], nodes: usize, count: usize) -> bool
 
 // Linear in all: each parent walks its children once, and the children of parents that nest well are disjoint, so no
 // node is walked by two parents; the first parent that does not ends the search.
-fn badly_nested(image: &[u8], nodes: usize, count: usize) -> Found
+fn badly_nested(image: &[u8], nodes: usize, count: usize) -> Option<usize>
     requires headed { Headed image.now }
     requires image_value { broken_node image.now ≡ none }
     requires nodes_value { (nodes ≡ nodes_from image.now) × (count ≡ node_count image.now) }
     ensures { place_of result ≡ badly_nested image.now }
 {
     if !root_stands(image, nodes, count) {
-        return Found::At(0);
+        return Some(0);
     }
-    let mut i = 0;
-    while i < count {
+    for i in 0..count {
         let d = node_at(image, nodes, i);
         if !lands_on_end(image, nodes, i, d) {
-            return Found::At(i);
+            return Some(i);
         }
-        i += 1;
     }
-    Found::Nowhere
+    None
 }
 
 // ---- 8: depth
@@ -706,7 +709,7 @@ fn badly_nested(image: &[u8], nodes: usize, count: usize) -> Found
 // end at i + 1 are around no more, and `ends` has how many they are, plus 1. After 6 this needs no nesting: it is
 // counting alone.
 // The counts start at 1: a fill with 0 is made byte by byte, one with 1 by 16 bytes at a time.
-fn deep_by_counting(image: &[u8], nodes: usize, count: usize) -> Found
+fn deep_by_counting(image: &[u8], nodes: usize, count: usize) -> Option<usize>
     requires headed { Headed image.now }
     requires image_value { broken_node image.now ≡ none }
     requires nodes_value { (nodes ≡ nodes_from image.now) × (count ≡ node_count image.now) }
@@ -714,29 +717,26 @@ fn deep_by_counting(image: &[u8], nodes: usize, count: usize) -> Found
 {
     let mut ends = [1u16; MOST_NODES + 1];
     let mut around = 0;
-    let mut i = 0;
-    while i < count {
+    for i in 0..count {
         if DEEPEST <= around {
-            return Found::At(i);
+            return Some(i);
         }
         let d = node_at(image, nodes, i);
-        let stop = d.stop as usize;
-        ends[stop] = ends[stop] + 1;
-        i += 1;
-        around = around + 2 - wide16(ends[i]);
+        ends[d.stop as usize] += 1;
+        around = around + 2 - usize::from(ends[i + 1]);
     }
-    Found::Nowhere
+    None
 }
 
 // No node lies deeper than there are nodes: a small program needs no counting.
-fn too_deep(image: &[u8], nodes: usize, count: usize) -> Found
+fn too_deep(image: &[u8], nodes: usize, count: usize) -> Option<usize>
     requires headed { Headed image.now }
     requires image_value { broken_node image.now ≡ none }
     requires nodes_value { (nodes ≡ nodes_from image.now) × (count ≡ node_count image.now) }
     ensures { place_of result ≡ too_deep_node image.now }
 {
     if count <= DEEPEST {
-        return Found::Nowhere;
+        return None;
     }
     deep_by_counting(image, nodes, count)
 }
@@ -744,80 +744,61 @@ fn too_deep(image: &[u8], nodes: usize, count: usize) -> Found
 // ---- the answer
 
 // After a header that stands: 4 for all names, then 5 for all, then 6, 7 and 8, each for all nodes.
-fn judge_body(image: &[u8], l: Layout) -> Judged
+fn judge_body(image: &[u8], l: Layout) -> Result<(), Fault>
     requires headed { Headed image.now }
     requires laid { Laid image.now l }
     ensures { fault_of result ≡ image_fault image.now }
 {
     let texts = text(image, l.texts, l.size);
-    if let Found::At(i) = broken_name(image, texts, l.names) {
-        return Judged::BadName(i);
+    if let Some(i) = broken_name(image, texts, l.names) {
+        return Err(Fault::BadName(i));
     }
-    if let Found::At(i) = unsafe_name(image, l.texts, l.names) {
-        return Judged::UnsafeName(i);
+    if let Some(i) = unsafe_name(image, l.texts, l.names) {
+        return Err(Fault::UnsafeName(i));
     }
-    if let Found::At(i) = broken_node(image, l.names, l.nodes, l.count) {
-        return Judged::BadNode(i);
+    if let Some(i) = broken_node(image, l.names, l.nodes, l.count) {
+        return Err(Fault::BadNode(i));
     }
-    if let Found::At(i) = badly_nested(image, l.nodes, l.count) {
-        return Judged::BadNesting(i);
+    if let Some(i) = badly_nested(image, l.nodes, l.count) {
+        return Err(Fault::BadNesting(i));
     }
-    if let Found::At(i) = too_deep(image, l.nodes, l.count) {
-        return Judged::TooDeep(i);
+    if let Some(i) = too_deep(image, l.nodes, l.count) {
+        return Err(Fault::TooDeep(i));
     }
-    Judged::WellFormed
+    Ok(())
 }
 
-pub fn judge(image: &[u8]) -> Judged
+// Whether the bytes are a well-formed image.
+pub fn judge(image: &[u8]) -> Result<(), Fault>
     ensures { fault_of result ≡ image_fault image.now }
 {
     if !head_stands(image) {
-        return Judged::BadHead;
+        return Err(Fault::BadHead);
     }
     let l = areas(image);
     if !counts_stand(image, l) {
-        return Judged::BadCount;
+        return Err(Fault::BadCount);
     }
     if !offsets_stand(image, l) {
-        return Judged::BadOffset;
+        return Err(Fault::BadOffset);
     }
     judge_body(image, l)
-}
-
-// By the codes of document 01.
-pub fn fault_of(j: Judged) -> Fault
-    ensures { (result.code ≡ code_told (fault_of j)) × (result.place ≡ place_told (fault_of j)) }
-{
-    match j {
-        Judged::WellFormed => Fault { code: 0, place: 0 },
-        Judged::BadHead => Fault { code: 1, place: 0 },
-        Judged::BadCount => Fault { code: 2, place: 0 },
-        Judged::BadOffset => Fault { code: 3, place: 0 },
-        Judged::BadName(i) => Fault { code: 4, place: i },
-        Judged::UnsafeName(i) => Fault { code: 5, place: i },
-        Judged::BadNode(i) => Fault { code: 6, place: i },
-        Judged::BadNesting(i) => Fault { code: 7, place: i },
-        Judged::TooDeep(i) => Fault { code: 8, place: i },
-    }
 }
 
 // ---- 14: "New images may not hold kind 30"
 
 // A TreeSet is refused wherever it stands, also where the walk would not look at it.
-pub fn first_tree_set(image: &[u8]) -> Found
+pub fn first_tree_set(image: &[u8]) -> Option<usize>
     requires { Headed image.now }
     ensures { place_of result ≡ first_tree_set image.now }
 {
     let l = areas(image);
-    let mut i = 0;
-    while i < l.count {
-        let node = node_at(image, l.nodes, i);
-        if node.kind == kinds::TREE_SET {
-            return Found::At(i);
+    for i in 0..l.count {
+        if node_at(image, l.nodes, i).kind == kinds::TREE_SET {
+            return Some(i);
         }
-        i += 1;
     }
-    Found::Nowhere
+    None
 }
 
 // ---- the walk over the nodes of an image that stands

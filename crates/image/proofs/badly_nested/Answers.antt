@@ -28,7 +28,7 @@ returns-then-not-root_stands c =
 pub loop-i-init : goal.loop-i-init
 unfolding badly_nested
 loop-i-init c =
-    (sym c.root_stands.ensures ∙ c.if-not-root_stands.false, omega arith, refl)
+    (sym c.root_stands.ensures ∙ c.if-not-root_stands.false, refl)
 
 pub node_at-d-requires-clause-headed : goal.node_at-d-requires-clause-headed
 node_at-d-requires-clause-headed c =
@@ -57,7 +57,7 @@ returns-then-not-lands_on_end c =
     let inside : c.loop-i.i < length ds = rw nodes_many (omega arith) in
     let all = rw (← c.node_at-d.ensures) at (nests_all ds c.loop-i.invariant.0 c.loop-i.i) in
     let wrong : nests ds c.loop-i.i (node_of ds c.loop-i.i) ≡ false = rw (← c.node_at-d.ensures) (all ∙ sym c.lands_on_end.ensures ∙ c.if-not-lands_on_end.true) in
-    sym (first_fails (nests ds) ds c.loop-i.i no_node inside wrong) ∙ c.loop-i.invariant.2
+    sym (first_fails (nests ds) ds c.loop-i.i no_node inside wrong) ∙ c.loop-i.invariant.1
 
 pub loop-i-preserved : goal.loop-i-preserved
 unfolding node_of
@@ -66,10 +66,10 @@ loop-i-preserved c =
     let inside : c.loop-i.i < length ds = rw nodes_many (omega arith) in
     let all = rw (← c.node_at-d.ensures) at (nests_all ds c.loop-i.invariant.0 c.loop-i.i) in
     let right : nests ds c.loop-i.i (node_of ds c.loop-i.i) ≡ true = rw (← c.node_at-d.ensures) (all ∙ sym c.lands_on_end.ensures ∙ c.if-not-lands_on_end.false) in
-    (c.loop-i.invariant.0, omega arith, sym (first_next (nests ds) ds c.loop-i.i no_node inside right) ∙ c.loop-i.invariant.2)
+    (c.loop-i.invariant.0, sym (first_next (nests ds) ds c.loop-i.i no_node inside right) ∙ c.loop-i.invariant.1)
 
 pub returns : goal.returns
 returns c =
     let ds = nodes_of c.args.image.now in
     let done : length ds ≤ c.loop-i.i = rw nodes_many (omega arith) in
-    sym (first_end (nests ds) ds c.loop-i.i done) ∙ c.loop-i.invariant.2
+    sym (first_end (nests ds) ds c.loop-i.i done) ∙ c.loop-i.invariant.1

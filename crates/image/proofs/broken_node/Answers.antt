@@ -27,7 +27,7 @@ returns-then-not-node_stands c =
     let bs = c.args.image.now in
     let inside : c.loop-i.i < length (nodes_of bs) = rw nodes_many (omega arith) in
     let stands = rw (c.requires.names_value.0, c.requires.names_value.2) at (sym c.node_stands.ensures ∙ c.if-not-node_stands.true) in
-    sym (first_fails (node_stands (name_count bs) (node_count bs)) (nodes_of bs) c.loop-i.i _ inside stands) ∙ c.loop-i.invariant.1
+    sym (first_fails (node_stands (name_count bs) (node_count bs)) (nodes_of bs) c.loop-i.i _ inside stands) ∙ c.loop-i.invariant
 
 pub loop-i-preserved : goal.loop-i-preserved
 unfolding node_of
@@ -35,10 +35,10 @@ loop-i-preserved c =
     let bs = c.args.image.now in
     let inside : c.loop-i.i < length (nodes_of bs) = rw nodes_many (omega arith) in
     let stands = rw (c.requires.names_value.0, c.requires.names_value.2) at (sym c.node_stands.ensures ∙ c.if-not-node_stands.false) in
-    (omega arith, sym (first_next (node_stands (name_count bs) (node_count bs)) (nodes_of bs) c.loop-i.i _ inside stands) ∙ c.loop-i.invariant.1)
+    sym (first_next (node_stands (name_count bs) (node_count bs)) (nodes_of bs) c.loop-i.i _ inside stands) ∙ c.loop-i.invariant
 
 pub returns : goal.returns
 returns c =
     let bs = c.args.image.now in
     let done : length (nodes_of bs) ≤ c.loop-i.i = rw nodes_many (omega arith) in
-    sym (first_end (node_stands (name_count bs) (node_count bs)) (nodes_of bs) c.loop-i.i done) ∙ c.loop-i.invariant.1
+    sym (first_end (node_stands (name_count bs) (node_count bs)) (nodes_of bs) c.loop-i.i done) ∙ c.loop-i.invariant

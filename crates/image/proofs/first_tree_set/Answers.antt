@@ -21,26 +21,24 @@ unfolding first_tree_set
 loop-i-init c =
     search rules
 
-pub node_at-node-requires-clause-headed : goal.node_at-node-requires-clause-headed
-node_at-node-requires-clause-headed c =
+pub node_at-requires-clause-headed : goal.node_at-requires-clause-headed
+node_at-requires-clause-headed c =
     c.requires
 
-pub node_at-node-requires-clause-nodes_value : goal.node_at-node-requires-clause-nodes_value
-node_at-node-requires-clause-nodes_value c =
+pub node_at-requires-clause-nodes_value : goal.node_at-requires-clause-nodes_value
+node_at-requires-clause-nodes_value c =
     (c.areas-l.ensures.nodes, omega (arith, c.areas-l.ensures.count))
 
-pub returns-then-node-eq-TREE_SET : goal.returns-then-node-eq-TREE_SET
+pub returns-then-node_at-eq-TREE_SET : goal.returns-then-node_at-eq-TREE_SET
 unfolding node_of
-returns-then-node-eq-TREE_SET c =
-    sym (first_fails other_than (nodes_of c.args.image.now) c.loop-i.i _ (rw nodes_many (omega (arith, c.areas-l.ensures.count))) (ap not (is_tree_set_lem _ _ c.node_at-node.ensures c.if-node-eq-TREE_SET.true))) ∙ c.loop-i.invariant.1
+returns-then-node_at-eq-TREE_SET c =
+    sym (first_fails other_than (nodes_of c.args.image.now) c.loop-i.i _ (rw nodes_many (omega (arith, c.areas-l.ensures.count))) (ap not (is_tree_set_lem _ _ c.node_at.ensures c.if-node_at-eq-TREE_SET.true))) ∙ c.loop-i.invariant
 
 pub loop-i-preserved : goal.loop-i-preserved
 unfolding node_of
-loop-i-preserved c = (
-  omega arith,
-  sym (first_next other_than (nodes_of c.args.image.now) c.loop-i.i _ (rw nodes_many (omega (arith, c.areas-l.ensures.count))) (ap not (not_tree_set _ _ c.node_at-node.ensures c.if-node-eq-TREE_SET.false))) ∙ c.loop-i.invariant.1,
-)
+loop-i-preserved c =
+    sym (first_next other_than (nodes_of c.args.image.now) c.loop-i.i _ (rw nodes_many (omega (arith, c.areas-l.ensures.count))) (ap not (not_tree_set _ _ c.node_at.ensures c.if-node_at-eq-TREE_SET.false))) ∙ c.loop-i.invariant
 
 pub returns : goal.returns
 returns c =
-    sym (first_end other_than (nodes_of c.args.image.now) c.loop-i.i (rw nodes_many (omega (arith, c.areas-l.ensures.count)))) ∙ c.loop-i.invariant.1
+    sym (first_end other_than (nodes_of c.args.image.now) c.loop-i.i (rw nodes_many (omega (arith, c.areas-l.ensures.count)))) ∙ c.loop-i.invariant

@@ -22,9 +22,9 @@ broken_name-requires-clause-names_value c =
     let l = c.requires.laid in
     (l.names, rw (l.texts, l.size) at c.text-texts.ensures)
 
-pub returns-in-At : goal.returns-in-At
-returns-in-At c =
-    sym (fault_4 c.requires.headed (found_at c.broken_name.ensures c.in-At.is))
+pub returns-in-Some : goal.returns-in-Some
+returns-in-Some c =
+    sym (fault_4 c.requires.headed (found_at c.broken_name.ensures c.in-Some.is))
 
 pub unsafe_name-requires-clause-headed : goal.unsafe_name-requires-clause-headed
 unsafe_name-requires-clause-headed c =
@@ -38,9 +38,9 @@ pub unsafe_name-requires-clause-texts_value : goal.unsafe_name-requires-clause-t
 unsafe_name-requires-clause-texts_value c =
     (c.requires.laid.texts, c.requires.laid.names)
 
-pub returns-in-At-unsafe_name : goal.returns-in-At-unsafe_name
-returns-in-At-unsafe_name c =
-    sym (fault_5 c.requires.headed (nowhere c.broken_name.ensures c.in_default.is) (found_at c.unsafe_name.ensures c.in-At-unsafe_name.is))
+pub returns-in-Some-unsafe_name : goal.returns-in-Some-unsafe_name
+returns-in-Some-unsafe_name c =
+    sym (fault_5 c.requires.headed (nowhere c.broken_name.ensures c.in_default.is) (found_at c.unsafe_name.ensures c.in-Some-unsafe_name.is))
 
 pub broken_node-requires-clause-headed : goal.broken_node-requires-clause-headed
 broken_node-requires-clause-headed c =
@@ -50,9 +50,9 @@ pub broken_node-requires-clause-names_value : goal.broken_node-requires-clause-n
 broken_node-requires-clause-names_value c =
     (c.requires.laid.names, c.requires.laid.nodes, c.requires.laid.count)
 
-pub returns-in-At-broken_node : goal.returns-in-At-broken_node
-returns-in-At-broken_node c =
-    sym (fault_6 c.requires.headed (nowhere c.broken_name.ensures c.in_default.is) (nowhere c.unsafe_name.ensures c.in_default-unsafe_name.is) (found_at c.broken_node.ensures c.in-At-broken_node.is))
+pub returns-in-Some-broken_node : goal.returns-in-Some-broken_node
+returns-in-Some-broken_node c =
+    sym (fault_6 c.requires.headed (nowhere c.broken_name.ensures c.in_default.is) (nowhere c.unsafe_name.ensures c.in_default-unsafe_name.is) (found_at c.broken_node.ensures c.in-Some-broken_node.is))
 
 pub badly_nested-requires-clause-headed : goal.badly_nested-requires-clause-headed
 badly_nested-requires-clause-headed c =
@@ -66,9 +66,9 @@ pub badly_nested-requires-clause-nodes_value : goal.badly_nested-requires-clause
 badly_nested-requires-clause-nodes_value c =
     (c.requires.laid.nodes, c.requires.laid.count)
 
-pub returns-in-At-badly_nested : goal.returns-in-At-badly_nested
-returns-in-At-badly_nested c =
-    sym (fault_7 c.requires.headed (nowhere c.broken_name.ensures c.in_default.is) (nowhere c.unsafe_name.ensures c.in_default-unsafe_name.is) (nowhere c.broken_node.ensures c.in_default-broken_node.is) (found_at c.badly_nested.ensures c.in-At-badly_nested.is))
+pub returns-in-Some-badly_nested : goal.returns-in-Some-badly_nested
+returns-in-Some-badly_nested c =
+    sym (fault_7 c.requires.headed (nowhere c.broken_name.ensures c.in_default.is) (nowhere c.unsafe_name.ensures c.in_default-unsafe_name.is) (nowhere c.broken_node.ensures c.in_default-broken_node.is) (found_at c.badly_nested.ensures c.in-Some-badly_nested.is))
 
 pub too_deep-requires-clause-headed : goal.too_deep-requires-clause-headed
 too_deep-requires-clause-headed c =
@@ -82,9 +82,9 @@ pub too_deep-requires-clause-nodes_value : goal.too_deep-requires-clause-nodes_v
 too_deep-requires-clause-nodes_value c =
     (c.requires.laid.nodes, c.requires.laid.count)
 
-pub returns-in-At-too_deep : goal.returns-in-At-too_deep
-returns-in-At-too_deep c =
-    sym (fault_8 c.requires.headed (nowhere c.broken_name.ensures c.in_default.is) (nowhere c.unsafe_name.ensures c.in_default-unsafe_name.is) (nowhere c.broken_node.ensures c.in_default-broken_node.is) (nowhere c.badly_nested.ensures c.in_default-badly_nested.is) (found_at c.too_deep.ensures c.in-At-too_deep.is))
+pub returns-in-Some-too_deep : goal.returns-in-Some-too_deep
+returns-in-Some-too_deep c =
+    sym (fault_8 c.requires.headed (nowhere c.broken_name.ensures c.in_default.is) (nowhere c.unsafe_name.ensures c.in_default-unsafe_name.is) (nowhere c.broken_node.ensures c.in_default-broken_node.is) (nowhere c.badly_nested.ensures c.in_default-badly_nested.is) (found_at c.too_deep.ensures c.in-Some-too_deep.is))
 
 pub returns : goal.returns
 returns c =

@@ -30,19 +30,17 @@ unfolding name_of
 returns-then-not-safe_at c =
     let bs = c.args.image.now in
     let inside : c.loop-k.k < length (names_of bs) = rw names_many (omega arith) in
-    sym (first_fails (λ (i : ℕ) (w : Name). safe w) (names_of bs) c.loop-k.k _ inside (sym c.safe_at.ensures ∙ c.if-not-safe_at.true)) ∙ c.loop-k.invariant.1
+    sym (first_fails (λ (i : ℕ) (w : Name). safe w) (names_of bs) c.loop-k.k _ inside (sym c.safe_at.ensures ∙ c.if-not-safe_at.true)) ∙ c.loop-k.invariant
 
 pub loop-k-preserved : goal.loop-k-preserved
 unfolding name_of
 loop-k-preserved c =
     let bs = c.args.image.now in
-    let inside : c.loop-k.k < length (names_of bs) = rw names_many (omega arith) in (
-      omega arith,
-      sym (first_next (λ (i : ℕ) (w : Name). safe w) (names_of bs) c.loop-k.k _ inside (sym c.safe_at.ensures ∙ c.if-not-safe_at.false)) ∙ c.loop-k.invariant.1,
-    )
+    let inside : c.loop-k.k < length (names_of bs) = rw names_many (omega arith) in
+    sym (first_next (λ (i : ℕ) (w : Name). safe w) (names_of bs) c.loop-k.k _ inside (sym c.safe_at.ensures ∙ c.if-not-safe_at.false)) ∙ c.loop-k.invariant
 
 pub returns : goal.returns
 returns c =
     let bs = c.args.image.now in
     let done : length (names_of bs) ≤ c.loop-k.k = rw names_many (omega arith) in
-    sym (first_end (λ (i : ℕ) (w : Name). safe w) (names_of bs) c.loop-k.k done) ∙ c.loop-k.invariant.1
+    sym (first_end (λ (i : ℕ) (w : Name). safe w) (names_of bs) c.loop-k.k done) ∙ c.loop-k.invariant
