@@ -51,13 +51,6 @@ const FEW_OPEN: usize = OPEN_CELLS * FEW;
 
 const ALL_OPEN: usize = OPEN_CELLS * MOST_TYPES;
 
-// Whether the sheet fits, and its length: 0 if it does not fit.
-#[derive(Clone, Copy)]
-pub struct Written {
-    pub fits: bool,
-    pub length: usize,
-}
-
 fn mark(marks: &Marks, at: usize) -> usize
     requires { at < mark_cells }
     ensures value { result ≡ get_or marks.now at 0 }
@@ -412,7 +405,7 @@ fn begin(marks: &mut Marks, counts: Counts)
     marks[ELEMENT_COUNT] = counts.elements as u16;
 }
 
-// Writes the sheet of the names to the front of `out` if it fits: if not, no byte changes.
+// Writes the sheet of the names to the front of `out` if it fits, and gives its length: if not, no byte changes.
 pub fn write(
     source: &[u8],
     table: &[u16],
@@ -420,10 +413,10 @@ pub fn write(
     names: &NameList,
     count: usize,
     out: &mut [u8],
-) -> Written
+) -> Option<usize>
     requires { Listing source.now (tab table.now counts.types counts.elements) names.now count }
     ensures { Wrote (listed source.now (tab table.now counts.types counts.elements)
-        names.now count) result.fits result.length out.old out.new }
+        names.now count) result out.old out.new }
 {
     let mut marks = [UNMET; MARK_CELLS];
     begin(&mut marks, counts);
@@ -436,14 +429,8 @@ pub fn write(
         + NAME_RECORD * count
         + size;
     if out.len() < total {
-        return Written {
-            fits: false,
-            length: 0,
-        };
+        return None;
     }
     fill(source, table, &marks, names, count, elements, size, out);
-    Written {
-        fits: true,
-        length: total,
-    }
+    Some(total)
 }
