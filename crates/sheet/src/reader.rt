@@ -101,10 +101,8 @@ fn gather(sheet: &[u8], at: usize, numbers: &Numbers, k: usize, q: usize, stack:
     requires { Gathering sheet.now at k q stack.old }
     ensures { Gathered sheet.now at (take k numbers.now) q stack.new }
 {
-    let mut j = 0;
-    while j < q {
+    for j in 0..q {
         stack[j] = number_in(numbers, k, word_at(sheet, at + ELEMENT * j)) as u16;
-        j += 1;
     }
 }
 
@@ -267,13 +265,10 @@ fn read_names(sheet: &[u8], numbers: &Numbers, names: &mut NameList) -> bool
     ensures { Told (NamesRead sheet.now (take (word sheet.now 4) numbers.now)
         names.new (word sheet.now 20)) sheet.now result }
 {
-    let n = word_at(sheet, header::NAME_COUNT);
-    let mut k = 0;
-    while k < n {
+    for k in 0..word_at(sheet, header::NAME_COUNT) {
         if !read_name(sheet, k, numbers, names) {
             return false;
         }
-        k += 1;
     }
     true
 }
@@ -282,10 +277,9 @@ fn texts_stand(sheet: &[u8], names: &NameList, count: usize) -> bool
     requires { TextsInside sheet.now names.now count }
     ensures { TextsTold sheet.now names.now count result }
 {
-    let mut k: usize = 0;
-    let mut last: usize = 0;
-    let mut size: usize = 0;
-    while k < count {
+    let mut last = 0;
+    let mut size = 0;
+    for k in 0..count {
         let start = start_of(names, k);
         let len = length_of(names, k);
         if !text_stands(text(sheet, last, size), text(sheet, start, len)) {
@@ -293,7 +287,6 @@ fn texts_stand(sheet: &[u8], names: &NameList, count: usize) -> bool
         }
         last = start;
         size = len;
-        k += 1;
     }
     true
 }

@@ -149,10 +149,8 @@ fn meet_each(table: &[u16], names: &NameList, count: usize, marks: &mut Marks, p
     ensures { MetAll table.now marks.old marks.new
         names.now count }
 {
-    let mut k = 0;
-    while k < count {
+    for k in 0..count {
         visit(table, type_of(names, k), marks, path);
-        k += 1;
     }
 }
 
@@ -207,12 +205,9 @@ fn elements_of(table: &[u16], marks: &Marks) -> usize
     ensures value { result ≡ length (elements_met table.now marks.now) }
     ensures upper_bound { result ≤ most_written }
 {
-    let n = mark(marks, MET);
-    let mut k = 0;
     let mut sum = 0;
-    while k < n {
+    for k in 0..mark(marks, MET) {
         sum += elements_in(table, mark(marks, ORDER + k));
-        k += 1;
     }
     sum
 }
@@ -222,11 +217,9 @@ fn size_of(names: &NameList, count: usize) -> usize
     requires { Short names.now count }
     ensures { (result ≡ listed_size names.now 0 count) × (result ≤ most_text) }
 {
-    let mut k = 0;
     let mut sum = 0;
-    while k < count {
+    for k in 0..count {
         sum += length_of(names, k);
-        k += 1;
     }
     sum
 }
@@ -278,14 +271,11 @@ fn write_types(table: &[u16], marks: &Marks, out: &mut [u8])
     ensures { Put out.old out.new 40
         (types_bytes (tab_of table.now marks.now) marks.now) }
 {
-    let n = mark(marks, MET);
-    let mut k = 0;
     let mut from = 0;
-    while k < n {
+    for k in 0..mark(marks, MET) {
         let i = mark(marks, ORDER + k);
         write_type(table, marks, i, from, out, header::LENGTH + TYPE_RECORD * k);
         from += elements_in(table, i);
-        k += 1;
     }
 }
 
@@ -299,11 +289,9 @@ fn write_parts(table: &[u16], marks: &Marks, i: usize, out: &mut [u8], at: usize
         + 4 * length (elements_in (denote (tab_of table.now marks.now) i)) }
 {
     let n = elements_in(table, i);
-    let mut j = 0;
-    while j < n {
+    for j in 0..n {
         let w = number_of(marks, part_at(table, i, j));
         put_word(out, at + ELEMENT * j, w as u32);
-        j += 1;
     }
     at + ELEMENT * n
 }
@@ -314,12 +302,9 @@ fn write_elements(table: &[u16], marks: &Marks, out: &mut [u8], from: usize)
     ensures { Put out.old out.new from
         (elements_bytes (tab_of table.now marks.now) marks.now) }
 {
-    let n = mark(marks, MET);
-    let mut k = 0;
     let mut at = from;
-    while k < n {
+    for k in 0..mark(marks, MET) {
         at = write_parts(table, marks, mark(marks, ORDER + k), out, at);
-        k += 1;
     }
 }
 
@@ -328,14 +313,12 @@ fn write_names(marks: &Marks, names: &NameList, count: usize, out: &mut [u8], at
     ensures { NamesPut marks.now names.now count
         out.old out.new at }
 {
-    let mut k = 0;
     let mut from = 0;
-    while k < count {
+    for k in 0..count {
         let len = length_of(names, k);
         let ty = number_of(marks, type_of(names, k));
         put_three(out, at + NAME_RECORD * k, from, len, ty);
         from += len;
-        k += 1;
     }
 }
 
@@ -344,13 +327,11 @@ fn write_texts(source: &[u8], names: &NameList, count: usize, out: &mut [u8], fr
     ensures { Put out.old out.new from
         (listed_texts source.now names.now 0 count) }
 {
-    let mut k = 0;
     let mut at = from;
-    while k < count {
+    for k in 0..count {
         let start = start_of(names, k);
         let len = length_of(names, k);
         at = put(out, at, text(source, start, len));
-        k += 1;
     }
 }
 
