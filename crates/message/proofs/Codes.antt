@@ -1,25 +1,21 @@
 -- What each code says: its format string, how many types it names, and what is put in at the gaps.
-use mathlib.Core.Path.{◌≡◌, refl, sym, ◌∙◌}
+use mathlib.Core.Path.{◌≡◌, refl}
 use mathlib.Core.Bool.{Bool, true, false}
 use mathlib.Core.Logic.{inl, inr}
 use mathlib.Core.List.{List, [], ◌∷◌}
 use Prim.Native.Nat.{ℕ, zero, suc, ◌+◌, ◌<◌, ◌≤◌}
 use Prim.Native.String.{String}
-use native.Mathlib.Nat.{zero-add}
 use native.Mathlib.Omega.{arith}
 use native.Mathlib.Decide.{dec_lt, ℕ_discrete}
-use borrow.Author.Tests.{eqb-true, eq-eqb, ne_eqb, leb-true}
+use borrow.Author.Tests.{eqb-true, ne_eqb, leb-true}
 use types.Run.{OneOf}
 use lib.Dec.{eqb, leb}
-use lib.ListN.{length, take, drop}
 use Rattle.meaning.specs.Base.{◌and◌, ◌or◌, test◌then◌else◌, all, is_in, choose, bytes, decimal}
 use Rattle.meaning.specs.Image.{names_of, name_of}
 use Rattle.meaning.specs.Message.{a_type, a_text, a_number, template, said, message}
 use Rattle.meaning.specs.Rules.{described}
 use Rattle.meaning.specs.Types.{text}
 use Rattle.meaning.proofs.Choices.{and_left, and_right}
-use Rattle.words.specs.Words.{put_at}
-use Rattle.words.proofs.Laws.{put_nil, put_part}
 use Rattle.types.specs.Table.{Tab, denote}
 use Rattle.rules.specs.Outcome.{types_named, taken, pieces}
 use Rattle.message.specs.Pieces.{gaps}
@@ -72,40 +68,11 @@ avoids_past c lo (suc k) a h =
     let here : c ≡ lo + k → ⊥ = a.1 in
     omega arith
 
-no_format : (c : ℕ) → Avoids c 20 31 → template c ≡ ""
+pub no_format : (c : ℕ) → Avoids c 20 31 → template c ≡ ""
 no_format c a = elim (dec_lt c 20) [
   | yes h ↦ template_low c h
   | no h ↦ let past = avoids_past c 20 31 a (omega arith) in template_high c (omega arith)
 ]
-
--- ---- a format string in a buffer
-
-pub format_fits : {code k n : ℕ} → code ≡ k → length (format_of code) ≤ n → 0 + length (format_of k) ≤ n
-format_fits e h = rw (zero-add, ← e) h
-
-pub format_put : {code k r : ℕ} {e : List ℕ} (d : List ℕ) → code ≡ k → (e ≡ put_at d 0 (format_of k)) × (r ≡ 0 + length (format_of k))
-    → (e ≡ put_at d 0 (format_of code)) × (r ≡ length (format_of code))
-format_put {code} {k} d c w = rw c (w.0, w.1 ∙ zero-add (length (format_of k)))
-
-pub format_none : (d : List ℕ) (c : ℕ) → Avoids c 20 31 → (d ≡ put_at d 0 (format_of c)) × (0 ≡ length (format_of c))
-unfolding bytes
-format_none d c a = rw (no_format c a) (sym (put_nil d 0), refl)
-
-choose_all : (k : ℕ) (f : String → Bool) (rs : List (ℕ × String)) → f "" ≡ true → all (λ r. f r.1) rs ≡ true → f (choose k "" rs) ≡ true
-unfolding choose all test◌then◌else◌
-choose_all k f [] z h = z
-choose_all k f (r ∷ rs) z h = elim (ℕ_discrete k r.0) [
-  | yes e ↦ rw (eq-eqb k r.0 e) (and_left _ _ h)
-  | no e ↦ rw (ne_eqb k r.0 e) (choose_all k f rs z (and_right _ _ h))
-]
-
-pub format_short : (code : ℕ) → length (format_of code) ≤ 70
-unfolding template all ◌and◌ bytes
-format_short code = leb-true _ 70 (choose_all code (λ s. leb (length (bytes s)) 70) _ refl refl)
-
--- what is read back is the format string
-pub format_read : {e f : List ℕ} {n : ℕ} (d : List ℕ) (code : ℕ) → (e ≡ put_at d 0 (format_of code)) × (n ≡ length (format_of code)) → f ≡ take n (drop 0 e) → f ≡ format_of code
-format_read d code w h = h ∙ rw (w.0, w.1) (put_part d 0 (format_of code) (omega arith))
 
 -- ---- how many types a code names: as many as its format string has gaps
 

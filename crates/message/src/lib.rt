@@ -22,7 +22,7 @@ ghost use Rattle.message.specs.Pieces.{one_type, two_types, gaps, run, put_in};
 
 mod formats;
 
-use formats::put_format;
+use formats::format_of;
 use image::{NameAt, areas, name_at, roles};
 use limits::MOST_NODES;
 use operators::codes as operator_codes;
@@ -55,111 +55,49 @@ struct Pieces {
 
 // ---- what stands around the parts of a type, and between them
 
-// How many bytes `put_opening` writes.
-fn opening_size(kind: usize) -> usize
-    ensures { result ≡ length (opening kind) }
+fn opening(kind: usize) -> &'static [u8]
+    ensures { result.now ≡ opening kind }
 {
     match kind {
-        types::UNKNOWN => 7,
-        types::INT => 3,
-        types::BOOL => 4,
-        types::STRING => 6,
-        types::FLOAT => 5,
-        types::NONE_TYPE => 8,
-        types::RANGE => 5,
-        types::FUNCTION => 8,
-        types::LIST => 5,
-        types::DICT => 5,
-        types::TUPLE => 7,
-        types::MAP_ITER => 8,
-        types::FILTER_ITER => 11,
-        _ => 0,
+        types::UNKNOWN => b"Unknown",
+        types::INT => b"Int",
+        types::BOOL => b"Bool",
+        types::STRING => b"String",
+        types::FLOAT => b"Float",
+        types::NONE_TYPE => b"NoneType",
+        types::RANGE => b"Range",
+        types::FUNCTION => b"Function",
+        types::LIST => b"List(",
+        types::DICT => b"Dict(",
+        types::TUPLE => b"Tuple([",
+        types::MAP_ITER => b"MapIter(",
+        types::FILTER_ITER => b"FilterIter(",
+        _ => b"",
     }
 }
 
-fn put_opening(kind: usize, out: &mut [u8], at: usize) -> usize
-    requires { at + length (opening kind) ≤ length out.old }
-    ensures out_after { out.new ≡ put_at out.old at (opening kind) }
-    ensures value { result ≡ at + length (opening kind) }
-{
-    match kind {
-        types::UNKNOWN => put(out, at, b"Unknown"),
-        types::INT => put(out, at, b"Int"),
-        types::BOOL => put(out, at, b"Bool"),
-        types::STRING => put(out, at, b"String"),
-        types::FLOAT => put(out, at, b"Float"),
-        types::NONE_TYPE => put(out, at, b"NoneType"),
-        types::RANGE => put(out, at, b"Range"),
-        types::FUNCTION => put(out, at, b"Function"),
-        types::LIST => put(out, at, b"List("),
-        types::DICT => put(out, at, b"Dict("),
-        types::TUPLE => put(out, at, b"Tuple(["),
-        types::MAP_ITER => put(out, at, b"MapIter("),
-        types::FILTER_ITER => put(out, at, b"FilterIter("),
-        _ => at,
-    }
-}
-
-// How many bytes `put_closing` writes.
-fn closing_size(kind: usize) -> usize
-    ensures { result ≡ length (closing kind) }
+fn closing(kind: usize) -> &'static [u8]
+    ensures { result.now ≡ closing kind }
 {
     if kind < types::STRUCTURED {
-        return 0;
+        return b"";
     }
-    if kind == types::TUPLE {
-        return 2;
-    }
-    1
-}
-
-fn put_closing(kind: usize, out: &mut [u8], at: usize) -> usize
-    requires { at + length (closing kind) ≤ length out.old }
-    ensures out_after { out.new ≡ put_at out.old at (closing kind) }
-    ensures value { result ≡ at + length (closing kind) }
-{
-    if kind < types::STRUCTURED {
-        return at;
-    }
-    if kind == types::TUPLE {
-        return put(out, at, b"])");
-    }
-    put(out, at, b")")
-}
-
-// How many bytes `put_comma` writes.
-fn comma_size(j: usize) -> usize
-    ensures { result ≡ length (comma j) }
-{
-    if j == 0 {
-        return 0;
-    }
-    2
+    if kind == types::TUPLE { b"])" } else { b")" }
 }
 
 // Nothing stands before the first part.
-fn put_comma(j: usize, out: &mut [u8], at: usize) -> usize
-    requires { at + length (comma j) ≤ length out.old }
-    ensures out_after { out.new ≡ put_at out.old at (comma j) }
-    ensures value { result ≡ at + length (comma j) }
+fn comma(j: usize) -> &'static [u8]
+    ensures { result.now ≡ comma j }
 {
-    if j == 0 {
-        return at;
-    }
-    put(out, at, b", ")
+    if j == 0 { b"" } else { b", " }
 }
 
 // ---- lengths: a text may double with each type, so they are counted up to a cap only
 
-// The sum is never formed where it would pass the cap.
 fn clip(x: usize, y: usize, cap: usize) -> usize
-    requires { x ≤ cap }
     ensures { result ≡ clipped cap (x + y) }
 {
-    if y <= cap - x {
-        return x + y;
-    }
-    cap
+    x.saturating_add(y).min(cap)
 }
 
 // Counted from the lengths of its parts, which have lower numbers.
@@ -169,15 +107,12 @@ fn size_of(table: &[u16], i: usize, lens: &[usize], cap: usize) -> usize
     ensures { result ≡ size_at table.now cap i }
 {
     let kind = kind_of(table, i);
-    let many = parts_of(table, i);
-    let mut size = clip(0, opening_size(kind), cap);
-    let mut j = 0;
-    while j < many {
-        size = clip(size, comma_size(j), cap);
+    let mut size = clip(0, opening(kind).len(), cap);
+    for j in 0..parts_of(table, i) {
+        size = clip(size, comma(j).len(), cap);
         size = clip(size, lens[part_at(table, i, j)], cap);
-        j += 1;
     }
-    clip(size, closing_size(kind), cap)
+    clip(size, closing(kind).len(), cap)
 }
 
 // The lengths of the texts of the first `types` numbers, each worked out once.
@@ -186,10 +121,8 @@ pub fn measure(table: &[u16], types: usize, cap: usize, lens: &mut [usize])
     requires types_in_bounds { types ≤ length lens.old }
     ensures { Sized table.now cap lens.new types }
 {
-    let mut i = 0;
-    while i < types {
+    for i in 0..types {
         lens[i] = size_of(table, i, lens, cap);
-        i += 1;
     }
 }
 
@@ -202,15 +135,12 @@ pub fn put_type(table: &[u16], i: usize, out: &mut [u8], at: usize) -> usize
     ensures out_after { out.new ≡ put_at out.old at (text (type_at table.now i)) }
     ensures value { result ≡ at + length (text (type_at table.now i)) }
 {
-    let mut end = put_opening(kind_of(table, i), out, at);
-    let many = parts_of(table, i);
-    let mut j = 0;
-    while j < many {
-        end = put_comma(j, out, end);
+    let mut end = put(out, at, opening(kind_of(table, i)));
+    for j in 0..parts_of(table, i) {
+        end = put(out, end, comma(j));
         end = put_type(table, part_at(table, i, j), out, end);
-        j += 1;
     }
-    put_closing(kind_of(table, i), out, end)
+    put(out, end, closing(kind_of(table, i)))
 }
 
 // ---- what a message names
@@ -228,26 +158,16 @@ fn one_type(a: usize) -> Pieces
     }
 }
 
-fn larger(a: usize, b: usize) -> usize
-    ensures { result ≡ max a b }
-{
-    if a < b {
-        return b;
-    }
-    a
-}
-
 fn two_types(a: usize, b: usize) -> Pieces
     requires { (a < most_numbers) × (b < most_numbers) }
     ensures { result ≡ two_types a b }
 {
-    let most = larger(a, b);
     Pieces {
         first: Piece::OfType(a),
         second: Piece::OfType(b),
         third: Piece::Nothing,
         many: 2,
-        types: most + 1,
+        types: a.max(b) + 1,
     }
 }
 
@@ -459,41 +379,33 @@ fn total(
     ensures { result ≡ clipped cap (length
         (put_in image.now table.now pieces format.now)) }
 {
-    let many = pieces.many;
-    let mut size = clip(0, format.len() - many, cap);
-    let mut k = 0;
-    while k < many {
+    let mut size = clip(0, format.len() - pieces.many, cap);
+    for k in 0..pieces.many {
         size = clip(size, piece_size(nth_of(pieces, k), lens), cap);
-        k += 1;
     }
     size
 }
 
-// A function of its own for each size of the array: a small one is soon filled. A fill with 1 is faster than one with
-// 0.
 const FEW: usize = 64;
 
 const MANY: usize = types::STRUCTURED + MOST_NODES;
 
-fn measured_few(image: &[u8], table: &[u16], format: &[u8], pieces: Pieces, cap: usize) -> usize
+// Each size of the array has a function of its own: a small one is soon filled. A fill with 1 is faster than one with 0.
+fn measured_in<const ROOM: usize>(
+    image: &[u8],
+    table: &[u16],
+    format: &[u8],
+    pieces: Pieces,
+    cap: usize,
+) -> usize
     requires ready { Ready image.now table.now pieces }
     requires format_value { gaps format.now ≡ pieces.many }
-    requires types_bound { pieces.types ≤ 64 }
+    requires types_bound { pieces.types ≤ ROOM }
+    requires room_bound { ROOM ≤ most_numbers }
     ensures { result ≡ clipped cap (length
         (put_in image.now table.now pieces format.now)) }
 {
-    let mut lens = [1usize; FEW];
-    measure(table, pieces.types, cap, &mut lens);
-    total(image, table, format, pieces, &lens, cap)
-}
-
-fn measured_many(image: &[u8], table: &[u16], format: &[u8], pieces: Pieces, cap: usize) -> usize
-    requires ready { Ready image.now table.now pieces }
-    requires format_value { gaps format.now ≡ pieces.many }
-    ensures { result ≡ clipped cap (length
-        (put_in image.now table.now pieces format.now)) }
-{
-    let mut lens = [1usize; MANY];
+    let mut lens = [1usize; ROOM];
     measure(table, pieces.types, cap, &mut lens);
     total(image, table, format, pieces, &lens, cap)
 }
@@ -505,9 +417,10 @@ fn measured(image: &[u8], table: &[u16], format: &[u8], pieces: Pieces, cap: usi
         (put_in image.now table.now pieces format.now)) }
 {
     if pieces.types <= FEW {
-        return measured_few(image, table, format, pieces, cap);
+        measured_in::<FEW>(image, table, format, pieces, cap)
+    } else {
+        measured_in::<MANY>(image, table, format, pieces, cap)
     }
-    measured_many(image, table, format, pieces, cap)
 }
 
 fn put_range(p: u32, q: u32, out: &mut [u8], at: usize) -> usize
@@ -604,9 +517,7 @@ fn tell(image: &[u8], table: &[u16], code: u32, pieces: Pieces, out: &mut [u8]) 
     ensures out_after { out.new ≡ overlaid (laid_out image.now table.now pieces
         (format_of code) out.old) out.old }
 {
-    let mut format = [0u8; formats::LONGEST];
-    let len = put_format(code, &mut format);
-    deliver(image, table, part_of_text(&format, 0, len), pieces, out)
+    deliver(image, table, format_of(code), pieces, out)
 }
 
 // The message of a refusal, at the front of `out` if it fits: returns its length, or 0 and changes nothing. `a` and

@@ -7,6 +7,8 @@ use native.Mathlib.Omega.{arith}
 use native.Mathlib.Numerals.{add-one}
 use borrow.Author.Tests.{leb-true, leb-false, le-leb}
 use lib.Dec.{leb}
+use Rattle.std.specs.Prelude.{Some, None}
+use Rattle.sheet.specs.declared.reader.ReadSheet.{ReadSheet}
 use lib.ListN.{length, take, drop, length-append}
 use lib.Seq.{take-append_seam}
 use Rattle.meaning.specs.Base.{◌and◌, test◌then◌else◌, same_text, word, words, count}
@@ -20,7 +22,7 @@ use Rattle.meaning.proofs.SheetForm.{sheet_is, is_sheet_lem, sheet_size, sheet_l
 use Rattle.meaning.specs.Limits.{largest_sheet, most_names, most_types, most_elements}
 use Rattle.types.specs.Table.{Tab}
 use Rattle.sheet.specs.Listing.{start_at, length_at, entry_at, listed_from, listed, Listing, Wrote}
-use Rattle.sheet.specs.Reading.{Bounds, TypesRead, NamesRead, TextsInside, TextsTold, Compared, Reads}
+use Rattle.sheet.specs.Reading.{Bounds, TypesRead, NamesRead, TextsInside, TextsTold, Compared, tab_read, Reads}
 use Rattle.sheet.proofs.Naming.{entries_are, entries_listing, texts_of}
 
 -- ---- the texts
@@ -77,36 +79,35 @@ module _ {source cells : List ℕ} {n k last size : ℕ} (l : StandLoop source c
 
 -- ---- the comparison
 
-module _ {es : List Entry} {fits : Bool} {long : ℕ} {old new : List ℕ} (w : Wrote es fits long old new) where
-  pub wrote_short : length old ≡ largest_sheet → {bs : List ℕ} → fits ≡ false → Compared bs es false
-  wrote_short e f = record {
-    yes = λ z. absurd (false≢true z);
-    no = λ z l s. absurd (omega (arith, leb-false (length (sheet_of es)) (length old) (sym w.fits_is ∙ f)));
+pub wrote_short : {es : List Entry} {old new : List ℕ} → Wrote es None old new → length old ≡ largest_sheet → {bs : List ℕ} → Compared bs es false
+wrote_short {es} {old} w e = record {
+  yes = λ z. absurd (false≢true z);
+  no = λ z l s. absurd (omega (arith, leb-false (length (sheet_of es)) (length old) (sym w.fits_is)));
+}
+
+module _ {es : List Entry} {long : ℕ} {old new : List ℕ} (w : Wrote es (Some long) old new) where
+  fit : leb (length (sheet_of es)) (length old) ≡ true
+  fit = sym w.fits_is
+
+  wrote_length : long ≡ length (sheet_of es)
+  unfolding written test◌then◌else◌
+  wrote_length = rw fit at w.length_is
+
+  wrote_out : new ≡ sheet_of es ++ drop (length (sheet_of es)) old
+  unfolding written test◌then◌else◌ overlaid
+  wrote_out = rw fit at w.out_is
+
+  pub wrote_inside : 0 + long ≤ length new
+  wrote_inside = omega (arith, wrote_length, ap length wrote_out, length-append (sheet_of es) (drop (length (sheet_of es)) old))
+
+  wrote_text : take long (drop 0 new) ≡ sheet_of es
+  wrote_text = ap (λ n. take n new) wrote_length ∙ ap (take (length (sheet_of es))) wrote_out ∙ take-append_seam (sheet_of es) _
+
+  pub wrote_compared : length old ≡ largest_sheet → {bs s : List ℕ} {r : Bool} → s ≡ take long (drop 0 new) → r ≡ same_text bs s → Compared bs es r
+  wrote_compared e {bs} {s} {r} es₁ er = record {
+    yes = λ z. (same_text_lem bs (sheet_of es) (sym (er ∙ ap (same_text bs) (es₁ ∙ wrote_text)) ∙ z), omega (arith, leb-true (length (sheet_of es)) (length old) fit));
+    no = λ z l q. false≢true (sym z ∙ er ∙ ap (same_text bs) (es₁ ∙ wrote_text ∙ sym q) ∙ text_same bs);
   }
-
-  module _ (f : fits ≡ true) where
-    fit : leb (length (sheet_of es)) (length old) ≡ true
-    fit = sym w.fits_is ∙ f
-
-    wrote_length : long ≡ length (sheet_of es)
-    unfolding written test◌then◌else◌
-    wrote_length = rw fit at w.length_is
-
-    wrote_out : new ≡ sheet_of es ++ drop (length (sheet_of es)) old
-    unfolding written test◌then◌else◌ overlaid
-    wrote_out = rw fit at w.out_is
-
-    pub wrote_inside : 0 + long ≤ length new
-    wrote_inside = omega (arith, wrote_length, ap length wrote_out, length-append (sheet_of es) (drop (length (sheet_of es)) old))
-
-    wrote_text : take long (drop 0 new) ≡ sheet_of es
-    wrote_text = ap (λ n. take n new) wrote_length ∙ ap (take (length (sheet_of es))) wrote_out ∙ take-append_seam (sheet_of es) _
-
-    pub wrote_compared : length old ≡ largest_sheet → {bs s : List ℕ} {r : Bool} → s ≡ take long (drop 0 new) → r ≡ same_text bs s → Compared bs es r
-    wrote_compared e {bs} {s} {r} es₁ er = record {
-      yes = λ z. (same_text_lem bs (sheet_of es) (sym (er ∙ ap (same_text bs) (es₁ ∙ wrote_text)) ∙ z), omega (arith, leb-true (length (sheet_of es)) (length old) fit));
-      no = λ z l q. false≢true (sym z ∙ er ∙ ap (same_text bs) (es₁ ∙ wrote_text ∙ sym q) ∙ text_same bs);
-    }
 
 -- ---- the answer
 
@@ -128,8 +129,8 @@ listed_many : (source : List ℕ) (t : Tab) (cells : List ℕ) (n : ℕ) → len
 unfolding listed
 listed_many source t cells n = names_listed source t cells 0 n
 
-pub read_not : {bs cells : List ℕ} {t : Tab} {n : ℕ} {r : Bool} → r ≡ false → is_sheet bs ≡ false → Reads bs r t cells n
-read_not e f = record { stands_is = e ∙ sym f; listing = λ z. absurd (false≢true (sym e ∙ z)); listed_is = λ z. absurd (false≢true (sym e ∙ z)) }
+pub read_not : {bs cs cells : List ℕ} → is_sheet bs ≡ false → Reads bs None cs cells
+read_not f = record { stands_is = sym f; listing = tt; listed_is = tt }
 
 module _ {bs xs cells : List ℕ} {t : Tab} {n : ℕ} (b : Bounds bs) (ty : TypesRead bs xs t) (nr : NamesRead bs (take (word bs 4) xs) cells (word bs 20)) (en : n ≡ word bs 20) where
   pub read_listing : Listing bs t cells n
@@ -145,22 +146,27 @@ module _ {bs xs cells : List ℕ} {t : Tab} {n : ℕ} (b : Bounds bs) (ty : Type
   texts_refused x f =
       not_so (is_sheet bs) (λ h. false≢true (sym f ∙ x.is t ∙ ap (texts_stand []) read_entries ∙ texts_of (entries_in bs) (sheet_is bs h).limits))
 
-  pub read_all : {r q : Bool} → TextsTold bs cells n q → q ≡ true → Compared bs (listed bs t cells n) r → Reads bs r t cells n
-  read_all {r} x f c = record { stands_is = by r refl; listing = λ z. read_listing; listed_is = λ z. read_entries }
-    where
-      stand : texts_stand [] (entries_in bs) ≡ true
-      stand = sym (x.is t ∙ ap (texts_stand []) read_entries) ∙ f
+  -- the answer hangs on what the writer writes
+  module _ {q : Bool} (x : TextsTold bs cells n q) (f : q ≡ true) {r : Bool} (c : Compared bs (listed bs t cells n) r) where
+    stand : texts_stand [] (entries_in bs) ≡ true
+    stand = sym (x.is t ∙ ap (texts_stand []) read_entries) ∙ f
 
-      by : (p : Bool) → r ≡ p → p ≡ is_sheet bs
-      by true e =
-          let es = entries_in bs in
-          let y : (bs ≡ sheet_of es) × (length (sheet_of es) ≤ largest_sheet) = subst (λ l. (bs ≡ sheet_of l) × (length (sheet_of l) ≤ largest_sheet)) read_entries (c.yes e) in
-          let own = own_counts es y.1 in
-          let u : length (types_of es []) ≤ most_types = omega (arith, own.0, ap (λ (l : List ℕ). word l 4) y.0, b.types) in
-          let v : length (elements_of (types_of es [])) ≤ most_elements = omega (arith, own.1, ap (λ (l : List ℕ). word l 12) y.0, b.elements) in
-          let m : length es ≤ most_names = omega (arith, ap length read_entries, listed_many bs t cells n, read_listing.few) in
-          sym (is_sheet_lem bs es record { written = y.0; limits = within es stand m u v })
-      by false e =
-          sym (not_so (is_sheet bs) (λ h.
-          let s = sheet_is bs h in
-          c.no e (rw (read_entries) (sheet_length (entries_in bs) s.limits)) (s.written ∙ ap sheet_of (sym read_entries))))
+    pub rewrites_not : r ≡ false → is_sheet bs ≡ false
+    rewrites_not e =
+        not_so (is_sheet bs) (λ h.
+        let s = sheet_is bs h in
+        c.no e (rw (read_entries) (sheet_length (entries_in bs) s.limits)) (s.written ∙ ap sheet_of (sym read_entries)))
+
+    rewrites_so : r ≡ true → is_sheet bs ≡ true
+    rewrites_so e =
+        let es = entries_in bs in
+        let y : (bs ≡ sheet_of es) × (length (sheet_of es) ≤ largest_sheet) = subst (λ l. (bs ≡ sheet_of l) × (length (sheet_of l) ≤ largest_sheet)) read_entries (c.yes e) in
+        let own = own_counts es y.1 in
+        let u : length (types_of es []) ≤ most_types = omega (arith, own.0, ap (λ (l : List ℕ). word l 4) y.0, b.types) in
+        let v : length (elements_of (types_of es [])) ≤ most_elements = omega (arith, own.1, ap (λ (l : List ℕ). word l 12) y.0, b.elements) in
+        let m : length es ≤ most_names = omega (arith, ap length read_entries, listed_many bs t cells n, read_listing.few) in
+        is_sheet_lem bs es record { written = y.0; limits = within es stand m u v }
+
+pub read_all : {bs xs cs cells : List ℕ} {s : ReadSheet} (b : Bounds bs) → TypesRead bs xs (tab_read cs s) → NamesRead bs (take (word bs 4) xs) cells (word bs 20)
+    → s.names ≡ word bs 20 → {q r : Bool} → TextsTold bs cells s.names q → q ≡ true → Compared bs (listed bs (tab_read cs s) cells s.names) r → r ≡ true → Reads bs (Some s) cs cells
+read_all b ty nr en x f c e = record { stands_is = sym (rewrites_so b ty nr en x f c e); listing = read_listing b ty nr en; listed_is = read_entries b ty nr en }

@@ -8,6 +8,7 @@ use native.Mathlib.Omega.{arith}
 use native.Mathlib.Decide.{ℕ_discrete}
 use borrow.Author.Tests.{le-leb, lt-leb}
 use lib.Dec.{leb}
+use Rattle.std.specs.Prelude.{Some, None}
 use lib.ListN.{length, get_or, set, take, drop, replicate, length-set, length-append, length-drop, length-map, length-replicate, get_or-replicate}
 use lib.Seq.{length-take-le, get_or-set_same, get_or-set_other}
 use Rattle.meaning.specs.Limits.{most_types, most_text}
@@ -288,7 +289,7 @@ module _ {source cs cells ms : List ℕ} {N M n : ℕ} (w : Walked source (tab c
         let f = filling {out = room} (omega arith) in
         subst (λ u. length (sheet_of (listed source u cells n)) ≡ total) (own_tab w.marked) (total_is f e_t)
 
-    pub wrote_not : (out : List ℕ) → length out < 40 + 12 * T + 4 * E + 12 * n + S → Wrote (listed source (tab cs N M) cells n) false 0 out out
+    pub wrote_not : (out : List ℕ) → length out < 40 + 12 * T + 4 * E + 12 * n + S → Wrote (listed source (tab cs N M) cells n) None out out
     unfolding written test◌then◌else◌
     wrote_not out h =
         let es = listed source (tab cs N M) cells n in
@@ -300,7 +301,7 @@ module _ {source cs cells ms : List ℕ} {N M n : ℕ} (w : Walked source (tab c
         }
 
     pub wrote_all : (out new : List ℕ) → (length out < 40 + 12 * T + 4 * E + 12 * n + S → ⊥) → Put out new 0 (sheet_of (listed source (tab_of cs ms) cells n))
-        → Wrote (listed source (tab cs N M) cells n) true (40 + 12 * T + 4 * E + 12 * n + S) out new
+        → Wrote (listed source (tab cs N M) cells n) (Some (40 + 12 * T + 4 * E + 12 * n + S)) out new
     unfolding written test◌then◌else◌
     wrote_all out new h p =
         let es = listed source (tab cs N M) cells n in

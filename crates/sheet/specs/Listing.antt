@@ -1,6 +1,6 @@
 -- Names with their types, as the writer takes them and the reader gives them: name k is a text of a source (start, length) and a type's
 -- number, three cells of a list.
-use Rattle.std.specs.Prelude.{◌≡◌, Bool, List, map, ℕ, ◌+◌, ◌*◌, ◌≤◌, ◌<◌, leb, length, get_or, take, drop}
+use Rattle.std.specs.Prelude.{◌≡◌, List, Option, is_some, unwrap_or, map, ℕ, ◌+◌, ◌*◌, ◌≤◌, ◌<◌, leb, length, get_or, take, drop}
 use Rattle.meaning.specs.Limits.{most_names, longest_name}
 use Rattle.meaning.specs.Base.{count}
 use Rattle.meaning.specs.Sheet.{Entry, sheet_of}
@@ -62,8 +62,8 @@ pub record Listing (source : List ℕ) (t : Tab) (cells : List ℕ) (n : ℕ) : 
   pub short : (k : ℕ) → k < n → length_at cells k ≤ longest_name
   pub known : (k : ℕ) → k < n → type_at cells k < t.n
 
--- the sheet of es was written at the front of old if it fits, and nothing if not
-pub record Wrote (es : List Entry) (fits : Bool) (long : ℕ) (old new : List ℕ) : Type 0 where
-  pub fits_is : fits ≡ leb (length (sheet_of es)) (length old)
-  pub length_is : long ≡ length (written (length old) (sheet_of es)).sheet
+-- the sheet of es was written at the front of old if it fits, and nothing if not: r is its length if it fits
+pub record Wrote (es : List Entry) (r : Option ℕ) (old new : List ℕ) : Type 0 where
+  pub fits_is : is_some r ≡ leb (length (sheet_of es)) (length old)
+  pub length_is : unwrap_or r 0 ≡ length (written (length old) (sheet_of es)).sheet
   pub out_is : new ≡ overlaid (written (length old) (sheet_of es)).sheet old

@@ -1,11 +1,12 @@
 -- The reader's steps: the areas of a byte string, and what each step makes of them.
-use Rattle.std.specs.Prelude.{◌≡◌, Bool, true, false, List, [], ◌∷◌, map, ℕ, ◌+◌, ◌-◌, ◌*◌, ◌≤◌, ◌<◌, eqb, ltb, length, get_or, take, drop}
+use Rattle.std.specs.Prelude.{◌≡◌, Bool, true, false, Option, is_some, IfSome, List, [], ◌∷◌, map, ℕ, ◌+◌, ◌-◌, ◌*◌, ◌≤◌, ◌<◌, eqb, ltb, length, get_or, take, drop}
 use Rattle.meaning.specs.Limits.{most_names, longest_name, most_types, most_elements, largest_sheet}
 use Rattle.meaning.specs.Base.{test◌then◌else◌, word, records}
 use Rattle.meaning.specs.Types.{Ty, tuple, tys}
 use Rattle.meaning.specs.Sheet.{Entry, Triple, sheet_of, texts_stand}
 use Rattle.meaning.specs.Read.{triple, numbered, type_from, types_from, entries_in, is_sheet}
-use Rattle.types.specs.Table.{Tab, most_numbers, capacity, denote, Wf, Grown}
+use Rattle.types.specs.Table.{Tab, tab, most_numbers, capacity, denote, Wf, Grown}
+use Rattle.sheet.specs.declared.reader.ReadSheet.{ReadSheet}
 use Rattle.sheet.specs.Listing.{name_cells, start_at, length_at, type_at, SameName, listed, Listing}
 
 -- ---- the areas
@@ -158,8 +159,12 @@ pub record Compared (bs : List ℕ) (es : List Entry) (r : Bool) : Type 0 where
   pub yes : r ≡ true → (bs ≡ sheet_of es) × (length (sheet_of es) ≤ largest_sheet)
   pub no : r ≡ false → length (sheet_of es) ≤ largest_sheet → bs ≡ sheet_of es → ⊥
 
--- what the reader says of bs
-pub record Reads (bs : List ℕ) (stands : Bool) (t : Tab) (cells : List ℕ) (n : ℕ) : Type 0 where
-  pub stands_is : stands ≡ is_sheet bs
-  pub listing : stands ≡ true → Listing bs t cells n
-  pub listed_is : stands ≡ true → listed bs t cells n ≡ entries_in bs
+-- the table that was read into the cells cs
+abbrev pub tab_read : List ℕ → ReadSheet → Tab
+tab_read cs s = tab cs s.counts.types s.counts.elements
+
+-- what the reader says of bs, with the table's cells cs and the names' cells
+pub record Reads (bs : List ℕ) (r : Option ReadSheet) (cs cells : List ℕ) : Type 0 where
+  pub stands_is : is_some r ≡ is_sheet bs
+  pub listing : IfSome r (λ s. Listing bs (tab_read cs s) cells s.names)
+  pub listed_is : IfSome r (λ s. listed bs (tab_read cs s) cells s.names ≡ entries_in bs)

@@ -8,4 +8,4 @@ pub mod records;
 mod writer;
 
 pub use reader::{ReadSheet, TABLE_CELLS, read};
-pub use writer::{Written, write};
+pub use writer::write;

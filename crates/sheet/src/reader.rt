@@ -1,8 +1,8 @@
 // The sheet's reader: it refuses no more than it must to read on, and then the writer decides.
-ghost use Rattle.std.specs.Prelude.{◌≡◌, [], map, false, eqb, length, take, ℕ, ◌+◌, ◌≤◌, ◌<◌};
+ghost use Rattle.std.specs.Prelude.{◌≡◌, [], map, false, eqb, length, take, MatchOption, ℕ, ◌+◌, ◌≤◌, ◌<◌};
 ghost use Rattle.meaning.specs.Base.{word, test◌then◌else◌};
 ghost use Rattle.meaning.specs.Limits.{most_types};
-ghost use Rattle.meaning.specs.Read.{type_from};
+ghost use Rattle.meaning.specs.Read.{type_from, is_sheet};
 ghost use Rattle.types.specs.Table.{most_numbers, capacity, Fresh, tab, denote, Wf, Made};
 ghost use Rattle.sheet.specs.Listing.{name_cells, Listing, listed};
 ghost use Rattle.sheet.specs.Reading.{Bounds, Told, number_in, Gathering, Gathered, Tupling, tuple_at, Forming};
@@ -33,25 +33,16 @@ pub const TABLE_CELLS: usize = CELLS * (STRUCTURED + MOST_TYPES);
 // The table's numbers of the types that were read, and those of one Tuple's elements.
 type Numbers = [u16; MOST_TYPES];
 
-// Whether the bytes are a sheet; if so, the counts of the table that was read from them, and how many names.
+// What was read from a sheet: the counts of its table, and how many names.
 #[derive(Clone, Copy)]
 pub struct ReadSheet {
-    pub stands: bool,
     pub counts: Counts,
     pub names: usize,
 }
 
-// Whether the bytes may still be a sheet, and the counts of the table.
-#[derive(Clone, Copy)]
-struct Types {
-    stands: bool,
-    counts: Counts,
-}
-
-// The same after one type: its number, and how many elements were read.
+// The type of one record: its number, how many elements were read by then, and the counts of the table that has it.
 #[derive(Clone, Copy)]
 struct Typed {
-    stands: bool,
     number: usize,
     used: usize,
     counts: Counts,
@@ -110,10 +101,8 @@ fn gather(sheet: &[u8], at: usize, numbers: &Numbers, k: usize, q: usize, stack:
     requires { Gathering sheet.now at k q stack.old }
     ensures { Gathered sheet.now at (take k numbers.now) q stack.new }
 {
-    let mut j = 0;
-    while j < q {
+    for j in 0..q {
         stack[j] = number_in(numbers, k, word_at(sheet, at + ELEMENT * j)) as u16;
-        j += 1;
     }
 }
 
@@ -193,88 +182,56 @@ fn read_type(
     numbers: &Numbers,
     table: &mut [u16],
     counts: Counts,
-) -> Typed
+) -> Option<Typed>
     requires { Typing sheet.now numbers.now k used (tab table.old counts.types counts.elements) }
-    ensures { Told (TypeRead sheet.now numbers.now k used
-        (tab table.old counts.types counts.elements)
-        (tab table.new result.counts.types result.counts.elements)
-        result.used result.number)
-        sheet.now result.stands }
+    ensures { MatchOption result (is_sheet sheet.now ≡ false) (λ r.
+        TypeRead sheet.now numbers.now k used (tab table.old counts.types counts.elements)
+        (tab table.new r.counts.types r.counts.elements) r.used r.number) }
 {
     let kind = word_at(sheet, FIRST_KIND + TYPE_RECORD * k);
     let p = word_at(sheet, FIRST_P + TYPE_RECORD * k);
     let q = word_at(sheet, FIRST_Q + TYPE_RECORD * k);
     if kind != TUPLE {
         let f = form_other(numbers, k, kind, p, q, table, counts);
-        let grown = f.counts;
-        return Typed {
-            stands: true,
+        return Some(Typed {
             number: f.number,
             used,
-            counts: grown,
-        };
+            counts: f.counts,
+        });
     }
     let elements = word_at(sheet, header::ELEMENT_COUNT);
-    if elements < p + q {
-        return Typed {
-            stands: false,
-            number: 0,
-            used,
-            counts,
-        };
-    }
-    if elements < used + q {
-        return Typed {
-            stands: false,
-            number: 0,
-            used,
-            counts,
-        };
+    if elements < p + q || elements < used + q {
+        return None;
     }
     let at = header::LENGTH + TYPE_RECORD * word_at(sheet, header::TYPE_COUNT) + ELEMENT * p;
     let f = form_tuple(sheet, at, numbers, k, q, table, counts);
-    let grown = f.counts;
-    Typed {
-        stands: true,
+    Some(Typed {
         number: f.number,
         used: used + q,
-        counts: grown,
-    }
+        counts: f.counts,
+    })
 }
 
 // The types of all records; the table holds the plain types alone before.
-fn read_types(sheet: &[u8], table: &mut [u16], numbers: &mut Numbers) -> Types
+fn read_types(sheet: &[u8], table: &mut [u16], numbers: &mut Numbers) -> Option<Counts>
     requires bounds { Bounds sheet.now }
     requires wf { Wf (tab table.old 8 0) }
     requires most_numbers_bound { (most_numbers ≤ capacity table.old) × (length numbers.old ≡ most_types) }
-    ensures { Told (TypesRead sheet.now numbers.new
-        (tab table.new result.counts.types result.counts.elements))
-        sheet.now result.stands }
+    ensures { MatchOption result (is_sheet sheet.now ≡ false) (λ r.
+        TypesRead sheet.now numbers.new (tab table.new r.types r.elements)) }
 {
-    let n = word_at(sheet, header::TYPE_COUNT);
-    let mut k: usize = 0;
-    let mut used: usize = 0;
-    let mut types: usize = STRUCTURED;
-    let mut elements: usize = 0;
-    while k < n {
-        let r = read_type(sheet, k, used, numbers, table, Counts { types, elements });
-        let grown = r.counts;
-        if !r.stands {
-            return Types {
-                stands: false,
-                counts: grown,
-            };
-        }
+    let mut used = 0;
+    let mut counts = Counts {
+        types: STRUCTURED,
+        elements: 0,
+    };
+    for k in 0..word_at(sheet, header::TYPE_COUNT) {
+        let r = read_type(sheet, k, used, numbers, table, counts)?;
         numbers[k] = r.number as u16;
         used = r.used;
-        types = grown.types;
-        elements = grown.elements;
-        k += 1;
+        counts = r.counts;
     }
-    Types {
-        stands: true,
-        counts: Counts { types, elements },
-    }
+    Some(counts)
 }
 
 // Name k: its text must lie in the bytes and be short enough.
@@ -308,13 +265,10 @@ fn read_names(sheet: &[u8], numbers: &Numbers, names: &mut NameList) -> bool
     ensures { Told (NamesRead sheet.now (take (word sheet.now 4) numbers.now)
         names.new (word sheet.now 20)) sheet.now result }
 {
-    let n = word_at(sheet, header::NAME_COUNT);
-    let mut k = 0;
-    while k < n {
+    for k in 0..word_at(sheet, header::NAME_COUNT) {
         if !read_name(sheet, k, numbers, names) {
             return false;
         }
-        k += 1;
     }
     true
 }
@@ -323,10 +277,9 @@ fn texts_stand(sheet: &[u8], names: &NameList, count: usize) -> bool
     requires { TextsInside sheet.now names.now count }
     ensures { TextsTold sheet.now names.now count result }
 {
-    let mut k: usize = 0;
-    let mut last: usize = 0;
-    let mut size: usize = 0;
-    while k < count {
+    let mut last = 0;
+    let mut size = 0;
+    for k in 0..count {
         let start = start_of(names, k);
         let len = length_of(names, k);
         if !text_stands(text(sheet, last, size), text(sheet, start, len)) {
@@ -334,7 +287,6 @@ fn texts_stand(sheet: &[u8], names: &NameList, count: usize) -> bool
         }
         last = start;
         size = len;
-        k += 1;
     }
     true
 }
@@ -346,23 +298,9 @@ fn rewrites(sheet: &[u8], table: &[u16], counts: Counts, names: &NameList, count
         (tab table.now counts.types counts.elements) names.now count) result }
 {
     let mut out = [0u8; LARGEST_SHEET];
-    let w = write(sheet, table, counts, names, count, &mut out);
-    if !w.fits {
-        return false;
-    }
-    same(sheet, text(&out, 0, w.length))
-}
-
-fn refused() -> ReadSheet
-    ensures { result.stands ≡ false }
-{
-    ReadSheet {
-        stands: false,
-        counts: Counts {
-            types: STRUCTURED,
-            elements: 0,
-        },
-        names: 0,
+    match write(sheet, table, counts, names, count, &mut out) {
+        Some(length) => same(sheet, text(&out, 0, length)),
+        None => false,
     }
 }
 
@@ -376,32 +314,28 @@ fn begin_table(table: &mut [u16])
 
 // Reads a sheet into a table of its types and a list of its names: whatever the bytes, it says whether they are one.
 // The table is one of TABLE_CELLS.
-pub fn read(sheet: &[u8], table: &mut [u16], names: &mut NameList) -> ReadSheet
+pub fn read(sheet: &[u8], table: &mut [u16], names: &mut NameList) -> Option<ReadSheet>
     requires { (capacity table.old ≡ most_numbers) × (length names.old ≡ name_cells) × Fresh table.old }
-    ensures { Reads sheet.now result.stands
-        (tab table.new result.counts.types result.counts.elements) names.new result.names }
+    ensures { Reads sheet.now result table.new names.new }
 {
     if !bounded(sheet) {
-        return refused();
+        return None;
     }
     begin_table(table);
     let mut numbers = [FRESH; MOST_TYPES];
-    let types = read_types(sheet, table, &mut numbers);
-    if !types.stands {
-        return refused();
-    }
+    let counts = read_types(sheet, table, &mut numbers)?;
     if !read_names(sheet, &numbers, names) {
-        return refused();
+        return None;
     }
-    let counts = types.counts;
-    let n = word_at(sheet, header::NAME_COUNT);
-    if !texts_stand(sheet, names, n) {
-        return refused();
+    let count = word_at(sheet, header::NAME_COUNT);
+    if !texts_stand(sheet, names, count) {
+        return None;
     }
-    let stands = rewrites(sheet, table, counts, names, n);
-    ReadSheet {
-        stands,
+    if !rewrites(sheet, table, counts, names, count) {
+        return None;
+    }
+    Some(ReadSheet {
         counts,
-        names: n,
-    }
+        names: count,
+    })
 }

@@ -51,13 +51,6 @@ const FEW_OPEN: usize = OPEN_CELLS * FEW;
 
 const ALL_OPEN: usize = OPEN_CELLS * MOST_TYPES;
 
-// Whether the sheet fits, and its length: 0 if it does not fit.
-#[derive(Clone, Copy)]
-pub struct Written {
-    pub fits: bool,
-    pub length: usize,
-}
-
 fn mark(marks: &Marks, at: usize) -> usize
     requires { at < mark_cells }
     ensures value { result ≡ get_or marks.now at 0 }
@@ -156,10 +149,8 @@ fn meet_each(table: &[u16], names: &NameList, count: usize, marks: &mut Marks, p
     ensures { MetAll table.now marks.old marks.new
         names.now count }
 {
-    let mut k = 0;
-    while k < count {
+    for k in 0..count {
         visit(table, type_of(names, k), marks, path);
-        k += 1;
     }
 }
 
@@ -214,12 +205,9 @@ fn elements_of(table: &[u16], marks: &Marks) -> usize
     ensures value { result ≡ length (elements_met table.now marks.now) }
     ensures upper_bound { result ≤ most_written }
 {
-    let n = mark(marks, MET);
-    let mut k = 0;
     let mut sum = 0;
-    while k < n {
+    for k in 0..mark(marks, MET) {
         sum += elements_in(table, mark(marks, ORDER + k));
-        k += 1;
     }
     sum
 }
@@ -229,11 +217,9 @@ fn size_of(names: &NameList, count: usize) -> usize
     requires { Short names.now count }
     ensures { (result ≡ listed_size names.now 0 count) × (result ≤ most_text) }
 {
-    let mut k = 0;
     let mut sum = 0;
-    while k < count {
+    for k in 0..count {
         sum += length_of(names, k);
-        k += 1;
     }
     sum
 }
@@ -285,14 +271,11 @@ fn write_types(table: &[u16], marks: &Marks, out: &mut [u8])
     ensures { Put out.old out.new 40
         (types_bytes (tab_of table.now marks.now) marks.now) }
 {
-    let n = mark(marks, MET);
-    let mut k = 0;
     let mut from = 0;
-    while k < n {
+    for k in 0..mark(marks, MET) {
         let i = mark(marks, ORDER + k);
         write_type(table, marks, i, from, out, header::LENGTH + TYPE_RECORD * k);
         from += elements_in(table, i);
-        k += 1;
     }
 }
 
@@ -306,11 +289,9 @@ fn write_parts(table: &[u16], marks: &Marks, i: usize, out: &mut [u8], at: usize
         + 4 * length (elements_in (denote (tab_of table.now marks.now) i)) }
 {
     let n = elements_in(table, i);
-    let mut j = 0;
-    while j < n {
+    for j in 0..n {
         let w = number_of(marks, part_at(table, i, j));
         put_word(out, at + ELEMENT * j, w as u32);
-        j += 1;
     }
     at + ELEMENT * n
 }
@@ -321,12 +302,9 @@ fn write_elements(table: &[u16], marks: &Marks, out: &mut [u8], from: usize)
     ensures { Put out.old out.new from
         (elements_bytes (tab_of table.now marks.now) marks.now) }
 {
-    let n = mark(marks, MET);
-    let mut k = 0;
     let mut at = from;
-    while k < n {
+    for k in 0..mark(marks, MET) {
         at = write_parts(table, marks, mark(marks, ORDER + k), out, at);
-        k += 1;
     }
 }
 
@@ -335,14 +313,12 @@ fn write_names(marks: &Marks, names: &NameList, count: usize, out: &mut [u8], at
     ensures { NamesPut marks.now names.now count
         out.old out.new at }
 {
-    let mut k = 0;
     let mut from = 0;
-    while k < count {
+    for k in 0..count {
         let len = length_of(names, k);
         let ty = number_of(marks, type_of(names, k));
         put_three(out, at + NAME_RECORD * k, from, len, ty);
         from += len;
-        k += 1;
     }
 }
 
@@ -351,13 +327,11 @@ fn write_texts(source: &[u8], names: &NameList, count: usize, out: &mut [u8], fr
     ensures { Put out.old out.new from
         (listed_texts source.now names.now 0 count) }
 {
-    let mut k = 0;
     let mut at = from;
-    while k < count {
+    for k in 0..count {
         let start = start_of(names, k);
         let len = length_of(names, k);
         at = put(out, at, text(source, start, len));
-        k += 1;
     }
 }
 
@@ -412,7 +386,7 @@ fn begin(marks: &mut Marks, counts: Counts)
     marks[ELEMENT_COUNT] = counts.elements as u16;
 }
 
-// Writes the sheet of the names to the front of `out` if it fits: if not, no byte changes.
+// Writes the sheet of the names to the front of `out` if it fits, and gives its length: if not, no byte changes.
 pub fn write(
     source: &[u8],
     table: &[u16],
@@ -420,10 +394,10 @@ pub fn write(
     names: &NameList,
     count: usize,
     out: &mut [u8],
-) -> Written
+) -> Option<usize>
     requires { Listing source.now (tab table.now counts.types counts.elements) names.now count }
     ensures { Wrote (listed source.now (tab table.now counts.types counts.elements)
-        names.now count) result.fits result.length out.old out.new }
+        names.now count) result out.old out.new }
 {
     let mut marks = [UNMET; MARK_CELLS];
     begin(&mut marks, counts);
@@ -436,14 +410,8 @@ pub fn write(
         + NAME_RECORD * count
         + size;
     if out.len() < total {
-        return Written {
-            fits: false,
-            length: 0,
-        };
+        return None;
     }
     fill(source, table, &marks, names, count, elements, size, out);
-    Written {
-        fits: true,
-        length: total,
-    }
+    Some(total)
 }

@@ -21,9 +21,9 @@ use Rattle.words.proofs.Laws.{put_overlaid}
 use Rattle.types.specs.Table.{Tab}
 use Rattle.sheet.specs.Reading.{Reads}
 use Rattle.sheet.specs.declared.reader.ReadSheet.{ReadSheet}
-use Rattle.show.specs.Words.{Opened, Tells, telling_code, telling_length}
-use Rattle.show.specs.declared.Telling.{Telling}
-use Rattle.show.specs.declared.Telling.TheVariants.{Told, NoRoom, NoSheet}
+use Rattle.std.specs.Prelude.{Ok, Err}
+use Rattle.show.specs.Words.{Opened, Tells, Telling, telling_code, telling_length}
+use Rattle.show.specs.declared.Untold.TheVariants.{NoRoom, NoSheet}
 use Rattle.show.proofs.Names.{its_sheet}
 
 -- ---- a text is handed out
@@ -82,13 +82,13 @@ module _ {bs cs cells bs₂ cs₂ cells₂ : List ℕ} {r r₂ : ReadSheet} (o :
 -- ---- no second outcome fits
 
 unfoldable telling_from : ℕ → ℕ → Telling
-telling_from code size = choose code NoSheet ((0, Told size) ∷ (10, NoRoom) ∷ [])
+telling_from code size = choose code (Err NoSheet) ((0, Ok size) ∷ (10, Err NoRoom) ∷ [])
 
 telling_back : (r : Telling) → telling_from (telling_code r) (telling_length r) ≡ r
 unfolding telling_from choose test◌then◌else◌
-telling_back (Told n) = refl
-telling_back NoRoom = refl
-telling_back NoSheet = refl
+telling_back (Ok n) = refl
+telling_back (Err NoRoom) = refl
+telling_back (Err NoSheet) = refl
 
 pub one_telling : (a : InWords) (r q : Telling) {old new₁ new₂ : List ℕ} → Tells a (telling_code r) (telling_length r) old new₁ → Tells a (telling_code q) (telling_length q) old new₂
     → (r ≡ q) × (new₁ ≡ new₂)

@@ -1,5 +1,5 @@
 -- What the functions that tell a sheet in words need and leave.
-use Rattle.std.specs.Prelude.{◌≡◌, true, List, [], ◌∷◌, ◌++◌, ℕ, ◌+◌, ◌-◌, ◌*◌, ◌<◌, ◌≤◌, length, get_or, take, drop}
+use Rattle.std.specs.Prelude.{◌≡◌, true, List, [], ◌∷◌, ◌++◌, ℕ, ◌+◌, ◌-◌, ◌*◌, ◌<◌, ◌≤◌, length, get_or, take, drop, Result, Ok, Err}
 use Rattle.meaning.specs.Limits.{most_names, longest_name, largest_sheet}
 use Rattle.meaning.specs.Base.{bytes}
 use Rattle.meaning.specs.Types.{Ty, unknown}
@@ -15,8 +15,8 @@ use Rattle.sheet.specs.declared.reader.ReadSheet.{ReadSheet}
 use Rattle.show.specs.declared.Next.{Next}
 use Rattle.show.specs.declared.Next.TheVariants.{Came, Went, Both}
 use Rattle.show.specs.declared.Place.{Place}
-use Rattle.show.specs.declared.Telling.{Telling}
-use Rattle.show.specs.declared.Telling.TheVariants.{Told, NoRoom, NoSheet}
+use Rattle.show.specs.declared.Untold.{Untold}
+use Rattle.show.specs.declared.Untold.TheVariants.{NoRoom, NoSheet}
 
 -- ---- a sheet that was read into a table and a list of names
 
@@ -78,15 +78,18 @@ pub record Stepped (olds news : List Entry) (p q : Place) (d e : List ℕ) : Typ
 
 -- ---- the answers, by their numbers, and what is left of the buffer
 
+-- the length of the text that was told, or why none was
+abbrev pub Telling : Type 0
+Telling = Result ℕ Untold
+
 abbrev pub telling_code : Telling → ℕ
-telling_code (Told n) = 0
-telling_code NoRoom = 10
-telling_code NoSheet = 12
+telling_code (Ok n) = 0
+telling_code (Err NoRoom) = 10
+telling_code (Err NoSheet) = 12
 
 abbrev pub telling_length : Telling → ℕ
-telling_length (Told n) = n
-telling_length NoRoom = 0
-telling_length NoSheet = 0
+telling_length (Ok n) = n
+telling_length (Err e) = 0
 
 pub record Tells (a : InWords) (code size : ℕ) (old new : List ℕ) : Type 0 where
   pub code_is : code ≡ a.code

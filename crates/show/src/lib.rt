@@ -27,13 +27,15 @@ use types;
 use types::{FRESH, kind_of};
 use words::{before, put, same, text as part_of_text};
 
-// What comes back: code 0 with the length of the text, 10 if that does not fit, or 12 for what is no sheet.
+// Why nothing was told: code 10 for a text that does not fit, 12 for what is no sheet.
 #[derive(Clone, Copy)]
-pub enum Telling {
-    Told(usize),
+pub enum Untold {
     NoRoom,
     NoSheet,
 }
+
+// The length of the text that was told.
+pub type Telling = Result<usize, Untold>;
 
 // ---- a type
 
@@ -389,9 +391,9 @@ fn deliver(text: &[u8], n: usize, out: &mut [u8]) -> Telling
         (telling_code result) (telling_length result) out.old out.new }
 {
     if out.len() < n {
-        return Telling::NoRoom;
+        return Err(Untold::NoRoom);
     }
-    Telling::Told(put(out, 0, part_of_text(text, 0, n)))
+    Ok(put(out, 0, part_of_text(text, 0, n)))
 }
 
 // A sheet's names with their types, a line each in byte order, at the front of `out` if they fit. On a refusal no byte
@@ -404,7 +406,7 @@ pub fn show(sheet: &[u8], out: &mut [u8]) -> Telling
     let mut names = NO_ENTRIES;
     let opened = read(sheet, &mut table, &mut names);
     if !opened.stands {
-        return Telling::NoSheet;
+        return Err(Untold::NoSheet);
     }
     let mut text = [0u8; LARGEST_SHOW];
     let n = put_entries(sheet, &table, &names, opened, &mut text);
@@ -421,13 +423,13 @@ pub fn changes(old: &[u8], new: &[u8], out: &mut [u8]) -> Telling
     let mut old_names = NO_ENTRIES;
     let was = read(old, &mut old_table, &mut old_names);
     if !was.stands {
-        return Telling::NoSheet;
+        return Err(Untold::NoSheet);
     }
     let mut new_table = [FRESH; TABLE_CELLS];
     let mut new_names = NO_ENTRIES;
     let is = read(new, &mut new_table, &mut new_names);
     if !is.stands {
-        return Telling::NoSheet;
+        return Err(Untold::NoSheet);
     }
     let mut text = [0u8; LARGEST_CHANGES];
     let n = put_changes(

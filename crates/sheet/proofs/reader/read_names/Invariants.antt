@@ -1,9 +1,6 @@
 use Rattle.sheet.proofs.Naming.{NamesLoop}
-use Prim.Native.Nat.{◌-◌}
+use Rattle.meaning.specs.Base.{word}
 use Rattle.sheet.proofs.reader.read_names.Given as goal
 
 abbrev pub invariant-loop-k : goal.invariant-loop-k
-invariant-loop-k l = NamesLoop l.sheet l.numbers l.n l.k l.names
-
-abbrev pub decreases-loop-k : goal.decreases-loop-k
-decreases-loop-k l = l.n - l.k
+invariant-loop-k l = NamesLoop l.sheet l.numbers (word l.sheet 20) l.k l.names

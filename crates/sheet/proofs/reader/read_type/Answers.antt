@@ -1,6 +1,7 @@
-use Rattle.sheet.proofs.Reading.{told_no, told_yes}
 use Rattle.sheet.proofs.Typing.{typing_forming, typed_other, refuse_inside, refuse_sum, typing_tupling, typed_tuple, not_lt}
+use Rattle.meaning.proofs.Choices.{not_so}
 use Rattle.sheet.proofs.reader.read_type.Goals as goal
+use Rattle.sheet.proofs.reader.read_type.Goals.{then-elements-p-via-then-elements-p, then-elements-p-via-else-elements-p+then-elements-used}
 
 pub form_other-f-requires : goal.form_other-f-requires
 form_other-f-requires c =
@@ -8,15 +9,14 @@ form_other-f-requires c =
 
 pub returns-then-kind-ne-TUPLE : goal.returns-then-kind-ne-TUPLE
 returns-then-kind-ne-TUPLE c =
-    told_yes (typed_other c.requires c.word_at-kind.ensures.value c.word_at-p.ensures.value c.word_at-q.ensures.value c.if-kind-ne-TUPLE.true c.form_other-f.ensures)
+    typed_other c.requires c.word_at-kind.ensures.value c.word_at-p.ensures.value c.word_at-q.ensures.value c.if-kind-ne-TUPLE.true c.form_other-f.ensures
 
 pub returns-then-elements-p : goal.returns-then-elements-p
 returns-then-elements-p c =
-    told_no (refuse_inside c.requires c.word_at-kind.ensures.value c.word_at-p.ensures.value c.word_at-q.ensures.value c.if-kind-ne-TUPLE.false c.word_at-elements.ensures.value c.if-elements-p.true)
-
-pub returns-then-elements-used : goal.returns-then-elements-used
-returns-then-elements-used c =
-    told_no (refuse_sum c.requires c.word_at-kind.ensures.value c.word_at-p.ensures.value c.word_at-q.ensures.value c.if-kind-ne-TUPLE.false c.word_at-elements.ensures.value c.if-elements-used.true)
+    not_so _ (elim c.then-elements-p.branch [
+      | then-elements-p-via-then-elements-p w ↦ refuse_inside c.requires c.word_at-kind.ensures.value c.word_at-p.ensures.value c.word_at-q.ensures.value c.if-kind-ne-TUPLE.false c.word_at-elements.ensures.value w.if-elements-p.true
+      | then-elements-p-via-else-elements-p+then-elements-used w ↦ refuse_sum c.requires c.word_at-kind.ensures.value c.word_at-p.ensures.value c.word_at-q.ensures.value c.if-kind-ne-TUPLE.false c.word_at-elements.ensures.value w.if-elements-used.true
+    ])
 
 pub form_tuple-f-requires : goal.form_tuple-f-requires
 form_tuple-f-requires c =
@@ -24,4 +24,4 @@ form_tuple-f-requires c =
 
 pub returns : goal.returns
 returns c =
-    told_yes (typed_tuple c.requires c.word_at-kind.ensures.value c.word_at-p.ensures.value c.word_at-q.ensures.value c.if-kind-ne-TUPLE.false c.word_at-elements.ensures.value (not_lt c.if-elements-p.false) (not_lt c.if-elements-used.false) c.word_at.ensures.value c.form_tuple-f.ensures)
+    typed_tuple c.requires c.word_at-kind.ensures.value c.word_at-p.ensures.value c.word_at-q.ensures.value c.if-kind-ne-TUPLE.false c.word_at-elements.ensures.value (not_lt c.if-elements-p.false) (not_lt c.if-elements-used.false) c.word_at.ensures.value c.form_tuple-f.ensures

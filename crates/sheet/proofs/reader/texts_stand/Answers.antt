@@ -6,14 +6,6 @@ pub loop-k-init : goal.loop-k-init
 loop-k-init c =
     stand_first c.requires
 
-pub start_of-start-requires : goal.start_of-start-requires
-start_of-start-requires c =
-    omega (arith, c.loop-k-test.true, c.requires.few)
-
-pub length_of-len-requires : goal.length_of-len-requires
-length_of-len-requires c =
-    omega (arith, c.loop-k-test.true, c.requires.few)
-
 pub text-requires : goal.text-requires
 text-requires c =
     c.loop-k.invariant.inside
@@ -25,10 +17,6 @@ text-requires-in-loop-k c =
 pub returns-then-not-text_stands : goal.returns-then-not-text_stands
 returns-then-not-text_stands c =
     stand_not c.loop-k.invariant c.loop-k-test.true c.start_of-start.ensures c.length_of-len.ensures c.text.ensures c.text-in-loop-k.ensures c.text_stands.ensures c.if-not-text_stands.true
-
-pub overflow_add-k : goal.overflow_add-k
-overflow_add-k c =
-    omega (arith, c.loop-k-test.true, c.requires.few)
 
 pub loop-k-preserved : goal.loop-k-preserved
 loop-k-preserved c =

@@ -7,17 +7,9 @@ pub loop-k-init : goal.loop-k-init
 loop-k-init c =
     (meet_first c.requires.meeting, refl)
 
-pub type_of-requires : goal.type_of-requires
-type_of-requires c =
-    omega (arith, c.loop-k-test.true, c.requires.meeting.few)
-
 pub visit-requires : goal.visit-requires
 visit-requires c =
     meet_visit c.loop-k.invariant.0 c.requires.open_room c.loop-k.invariant.1 c.loop-k-test.true c.type_of.ensures
-
-pub overflow_add-k : goal.overflow_add-k
-overflow_add-k c =
-    omega (arith, c.loop-k-test.true, c.requires.meeting.few)
 
 pub loop-k-preserved : goal.loop-k-preserved
 loop-k-preserved c =

@@ -6,17 +6,9 @@ pub loop-k-init : goal.loop-k-init
 loop-k-init c =
     size_first c.requires
 
-pub length_of-sum-requires : goal.length_of-sum-requires
-length_of-sum-requires c =
-    omega (arith, c.loop-k-test.true, c.requires.few)
-
 pub overflow_add-sum : goal.overflow_add-sum
 overflow_add-sum c =
     omega (arith, size_room c.loop-k.invariant c.loop-k-test.true c.length_of-sum.ensures)
-
-pub overflow_add-k : goal.overflow_add-k
-overflow_add-k c =
-    omega (arith, c.loop-k-test.true, c.requires.few)
 
 pub loop-k-preserved : goal.loop-k-preserved
 loop-k-preserved c =

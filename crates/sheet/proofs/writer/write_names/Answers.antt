@@ -6,14 +6,6 @@ pub loop-k-init : goal.loop-k-init
 loop-k-init c =
     names_first c.requires
 
-pub length_of-len-requires : goal.length_of-len-requires
-length_of-len-requires c =
-    omega (arith, c.loop-k-test.true, c.requires.short.few)
-
-pub type_of-requires : goal.type_of-requires
-type_of-requires c =
-    omega (arith, c.loop-k-test.true, c.requires.short.few)
-
 pub number_of-ty-requires : goal.number_of-ty-requires
 number_of-ty-requires c =
     names_known c.loop-k.invariant c.loop-k-test.true c.type_of.ensures
@@ -37,10 +29,6 @@ put_three-requires-clause-a_bound c =
 pub overflow_add-from : goal.overflow_add-from
 overflow_add-from c =
     omega (arith, names_sum c.loop-k.invariant c.loop-k-test.true c.length_of-len.ensures)
-
-pub overflow_add-k : goal.overflow_add-k
-overflow_add-k c =
-    omega (arith, c.loop-k-test.true, c.requires.short.few)
 
 pub loop-k-preserved : goal.loop-k-preserved
 loop-k-preserved c =

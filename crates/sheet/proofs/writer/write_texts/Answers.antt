@@ -6,14 +6,6 @@ pub loop-k-init : goal.loop-k-init
 loop-k-init c =
     texts_first c.requires
 
-pub start_of-start-requires : goal.start_of-start-requires
-start_of-start-requires c =
-    omega (arith, c.loop-k-test.true, c.requires.short.few)
-
-pub length_of-len-requires : goal.length_of-len-requires
-length_of-len-requires c =
-    omega (arith, c.loop-k-test.true, c.requires.short.few)
-
 pub text-requires : goal.text-requires
 text-requires c =
     texts_inside c.loop-k.invariant c.loop-k-test.true c.start_of-start.ensures c.length_of-len.ensures
@@ -21,10 +13,6 @@ text-requires c =
 pub put-at-requires : goal.put-at-requires
 put-at-requires c =
     texts_room c.loop-k.invariant c.loop-k-test.true c.start_of-start.ensures c.length_of-len.ensures c.text.ensures
-
-pub overflow_add-k : goal.overflow_add-k
-overflow_add-k c =
-    omega (arith, c.loop-k-test.true, c.requires.short.few)
 
 pub loop-k-preserved : goal.loop-k-preserved
 loop-k-preserved c =
