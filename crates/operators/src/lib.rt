@@ -20,9 +20,6 @@ pub enum Answer {
     Refused(Code),
 }
 
-// The row of the last operator, `or`.
-const OR: usize = 13;
-
 // How many pairs of kinds in order there are below a kind: so many answers stand before its own in a row.
 fn pairs_below(kind: u32) -> u32
     requires { kind < 13 }
@@ -61,38 +58,12 @@ fn told(entry: u8) -> Answer
     }
 }
 
-// An entry of one operator's row. The row is copied at a number that the code names, so that a use builds that row on
-// the stack and not the whole table.
-fn entry<const N: usize>(row: [u8; N], at: usize) -> u8
-    requires { at < N }
-    ensures { result ≡ get_or row.entry at 0 }
-{
-    row[at]
-}
-
-// Row `op` of the table, for the kinds of the operands. All numbers are u32, as they stand in the image.
+// An entry of row `op`, for the kinds of the operands. All numbers are u32, as they stand in the image.
 fn entry_of(op: u32, left: u32, right: u32) -> u8
     requires { (op < 14) × (left < 13) × (right < 13) }
     ensures { result ≡ operator_answer (binary_of op) left right }
 {
-    let table = ANSWERS;
-    let at = place_of(left, right);
-    match op {
-        0 => entry(table[0], at),
-        1 => entry(table[1], at),
-        2 => entry(table[2], at),
-        3 => entry(table[3], at),
-        4 => entry(table[4], at),
-        5 => entry(table[5], at),
-        6 => entry(table[6], at),
-        7 => entry(table[7], at),
-        8 => entry(table[8], at),
-        9 => entry(table[9], at),
-        10 => entry(table[10], at),
-        11 => entry(table[11], at),
-        12 => entry(table[12], at),
-        _ => entry(table[OR], at),
-    }
+    ANSWERS[op as usize][place_of(left, right)]
 }
 
 // As entry_of, for the operators of one operand.
@@ -100,13 +71,7 @@ fn unary_entry_of(op: u32, kind: u32) -> u8
     requires { (op < 3) × (kind < 13) }
     ensures { result ≡ unary_answer (unary_of op) kind }
 {
-    let table = UNARY_ANSWERS;
-    let at = kind as usize;
-    match op {
-        0 => entry(table[0], at),
-        1 => entry(table[1], at),
-        _ => entry(table[2], at),
-    }
+    UNARY_ANSWERS[op as usize][kind as usize]
 }
 
 // The answer of a binary operator for the kinds of its operands.
