@@ -7,7 +7,7 @@ ghost use Rattle.meaning.proofs.Faults.{Sound};
 ghost use Rattle.calls.specs.Planning.{Chosen, Planned};
 
 use image::{admits, areas, name_at, name_text, roles};
-use rules::codes;
+
 use types;
 use words::same;
 
@@ -64,7 +64,7 @@ pub fn builtin_of(text: &[u8]) -> Rule
 }
 
 // What becomes of a call of a name: its rule, or 37 or 38 where the count is refused.
-pub type Plan = Result<Rule, u32>;
+pub type Plan = Result<Rule, Code>;
 
 // "Role, then arity, then the rule of the text": the call of name x with so many arguments.
 pub fn plan_of(image: &[u8], x: usize, count: u32) -> Plan
@@ -76,12 +76,12 @@ pub fn plan_of(image: &[u8], x: usize, count: u32) -> Plan
     match name.role {
         roles::EXACTLY | roles::BETWEEN | roles::ANY => {
             if !admits(name, count) {
-                return Err(codes::BUILTIN_ARITY);
+                return Err(Code::BuiltinArity);
             }
             let layout = areas(image);
             Ok(builtin_of(name_text(image, layout.texts, x)))
         }
-        roles::FUNCTION if count != name.p => Err(codes::FUNCTION_ARITY),
+        roles::FUNCTION if count != name.p => Err(Code::FunctionArity),
         _ => Ok(Rule::Each(types::UNKNOWN)),
     }
 }

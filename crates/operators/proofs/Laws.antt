@@ -1,7 +1,7 @@
 -- What an answer means. Callers use these laws and never the text of the definitions.
 use mathlib.Core.Path.{◌≡◌, refl, ◌∙◌}
 use mathlib.Core.Bool.{Bool}
-use mathlib.Core.Logic.{⊎_elim, inl, inr}
+use mathlib.Core.Logic.{⊎_elim}
 use mathlib.Core.List.{[], ◌∷◌}
 use Prim.Native.Nat.{ℕ, ◌≤◌, ◌<◌}
 use native.Mathlib.Omega.{arith}
@@ -9,13 +9,12 @@ use borrow.Author.Tests.{eqb-true, lt-ltb, le-ltb, ne_eqb}
 use lib.Dec.{eqb}
 use Rattle.meaning.specs.Base.{test◌then◌else◌, base_open}
 use Rattle.meaning.specs.Types.{Ty, unknown, int, bool, string, float, nonetype, range, function, list, dict, tuple, map_iter, filter_iter, same, kind, plain, types_open}
-use Rattle.meaning.specs.Tree.{UnaryOp, BinaryOp, add, subtract, multiply, divide, floor_divide, modulo, equal, not_equal, less, less_equal, greater, greater_equal, and_op, or_op}
+use Rattle.meaning.specs.Tree.{BinaryOp, add, subtract, multiply, divide, floor_divide, modulo, equal, not_equal, less, less_equal, greater, greater_equal, and_op, or_op}
 use Rattle.meaning.specs.Image.{image_open}
 use Rattle.meaning.specs.Decode.{binary_of, unary_of}
 use Rattle.meaning.specs.Message.{a_type, refusal}
 use Rattle.meaning.specs.Operators.{ok, refused, when, operator_answer, unary_answer, answered, binary_rule, unary_rule, operators_open}
 use Rattle.meaning.proofs.Operators.{answer_range, unary_range}
-use Rattle.operators.specs.Answer.{Entered}
 use Rattle.operators.proofs.AllKinds.{OfAll, of_each}
 
 -- ---- kinds
@@ -113,11 +112,3 @@ all_turned or_op = refl
 pub symmetric : (o : BinaryOp) (a b : ℕ) → a < 13 → b < 13 → operator_answer o a b ≡ operator_answer o b a
 unfolding turned
 symmetric o a b ha hb = eqb-true _ _ (of_each (turned o) (all_turned o) a b ha hb)
-
--- ---- what is an entry of a table
-
-pub entered : {x : ℕ} (o : BinaryOp) (a b : ℕ) → x ≡ operator_answer o a b → Entered x
-entered o a b e = rw e (⊎_elim (λ u. inl (omega arith)) (λ u. inr (omega arith, omega arith)) (answer_range o a b).says)
-
-pub unary_entered : {x : ℕ} (o : UnaryOp) (k : ℕ) → x ≡ unary_answer o k → Entered x
-unary_entered o k e = rw e (⊎_elim (λ u. inl (omega arith)) (λ u. inr (omega arith, omega arith)) (unary_range o k).says)

@@ -2,7 +2,7 @@
 #![tactic(auto)]
 
 ghost use Rattle.std.specs.Prelude.{◌≡◌, ◌<◌, length, get_or};
-ghost use Rattle.operators.specs.Answer.{Entered, Says};
+ghost use Rattle.operators.specs.Answer.{Says, SaysUnary};
 ghost use Rattle.meaning.specs.Operators.{operator_answer, unary_answer};
 ghost use Rattle.meaning.specs.Decode.{binary_of, unary_of};
 ghost use Rattle.operators.specs.Fold.{pairs, PlaceOf};
@@ -19,6 +19,9 @@ pub enum Answer {
     Whole,
     Refused(Code),
 }
+
+// The entry that says: compare the whole types.
+const WHOLE: u8 = 8;
 
 // How many pairs of kinds in order there are below a kind: so many answers stand before its own in a row.
 fn pairs_below(kind: u32) -> u32
@@ -38,24 +41,6 @@ fn place_of(left: u32, right: u32) -> usize
         return (pairs_below(left) + right) as usize;
     }
     (pairs_below(right) + left) as usize
-}
-
-// What an entry of the table says.
-fn told(entry: u8) -> Answer
-    requires { Entered entry }
-    ensures { Says result entry }
-{
-    match entry {
-        8 => Answer::Whole,
-        29 => Answer::Refused(Code::Plus),
-        30 => Answer::Refused(Code::Times),
-        31 => Answer::Refused(Code::Compare),
-        32 => Answer::Refused(Code::Equality),
-        33 => Answer::Refused(Code::NumericPair),
-        34 => Answer::Refused(Code::IntOrFloat),
-        35 => Answer::Refused(Code::ExpectedBool),
-        plain => Answer::Type(usize::from(plain)),
-    }
 }
 
 // An entry of row `op`, for the kinds of the operands. All numbers are u32, as they stand in the image.
@@ -79,13 +64,25 @@ pub fn answer_of(op: u32, left: u32, right: u32) -> Answer
     requires { (op < 14) × (left < 13) × (right < 13) }
     ensures { Says result (operator_answer (binary_of op) left right) }
 {
-    told(entry_of(op, left, right))
+    match entry_of(op, left, right) {
+        WHOLE => Answer::Whole,
+        29 => Answer::Refused(Code::Plus),
+        30 => Answer::Refused(Code::Times),
+        31 => Answer::Refused(Code::Compare),
+        32 => Answer::Refused(Code::Equality),
+        33 => Answer::Refused(Code::NumericPair),
+        plain => Answer::Type(usize::from(plain)),
+    }
 }
 
-// The answer of a unary operator for the kind of its operand.
-pub fn unary_answer_of(op: u32, kind: u32) -> Answer
+// The answer of a unary operator for the kind of its operand: a plain type, by its number, or a refusal.
+pub fn unary_answer_of(op: u32, kind: u32) -> Result<usize, Code>
     requires { (op < 3) × (kind < 13) }
-    ensures { Says result (unary_answer (unary_of op) kind) }
+    ensures { SaysUnary result (unary_answer (unary_of op) kind) }
 {
-    told(unary_entry_of(op, kind))
+    match unary_entry_of(op, kind) {
+        34 => Err(Code::IntOrFloat),
+        35 => Err(Code::ExpectedBool),
+        plain => Ok(usize::from(plain)),
+    }
 }

@@ -13,16 +13,15 @@ ghost use Rattle.rules.specs.Leaves.{prompt_rule, sized_rule, bound_rule, callab
 ghost use Rattle.rules.specs.Leaves.{ListStep, JoinedOf, DictStep};
 ghost use Rattle.rules.specs.Leaves.{StreamedOf, stream_type, second_code, Asks, Streams};
 
-pub mod codes;
-
-use operators::{COMPARE, answer_of, unary_answer_of};
+use codes::Code;
+use operators::{Answer, answer_of, unary_answer_of};
 use types;
 use types::{Counts, Formed, common_of, element_of, form, kind_of, part_of, second_of};
 
 // A refusal as it is decided: its code and the two numbers that its message needs.
 #[derive(Clone, Copy)]
 pub struct Reason {
-    pub code: u32,
+    pub code: Code,
     pub a: usize,
     pub b: usize,
 }
@@ -30,7 +29,7 @@ pub struct Reason {
 // What T's `SemanticResult<Ty>` is here: the number of a type, or why there is none.
 pub type Decision = Result<usize, Reason>;
 
-fn refused(code: u32, a: usize, b: usize) -> Decision
+fn refused(code: Code, a: usize, b: usize) -> Decision
     ensures { result ≡ Err (because code a b) }
 {
     Err(Reason { code, a, b })
@@ -69,7 +68,7 @@ pub fn binary(table: &[u16], op: u32, left: usize, right: usize) -> Decision
     if left == right {
         return Ok(types::BOOL);
     }
-    refused(codes::EQUALITY, left, right)
+    refused(Code::Equality, left, right)
 }
 
 // ---- List and Dict
@@ -120,7 +119,7 @@ pub fn dict_step(so_far: Pair, next: Pair) -> Option<Pair>
 // ---- one argument of a builtin
 
 // Type i where the type `wanted` or Unknown is expected: the type `result`, or the code.
-fn expect(wanted: usize, i: usize, code: u32, res: usize) -> Decision
+fn expect(wanted: usize, i: usize, code: Code, res: usize) -> Decision
     ensures { Expected wanted i code res result }
 {
     if i == wanted {
@@ -136,18 +135,18 @@ fn expect(wanted: usize, i: usize, code: u32, res: usize) -> Decision
 pub fn prompt(a: usize) -> Decision
     ensures { OfNumber prompt_rule a result }
 {
-    expect(types::STRING, a, codes::INPUT, types::STRING)
+    expect(types::STRING, a, Code::Input, types::STRING)
 }
 
 // An argument of `range`.
 pub fn bound(a: usize) -> Decision
     ensures { OfNumber bound_rule a result }
 {
-    expect(types::INT, a, codes::RANGE, types::INT)
+    expect(types::INT, a, Code::Range, types::INT)
 }
 
 // The first argument of `map` (code 42) or `filter` (code 44).
-pub fn callable(a: usize, code: u32) -> Decision
+pub fn callable(a: usize, code: Code) -> Decision
     requires { types_named code ≡ 1 }
     ensures { OfNumber (callable_rule code) a result }
 {
@@ -173,7 +172,7 @@ pub fn len(table: &[u16], a: usize) -> Decision
     if has_length(kind) {
         return Ok(types::INT);
     }
-    refused(codes::LEN, a, 0)
+    refused(Code::Len, a, 0)
 }
 
 // ---- Index
@@ -191,7 +190,7 @@ fn key(wanted: usize, i: usize, value: usize) -> Decision
     if wanted == types::UNKNOWN {
         return Ok(value);
     }
-    refused(codes::DICT_KEY, wanted, i)
+    refused(Code::DictKey, wanted, i)
 }
 
 pub fn index(table: &[u16], object: usize, index: usize) -> Decision
@@ -201,16 +200,16 @@ pub fn index(table: &[u16], object: usize, index: usize) -> Decision
     let kind = kind_of(table, object);
     match kind {
         types::UNKNOWN => Ok(types::UNKNOWN),
-        types::STRING => expect(types::INT, index, codes::STRING_INDEX, types::STRING),
-        types::LIST => expect(types::INT, index, codes::LIST_INDEX, part_of(table, object)),
+        types::STRING => expect(types::INT, index, Code::StringIndex, types::STRING),
+        types::LIST => expect(types::INT, index, Code::ListIndex, part_of(table, object)),
         types::DICT => key(part_of(table, object), index, second_of(table, object)),
         types::TUPLE => expect(
             types::INT,
             index,
-            codes::TUPLE_INDEX,
+            Code::TupleIndex,
             common_of(table, object),
         ),
-        _ => refused(codes::NOT_SUBSCRIPTABLE, object, 0),
+        _ => refused(Code::NotSubscriptable, object, 0),
     }
 }
 
@@ -231,9 +230,9 @@ fn second_code(filters: bool) -> u32
     ensures { result ≡ second_code filters }
 {
     if filters {
-        return codes::FILTER_SECOND;
+        return Code::FilterSecond;
     }
-    codes::MAP_SECOND
+    Code::MapSecond
 }
 
 // The FilterIter of an element type, or the MapIter of Unknown.
