@@ -18,6 +18,9 @@ use Rattle.meaning.specs.Rules.{Children, each_then, builtin_rule, described, bu
 use Rattle.meaning.proofs.Choices.{all_pass}
 use Rattle.meaning.proofs.Faults.{Sound}
 use Rattle.types.specs.Table.{Tab}
+use Rattle.codes.specs.declared.Code.{Code}
+use Rattle.codes.specs.declared.Code.TheVariants.{BuiltinArity, FunctionArity}
+use Rattle.codes.specs.Codes.{number_of}
 use Rattle.rules.specs.Outcome.{types_named, taken, pieces}
 use Rattle.image.specs.Parts.{record_of, name_means}
 use Rattle.image.specs.declared.NameAt.{NameAt}
@@ -32,10 +35,10 @@ use Rattle.calls.specs.Planning.{rule_of, Enough, Chosen, Plan, Planned}
 pub same_rule : {j k : Rule} → ◌≡◌ {A = Plan} (Ok j) (Ok k) → j ≡ k
 same_rule e = cc
 
-pub same_code : {c d : ℕ} → ◌≡◌ {A = Plan} (Err c) (Err d) → c ≡ d
+pub same_code : {c d : Code} → ◌≡◌ {A = Plan} (Err c) (Err d) → c ≡ d
 same_code e = cc
 
-pub by_not_refused : {A : Type 0} {k : Rule} {c : ℕ} → Ok k ≡ Err c → A
+pub by_not_refused : {A : Type 0} {k : Rule} {c : Code} → Ok k ≡ Err c → A
 by_not_refused e = absurd (cc)
 
 -- ---- a call's count comes before its rule
@@ -118,9 +121,9 @@ module _ (ws : List Name) (x count : ℕ) where
     codes = λ c e. by_not_refused e;
   }
 
-  planned_refused : (code : ℕ) → 37 ≤ code → code ≤ 38
+  planned_refused : (code : Code) → 37 ≤ number_of code → number_of code ≤ 38
       → ((t : Tab) (n : ℕ) (cs : Children) → length cs ≡ count
-      → name_rule n (name_of ws x) (name_of ws x).role cs ≡ refused (refusal code n (pieces ws t code x count)))
+      → name_rule n (name_of ws x) (name_of ws x).role cs ≡ refused (refusal (number_of code) n (pieces ws t (number_of code) x count)))
       → Planned ws x count (Err code)
   planned_refused code l m f = record {
     well = λ k e. by_not_refused (sym e);
@@ -159,10 +162,10 @@ module _ (bs : List ℕ) (x count : ℕ) {r : NameAt} (e : name_means r ≡ reco
 
   -- and one whose role does not
   pub plan_37 : 1 ≤ r.role → r.role ≤ 3 → {b : Bool} → b ≡ allows (role_of (name_means r)) count → b ≡ false
-      → Planned (names_of bs) x count (Err 37)
+      → Planned (names_of bs) x count (Err BuiltinArity)
   plan_37 l m a y =
       let w : Name = name_of (names_of bs) x in
-      planned_refused (names_of bs) x count 37 (omega arith) (omega arith)
+      planned_refused (names_of bs) x count BuiltinArity (omega arith) (omega arith)
       (λ t n cs q.
       own n cs (role_builtin n w cs (name_means r) l m)
       ∙ builtin_miscounted n w cs (ap (allows w.role) q ∙ sym (own_allows a) ∙ y)
@@ -174,9 +177,9 @@ module _ (bs : List ℕ) (x count : ℕ) {r : NameAt} (e : name_means r ≡ reco
       (λ n cs q. own n cs (role_function n _ cs (name_means r) f) ∙ function_counted n _ cs r.p (q ∙ c) ∙ each_unknown n cs)
       (omega arith)
 
-  pub plan_38 : r.role ≡ 4 → (count ≡ r.p → ⊥) → Planned (names_of bs) x count (Err 38)
+  pub plan_38 : r.role ≡ 4 → (count ≡ r.p → ⊥) → Planned (names_of bs) x count (Err FunctionArity)
   plan_38 f d =
-      planned_refused (names_of bs) x count 38 (omega arith) (omega arith)
+      planned_refused (names_of bs) x count FunctionArity (omega arith) (omega arith)
       (λ t n cs q.
       own n cs (role_function n _ cs (name_means r) f) ∙ function_miscounted n _ cs r.p (λ z. d (sym q ∙ z))
       ∙ ap (λ ps. refused (refusal 38 n ps)) (rw q (sym (pieces_38 (names_of bs) t x count r.p (sym (role_of_lem bs x e) ∙ role_takes (name_means r) f)))))

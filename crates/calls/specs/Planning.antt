@@ -5,6 +5,8 @@ use Rattle.meaning.specs.Image.{Name, name_of, allows, safe}
 use Rattle.meaning.specs.Message.{refusal}
 use Rattle.meaning.specs.Operators.{Checked, refused}
 use Rattle.meaning.specs.Rules.{Children, each_then, first_then, input_rule, len_rule, range_rule, stream_rule, builtin_rule, name_rule}
+use Rattle.codes.specs.declared.Code.{Code}
+use Rattle.codes.specs.Codes.{number_of}
 use Rattle.types.specs.Table.{Tab}
 use Rattle.rules.specs.Outcome.{pieces}
 use Rattle.calls.specs.declared.Rule.{Rule}
@@ -37,13 +39,13 @@ pub record Chosen (s : List ℕ) (k : Rule) : Type 0 where
 
 -- a call's rule, or the code that refuses it
 abbrev pub Plan : Type 0
-Plan = Result Rule ℕ
+Plan = Result Rule Code
 
 -- the call of name x with so many arguments, at whatever node
 pub record Planned (ws : List Name) (x count : ℕ) (p : Plan) : Type 0 where
   pub well : (k : Rule) → p ≡ Ok k → (n : ℕ) (cs : Children) → length cs ≡ count
       → name_rule n (name_of ws x) (name_of ws x).role cs ≡ rule_of k n cs
   pub enough : (k : Rule) → p ≡ Ok k → Enough k count
-  pub ill : (code : ℕ) → p ≡ Err code → (t : Tab) (n : ℕ) (cs : Children) → length cs ≡ count
-      → name_rule n (name_of ws x) (name_of ws x).role cs ≡ refused (refusal code n (pieces ws t code x count))
-  pub codes : (code : ℕ) → p ≡ Err code → (37 ≤ code) × (code ≤ 38)
+  pub ill : (code : Code) → p ≡ Err code → (t : Tab) (n : ℕ) (cs : Children) → length cs ≡ count
+      → name_rule n (name_of ws x) (name_of ws x).role cs ≡ refused (refusal (number_of code) n (pieces ws t (number_of code) x count))
+  pub codes : (code : Code) → p ≡ Err code → (37 ≤ number_of code) × (number_of code ≤ 38)

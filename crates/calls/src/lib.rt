@@ -6,8 +6,8 @@ ghost use Rattle.meaning.specs.Image.{name_count, names_of};
 ghost use Rattle.meaning.proofs.Faults.{Sound};
 ghost use Rattle.calls.specs.Planning.{Chosen, Planned};
 
+use codes::Code;
 use image::{admits, areas, name_at, name_text, roles};
-
 use types;
 use words::same;
 
@@ -63,7 +63,7 @@ pub fn builtin_of(text: &[u8]) -> Rule
     Rule::Each(types::UNKNOWN)
 }
 
-// What becomes of a call of a name: its rule, or 37 or 38 where the count is refused.
+// What becomes of a call of a name: its rule, or the refusal of its count.
 pub type Plan = Result<Rule, Code>;
 
 // "Role, then arity, then the rule of the text": the call of name x with so many arguments.

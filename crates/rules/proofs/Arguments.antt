@@ -16,6 +16,9 @@ use Rattle.types.specs.Table.{Tab, Wf, denote}
 use Rattle.types.specs.Reading.{KindOf}
 use Rattle.types.proofs.Laws.{plain_number, same_number, same_unknown}
 use Rattle.std.specs.Prelude.{Ok, Err}
+use Rattle.codes.specs.declared.Code.{Code}
+use Rattle.codes.specs.Codes.{number_of}
+use Rattle.codes.specs.declared.Code.TheVariants.{Len}
 use Rattle.rules.specs.Outcome.{Decision, types_named, because}
 use Rattle.rules.specs.Leaves.{OfOne, OfNumber, Expected, prompt_rule, sized_rule, bound_rule, callable_rule}
 use Rattle.rules.proofs.Outcomes.{accepts, refuses_one}
@@ -26,22 +29,22 @@ pub maybe_number : {t : Tab} → Wf t → (p i : ℕ) → p < t.n → i < t.n �
 unfolding maybe
 maybe_number w p i hp hi = rw (same_number w i p hi hp, same_unknown w i hi)
 
-module _ (p i c r : ℕ) where
-  pub expect_same : i ≡ p → Expected p i c r (Ok r)
+module _ (p i : ℕ) (c : Code) (r : ℕ) where
+  pub expect_same : i ≡ p → Expected p i (number_of c) r (Ok r)
   unfolding when test◌then◌else◌ ◌or◌
   expect_same e = record {
     says = λ ws t n k w hi hp hr. accepts n r hr (rw (maybe_number w p i hp hi, eq-eqb i p e));
     codes = inl refl;
   }
 
-  pub expect_unknown : (i ≡ p → ⊥) → i ≡ 0 → Expected p i c r (Ok r)
+  pub expect_unknown : (i ≡ p → ⊥) → i ≡ 0 → Expected p i (number_of c) r (Ok r)
   unfolding when test◌then◌else◌ ◌or◌
   expect_unknown d e = record {
     says = λ ws t n k w hi hp hr. accepts n r hr (rw (maybe_number w p i hp hi, ne_eqb i p d, eq-eqb i 0 e));
     codes = inl refl;
   }
 
-  pub expect_not : (i ≡ p → ⊥) → (i ≡ 0 → ⊥) → Expected p i c r (Err (because c i 0))
+  pub expect_not : (i ≡ p → ⊥) → (i ≡ 0 → ⊥) → Expected p i (number_of c) r (Err (because c i 0))
   unfolding when test◌then◌else◌ ◌or◌
   expect_not d e = record {
     says = λ ws t n k w hi hp hr. refuses_one n c i 0 k hi (rw (maybe_number w p i hp hi, ne_eqb i p d, ne_eqb i 0 e));
@@ -127,8 +130,8 @@ module _ {cs : List ℕ} {i k : ℕ} (kind_is : KindOf cs i k) where
         (sized_by t n s w h ∙ rw (sym e ∙ y) (ap ok (sym (plain_number w 1 (omega arith)))));
   }
 
-  pub sized_no : {q : Bool} → q ≡ is_in k (0 ∷ 3 ∷ 8 ∷ 9 ∷ 10 ∷ []) → q ≡ false → OfOne cs sized_rule i (Err (because 40 i 0))
+  pub sized_no : {q : Bool} → q ≡ is_in k (0 ∷ 3 ∷ 8 ∷ 9 ∷ 10 ∷ []) → q ≡ false → OfOne cs sized_rule i (Err (because Len i 0))
   unfolding when test◌then◌else◌
   sized_no e y = record {
-    says = λ ws t n s w h. refuses_one n 40 i 0 names_sized h (sized_by t n s w h ∙ rw (sym e ∙ y));
+    says = λ ws t n s w h. refuses_one n Len i 0 names_sized h (sized_by t n s w h ∙ rw (sym e ∙ y));
   }

@@ -17,6 +17,7 @@ use Rattle.types.specs.Reading.{Known, KindOf, PartOf, CommonOf, IsTuple}
 use Rattle.types.proofs.Laws.{plain_number, unknown_number, same_unknown}
 use Rattle.types.proofs.Readers.{is_tuple}
 use Rattle.std.specs.Prelude.{Ok, Err}
+use Rattle.codes.specs.declared.Code.TheVariants.{DictKey, NotSubscriptable}
 use Rattle.rules.specs.Outcome.{Decision, types_named, because, decision_code, Decides}
 use Rattle.rules.specs.Leaves.{Expected, Keyed, index_place, Indexed}
 use Rattle.rules.proofs.Outcomes.{accepts, refuses_one, refuses_two}
@@ -54,11 +55,11 @@ module _ (k i v : ℕ) where
     codes = inl refl;
   }
 
-  pub key_not : (i ≡ k → ⊥) → (i ≡ 0 → ⊥) → (k ≡ 0 → ⊥) → Keyed k i v (Err (because 47 k i))
+  pub key_not : (i ≡ k → ⊥) → (i ≡ 0 → ⊥) → (k ≡ 0 → ⊥) → Keyed k i v (Err (because DictKey k i))
   unfolding when test◌then◌else◌ ◌or◌
   key_not d f e = record {
     says = λ ws t n w hk hi hv.
-        refuses_two n 47 k i names_key hk hi (rw (key_by w hk hi, ne_eqb i k d, ne_eqb i 0 f, ne_eqb k 0 e));
+        refuses_two n DictKey k i names_key hk hi (rw (key_by w hk hi, ne_eqb i k d, ne_eqb i 0 f, ne_eqb k 0 e));
     codes = inr refl;
   }
 
@@ -109,11 +110,11 @@ module _ {cs : List ℕ} {o k : ℕ} (kind_is : KindOf cs o k) (i : ℕ) where
         accepts _ 0 (omega (arith, w.base)) (rw (own t s w ho z) (ap ok (sym (unknown_number w))));
   }
 
-  pub index_other : (k ≡ 0 → ⊥) → (k ≡ 3 → ⊥) → (k ≡ 8 → ⊥) → (k ≡ 9 → ⊥) → (k ≡ 10 → ⊥) → Indexed cs o i (Err (because 50 o 0))
+  pub index_other : (k ≡ 0 → ⊥) → (k ≡ 3 → ⊥) → (k ≡ 8 → ⊥) → (k ≡ 9 → ⊥) → (k ≡ 10 → ⊥) → Indexed cs o i (Err (because NotSubscriptable o 0))
   unfolding index_rule choose test◌then◌else◌ index_place
   index_other d0 d3 d8 d9 d10 = record {
     says = λ ws t m n s w ho hi.
-        refuses_one m 50 o 0 names_object ho
+        refuses_one m NotSubscriptable o 0 names_object ho
         (rw (own t s w ho refl, ne_eqb k 0 d0, ne_eqb k 3 d3, ne_eqb k 8 d8, ne_eqb k 9 d9, ne_eqb k 10 d10));
   }
 

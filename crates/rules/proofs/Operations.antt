@@ -14,6 +14,10 @@ use Rattle.types.specs.Reading.{Known, KindOf}
 use Rattle.types.proofs.Laws.{plain_number, same_number}
 use Rattle.operators.proofs.Laws.{kind_below, BinaryMeans, binary_means, UnaryMeans, unary_means}
 use Rattle.std.specs.Prelude.{Ok, Err}
+use Rattle.codes.specs.declared.Code.{Code}
+use Rattle.codes.specs.Codes.{number_of}
+use Rattle.codes.specs.declared.Code.TheVariants.{Equality}
+use Rattle.codes.proofs.Laws.{least_code}
 use Rattle.rules.specs.Outcome.{types_named, because}
 use Rattle.rules.specs.Leaves.{OfOne, OfTwo}
 use Rattle.rules.proofs.Outcomes.{accepts, refuses_one, refuses_two}
@@ -41,11 +45,12 @@ module _ {cs : List ℕ} {i k x : ℕ} (op : ℕ) (kind_is : KindOf cs i k) (ans
         accepts n x (omega (arith, w.base)) ((means t n s w h).gives l ∙ ap ok (sym (plain_number w x l)));
   }
 
-  pub unary_refuses : 8 ≤ x → OfOne cs (λ n. unary_rule n (unary_of op)) i (Err (because x i 0))
-  unary_refuses l = record {
+  pub unary_refuses : {c : Code} → number_of c ≡ x → OfOne cs (λ n. unary_rule n (unary_of op)) i (Err (because c i 0))
+  unary_refuses {c} e = record {
     says = λ ws t n s w h.
         let m = means t n s w h in
-        refuses_one n x i 0 (unary_names x (m.code l).0 (m.code l).1) h (m.refuses l);
+        let l : 8 ≤ x = omega (arith, least_code c, e) in
+        refuses_one n c i 0 (rw e (unary_names x (m.code l).0 (m.code l).1)) h (rw e (m.refuses l));
   }
 
 -- ---- two operands
@@ -77,11 +82,12 @@ module _ {cs : List ℕ} {i j k l x : ℕ} (op : ℕ) (left : KindOf cs i k) (ri
         accepts n x (omega (arith, w.base)) ((both_mean t n s w hi hj).gives h ∙ ap ok (sym (plain_number w x h)));
   }
 
-  pub binary_refuses : 8 < x → OfTwo cs (λ n. binary_rule n (binary_of op)) i j (Err (because x i j))
-  binary_refuses h = record {
+  pub binary_refuses : {c : Code} → number_of c ≡ x → OfTwo cs (λ n. binary_rule n (binary_of op)) i j (Err (because c i j))
+  binary_refuses {c} e = record {
     says = λ ws t n s w hi hj.
         let m = both_mean t n s w hi hj in
-        refuses_two n x i j (binary_names x (m.code h).0 (m.code h).1) hi hj (m.refuses h);
+        let h : 8 < x = omega (arith, least_code c, e) in
+        refuses_two n c i j (rw e (binary_names x (m.code h).0 (m.code h).1)) hi hj (rw e (m.refuses h));
   }
 
   pub binary_equal : x ≡ 8 → i ≡ j → OfTwo cs (λ n. binary_rule n (binary_of op)) i j (Ok 2)
@@ -92,10 +98,10 @@ module _ {cs : List ℕ} {i j k l x : ℕ} (op : ℕ) (left : KindOf cs i k) (ri
         ((both_mean t n s w hi hj).compares h ∙ rw (same_number w i j hi hj, eq-eqb i j e) (ap ok (sym (plain_number w 2 (omega arith)))));
   }
 
-  pub binary_differs : x ≡ 8 → (i ≡ j → ⊥) → OfTwo cs (λ n. binary_rule n (binary_of op)) i j (Err (because 32 i j))
+  pub binary_differs : x ≡ 8 → (i ≡ j → ⊥) → OfTwo cs (λ n. binary_rule n (binary_of op)) i j (Err (because Equality i j))
   unfolding when test◌then◌else◌
   binary_differs h e = record {
     says = λ ws t n s w hi hj.
-        refuses_two n 32 i j (binary_names 32 (omega arith) (omega arith)) hi hj
+        refuses_two n Equality i j (binary_names 32 (omega arith) (omega arith)) hi hj
         ((both_mean t n s w hi hj).compares h ∙ rw (same_number w i j hi hj, ne_eqb i j e));
   }

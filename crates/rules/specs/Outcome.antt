@@ -5,6 +5,8 @@ use Rattle.meaning.specs.Image.{Role, plain, exactly, between, any, takes, Name,
 use Rattle.meaning.specs.Message.{Piece, a_type, a_text, a_number, refusal}
 use Rattle.meaning.specs.Operators.{Checked, ok, refused}
 use Rattle.meaning.specs.Rules.{described}
+use Rattle.codes.specs.declared.Code.{Code}
+use Rattle.codes.specs.Codes.{number_of}
 use Rattle.types.specs.Table.{Tab, denote}
 use Rattle.rules.specs.declared.Reason.{Reason}
 
@@ -42,12 +44,12 @@ pieces ws t c a b =
 abbrev pub Decision : Type 0
 Decision = Result ℕ Reason
 
-abbrev pub because : ℕ → ℕ → ℕ → Reason
+abbrev pub because : Code → ℕ → ℕ → Reason
 because c a b = record { code = c; a = a; b = b }
 
 abbrev pub decision_code : Decision → ℕ
 decision_code (Ok n) = 0
-decision_code (Err w) = w.code
+decision_code (Err w) = number_of w.code
 
 abbrev pub decision_number : Decision → ℕ
 decision_number (Ok n) = n
@@ -73,4 +75,4 @@ pub record Decides (ws : List Name) (t : Tab) (r : Checked) (n : ℕ) (d : Decis
   pub second : 2 ≤ types_named (decision_code d) → decision_second d < t.n
   pub small : (decision_code d ≡ 0 → ⊥) → types_named (decision_code d) ≡ 0
       → (decision_first d < 4294967296) × (decision_second d < 4294967296)
-  pub coded : (w : Reason) → d ≡ Err w → w.code ≡ 0 → ⊥
+  pub coded : (w : Reason) → d ≡ Err w → number_of w.code ≡ 0 → ⊥

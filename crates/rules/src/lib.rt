@@ -7,6 +7,7 @@ ghost use Rattle.meaning.specs.Decode.{unary_of, binary_of};
 ghost use Rattle.meaning.specs.Operators.{unary_rule, binary_rule};
 ghost use Rattle.types.specs.Table.{tab, capacity, denote, Made};
 ghost use Rattle.types.specs.Reading.{Known, IsNumber};
+ghost use Rattle.codes.specs.Codes.{number_of};
 ghost use Rattle.rules.specs.Outcome.{types_named, because};
 ghost use Rattle.rules.specs.Leaves.{OfOne, OfTwo, OfNumber, Expected, Keyed, Indexed};
 ghost use Rattle.rules.specs.Leaves.{prompt_rule, sized_rule, bound_rule, callable_rule};
@@ -42,15 +43,13 @@ pub fn unary(table: &[u16], op: u32, i: usize) -> Decision
     requires known { Known table.now i }
     ensures { OfOne table.now (λ n. unary_rule n (unary_of op)) i result }
 {
-    let kind = kind_of(table, i);
-    let answer = unary_answer_of(op, kind as u32);
-    if answer < COMPARE {
-        return Ok(answer as usize);
+    match unary_answer_of(op, kind_of(table, i) as u32) {
+        Ok(ty) => Ok(ty),
+        Err(code) => refused(code, i, 0),
     }
-    refused(answer, i, 0)
 }
 
-// COMPARE asks whether the whole types are equal: their numbers tell.
+// Whether the whole types are equal their numbers tell.
 pub fn binary(table: &[u16], op: u32, left: usize, right: usize) -> Decision
     requires op_bound { op < 14 }
     requires known { (Known table.now left) × (Known table.now right) }
@@ -58,17 +57,12 @@ pub fn binary(table: &[u16], op: u32, left: usize, right: usize) -> Decision
 {
     let l = kind_of(table, left);
     let r = kind_of(table, right);
-    let answer = answer_of(op, l as u32, r as u32);
-    if answer < COMPARE {
-        return Ok(answer as usize);
+    match answer_of(op, l as u32, r as u32) {
+        Answer::Type(ty) => Ok(ty),
+        Answer::Whole if left == right => Ok(types::BOOL),
+        Answer::Whole => refused(Code::Equality, left, right),
+        Answer::Refused(code) => refused(code, left, right),
     }
-    if answer > COMPARE {
-        return refused(answer, left, right);
-    }
-    if left == right {
-        return Ok(types::BOOL);
-    }
-    refused(Code::Equality, left, right)
 }
 
 // ---- List and Dict
@@ -120,7 +114,7 @@ pub fn dict_step(so_far: Pair, next: Pair) -> Option<Pair>
 
 // Type i where the type `wanted` or Unknown is expected: the type `result`, or the code.
 fn expect(wanted: usize, i: usize, code: Code, res: usize) -> Decision
-    ensures { Expected wanted i code res result }
+    ensures { Expected wanted i (number_of code) res result }
 {
     if i == wanted {
         return Ok(res);
@@ -147,8 +141,8 @@ pub fn bound(a: usize) -> Decision
 
 // The first argument of `map` (code 42) or `filter` (code 44).
 pub fn callable(a: usize, code: Code) -> Decision
-    requires { types_named code ≡ 1 }
-    ensures { OfNumber (callable_rule code) a result }
+    requires { types_named (number_of code) ≡ 1 }
+    ensures { OfNumber (callable_rule (number_of code)) a result }
 {
     expect(types::FUNCTION, a, code, a)
 }
@@ -226,8 +220,8 @@ fn streamed_of(table: &[u16], i: usize) -> Option<usize>
     }
 }
 
-fn second_code(filters: bool) -> u32
-    ensures { result ≡ second_code filters }
+fn second_code(filters: bool) -> Code
+    ensures { number_of result ≡ second_code filters }
 {
     if filters {
         return Code::FilterSecond;

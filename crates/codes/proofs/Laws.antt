@@ -1,0 +1,38 @@
+-- The codes of typing refusals are 20 to 50.
+use Rattle.std.proofs.Common.{◌≤◌, arith}
+use Rattle.codes.specs.declared.Code.{Code}
+use Rattle.codes.specs.declared.Code.TheVariants.{Break, Continue, InconsistentReturn, IncompatibleBranches, NotIterable, CannotAssign, UnpackLength, UnpackNonIterable, InvalidTarget, Plus, Times, Compare, Equality, NumericPair, IntOrFloat, ExpectedBool, Condition, BuiltinArity, FunctionArity, Input, Len, Range, MapFirst, MapSecond, FilterFirst, FilterSecond, ListIndex, DictKey, TupleIndex, StringIndex, NotSubscriptable}
+use Rattle.codes.specs.Codes.{number_of}
+
+pub least_code : (c : Code) → 20 ≤ number_of c
+least_code Break = omega arith
+least_code Continue = omega arith
+least_code InconsistentReturn = omega arith
+least_code IncompatibleBranches = omega arith
+least_code NotIterable = omega arith
+least_code CannotAssign = omega arith
+least_code UnpackLength = omega arith
+least_code UnpackNonIterable = omega arith
+least_code InvalidTarget = omega arith
+least_code Plus = omega arith
+least_code Times = omega arith
+least_code Compare = omega arith
+least_code Equality = omega arith
+least_code NumericPair = omega arith
+least_code IntOrFloat = omega arith
+least_code ExpectedBool = omega arith
+least_code Condition = omega arith
+least_code BuiltinArity = omega arith
+least_code FunctionArity = omega arith
+least_code Input = omega arith
+least_code Len = omega arith
+least_code Range = omega arith
+least_code MapFirst = omega arith
+least_code MapSecond = omega arith
+least_code FilterFirst = omega arith
+least_code FilterSecond = omega arith
+least_code ListIndex = omega arith
+least_code DictKey = omega arith
+least_code TupleIndex = omega arith
+least_code StringIndex = omega arith
+least_code NotSubscriptable = omega arith
