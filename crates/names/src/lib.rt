@@ -1,10 +1,9 @@
 // The names that the sheet of an accepted program lists.
 #![tactic(auto)]
 
-ghost use Rattle.std.specs.Prelude.{◌≡◌, false, ◌<◌, length, get_or};
+ghost use Rattle.std.specs.Prelude.{◌≡◌, false, ◌<◌, get_or};
 ghost use Rattle.meaning.proofs.Faults.{Sound};
 ghost use Rattle.meaning.specs.Limits.{most_frames, most_names};
-ghost use Rattle.sheet.specs.Listing.{name_cells};
 ghost use Rattle.names.specs.Names.{Names, ToldOf};
 
 use bound::{Marks, may_bind};
@@ -32,7 +31,7 @@ fn told_of(frames: &Frames, top: usize, bound: &Marks, name: usize) -> Held
 // which is the newest, in order and with their types, and gives their number.
 pub fn list_names(image: &[u8], frames: &Frames, top: usize, names: &mut NameList) -> usize
     requires sound { Sound image.now }
-    requires top_lt_most_frames { (top < most_frames) × (length names.old ≡ name_cells) }
+    requires top_lt_most_frames { top < most_frames }
     ensures { Names image.now frames.now top names.new result }
 {
     let l = areas(image);

@@ -18,11 +18,11 @@ may_bind-bound-requires c =
 
 pub loop-k-init : goal.loop-k-init
 loop-k-init c =
-    naming_first _ _ _ _ c.requires.top_lt_most_frames.1
+    naming_first _ _ _ _
 
 pub told_of-requires : goal.told_of-requires
 told_of-requires c =
-    (c.requires.top_lt_most_frames.0, omega (arith, (sizes c.requires.sound.headed).names))
+    (c.requires.top_lt_most_frames, omega (arith, (sizes c.requires.sound.headed).names))
 
 pub name_at-name-requires-clause-headed : goal.name_at-name-requires-clause-headed
 name_at-name-requires-clause-headed c =
@@ -45,7 +45,7 @@ overflow_cast-ty c =
 
 pub put_name-requires : goal.put_name-requires
 put_name-requires c =
-    (omega (arith, c.loop-k.invariant.few, (sizes c.requires.sound.headed).names), c.loop-k.invariant.long)
+    omega (arith, c.loop-k.invariant.few, (sizes c.requires.sound.headed).names)
 
 pub overflow_add-c : goal.overflow_add-c
 overflow_add-c c =
