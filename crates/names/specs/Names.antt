@@ -5,8 +5,7 @@ use Rattle.meaning.specs.Decode.{tree_of}
 use Rattle.meaning.specs.Frames.{newest, slot_in}
 use Rattle.meaning.specs.Sheet.{listed_slot, listing}
 use Rattle.types.specs.Table.{Tab, Wf}
-use Rattle.frames.specs.Env.{Rows, frames_of, slot_type, held_type, HeldBelow, cell_room, Fit}
-use Rattle.frames.specs.declared.Held.{Held}
+use Rattle.frames.specs.Env.{Rows, Held, frames_of, slot_type, held_type, HeldBelow, cell_room, Fit}
 use Rattle.sheet.specs.declared.list.ListedName.{ListedName}
 use Rattle.sheet.specs.Listing.{Listing, listed}
 

@@ -18,13 +18,10 @@ fn told_of(frames: &Frames, top: usize, bound: &Marks, name: usize) -> Held
     ensures { ToldOf frames.now top name (get_or bound.now name false) result }
 {
     let held = held_in(frames, top, name);
-    if let Held::OfType(ty) = held {
-        return Held::OfType(ty);
-    }
     if bound[name] {
-        return Held::OfType(types::UNKNOWN);
+        return held.or(Some(types::UNKNOWN));
     }
-    Held::Absent
+    held
 }
 
 // Lists "each name that an Assign or a For at module level may bind .. together with all names of the module frame",
@@ -36,15 +33,19 @@ pub fn list_names(image: &[u8], frames: &Frames, top: usize, names: &mut NameLis
 {
     let l = areas(image);
     let bound = may_bind(image);
-    let mut k = 0;
-    let mut c = 0;
-    while k < l.names {
-        if let Held::OfType(ty) = told_of(frames, top, &bound, k) {
+    let mut count = 0;
+    for k in 0..l.names {
+        if let Some(ty) = told_of(frames, top, &bound, k) {
             let name = name_at(image, k);
-            put_name(names, c, l.texts as u32 + name.start, name.len, ty as u32);
-            c += 1;
+            put_name(
+                names,
+                count,
+                l.texts as u32 + name.start,
+                name.len,
+                ty as u32,
+            );
+            count += 1;
         }
-        k += 1;
     }
-    c
+    count
 }
