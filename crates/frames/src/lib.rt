@@ -39,11 +39,7 @@ pub const NO_NAMES: Row = [NO_TYPE; MOST_NAMES];
 pub const EMPTY: Frames = [NO_NAMES; MOST_FRAMES];
 
 // "the node that first made it known: the Variable assigned, or the iterable for a loop name. Unknown has none".
-#[derive(Clone, Copy)]
-pub enum First {
-    Nowhere,
-    At(usize),
-}
+pub type First = Option<usize>;
 
 // A type's number, and its first node.
 #[derive(Clone, Copy)]
@@ -54,11 +50,7 @@ pub struct Binding {
 
 // What one frame holds for a name: nothing, or a type's number. The sheet tells an absent name from one of type
 // Unknown.
-#[derive(Clone, Copy)]
-pub enum Held {
-    Absent,
-    OfType(usize),
-}
+pub type Held = Option<usize>;
 
 // ---- bindings
 
@@ -68,7 +60,7 @@ pub fn blank() -> Binding
 {
     Binding {
         ty: types::UNKNOWN,
-        first: First::Nowhere,
+        first: None,
     }
 }
 
@@ -78,17 +70,17 @@ pub fn since(old: First, node: usize, ty: usize) -> Binding
     ensures { Known old node ty result }
 {
     match old {
-        First::At(kept) => Binding {
+        Some(kept) => Binding {
             ty: ty,
-            first: First::At(kept),
+            first: Some(kept),
         },
-        First::Nowhere => {
+        None => {
             if ty == types::UNKNOWN {
                 return blank();
             }
             Binding {
                 ty: ty,
-                first: First::At(node),
+                first: Some(node),
             }
         }
     }
@@ -100,8 +92,8 @@ pub fn number_of(first: First) -> u32
     ensures { (result ≡ first_number first) × (result ≤ cell_room) }
 {
     match first {
-        First::Nowhere => 0,
-        First::At(node) => node as u32 + 1,
+        None => 0,
+        Some(node) => node as u32 + 1,
     }
 }
 
@@ -109,9 +101,9 @@ pub fn first_of(number: u32) -> First
     ensures { (first_node result ≡ node_from number) × (number ≤ cell_room → FirstBelow cell_room result) }
 {
     if number == 0 {
-        return First::Nowhere;
+        return None;
     }
-    First::At((number - 1) as usize)
+    Some((number - 1) as usize)
 }
 
 // ---- cells
@@ -151,9 +143,9 @@ pub fn held_in(frames: &Frames, top: usize, name: usize) -> Held
 {
     let own = frames[top][name];
     if own % HALF == ABSENT {
-        return Held::Absent;
+        return None;
     }
-    Held::OfType((own % HALF - 1) as usize)
+    Some((own % HALF - 1) as usize)
 }
 
 // "A lookup shall give the type and the node that first made it known", "from the newest frame down; absent is
@@ -262,11 +254,7 @@ pub struct Disagreement {
 }
 
 // How a merge ended: with every name, or at the first whose types clash, which is code 23.
-#[derive(Clone, Copy)]
-pub enum Merge {
-    Whole,
-    Clash(Disagreement),
-}
+pub type Merge = Result<(), Disagreement>;
 
 // Writes the merged names in order, up to the first that clashes.
 pub fn commit(frames: &mut Frames, top: usize, merged: &Row, clashes: &Marks) -> Merge
@@ -279,7 +267,7 @@ pub fn commit(frames: &mut Frames, top: usize, merged: &Row, clashes: &Marks) ->
         let m = merged[x];
         if m % HALF != ABSENT {
             if clashes[x] {
-                return Merge::Clash(Disagreement {
+                return Err(Disagreement {
                     name: x,
                     first: first_in(m),
                 });
@@ -288,5 +276,5 @@ pub fn commit(frames: &mut Frames, top: usize, merged: &Row, clashes: &Marks) ->
         }
         x += 1;
     }
-    Merge::Whole
+    Ok(())
 }

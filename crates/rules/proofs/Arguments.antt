@@ -15,9 +15,8 @@ use Rattle.meaning.specs.Operators.{ok, when}
 use Rattle.types.specs.Table.{Tab, Wf, denote}
 use Rattle.types.specs.Reading.{KindOf}
 use Rattle.types.proofs.Laws.{plain_number, same_number, same_unknown}
-use Rattle.rules.specs.declared.Decision.{Decision}
-use Rattle.rules.specs.declared.Decision.TheVariants.{«Type» as Typed, Refused}
-use Rattle.rules.specs.Outcome.{types_named, because}
+use Rattle.std.specs.Prelude.{Ok, Err}
+use Rattle.rules.specs.Outcome.{Decision, types_named, because}
 use Rattle.rules.specs.Leaves.{OfOne, OfNumber, Expected, prompt_rule, sized_rule, bound_rule, callable_rule}
 use Rattle.rules.proofs.Outcomes.{accepts, refuses_one}
 
@@ -28,21 +27,21 @@ unfolding maybe
 maybe_number w p i hp hi = rw (same_number w i p hi hp, same_unknown w i hi)
 
 module _ (p i c r : ℕ) where
-  pub expect_same : i ≡ p → Expected p i c r (Typed r)
+  pub expect_same : i ≡ p → Expected p i c r (Ok r)
   unfolding when test◌then◌else◌ ◌or◌
   expect_same e = record {
     says = λ ws t n k w hi hp hr. accepts n r hr (rw (maybe_number w p i hp hi, eq-eqb i p e));
     codes = inl refl;
   }
 
-  pub expect_unknown : (i ≡ p → ⊥) → i ≡ 0 → Expected p i c r (Typed r)
+  pub expect_unknown : (i ≡ p → ⊥) → i ≡ 0 → Expected p i c r (Ok r)
   unfolding when test◌then◌else◌ ◌or◌
   expect_unknown d e = record {
     says = λ ws t n k w hi hp hr. accepts n r hr (rw (maybe_number w p i hp hi, ne_eqb i p d, eq-eqb i 0 e));
     codes = inl refl;
   }
 
-  pub expect_not : (i ≡ p → ⊥) → (i ≡ 0 → ⊥) → Expected p i c r (Refused (because c i 0))
+  pub expect_not : (i ≡ p → ⊥) → (i ≡ 0 → ⊥) → Expected p i c r (Err (because c i 0))
   unfolding when test◌then◌else◌ ◌or◌
   expect_not d e = record {
     says = λ ws t n k w hi hp hr. refuses_one n c i 0 k hi (rw (maybe_number w p i hp hi, ne_eqb i p d, ne_eqb i 0 e));
@@ -120,7 +119,7 @@ module _ {cs : List ℕ} {i k : ℕ} (kind_is : KindOf cs i k) where
       → sized_rule n (denote t i) ≡ when (is_in k (0 ∷ 3 ∷ 8 ∷ 9 ∷ 10 ∷ [])) int 40 n (a_type (denote t i) ∷ [])
   sized_by t n s w h = rw (kind_is.says t s w h)
 
-  pub sized_yes : {q : Bool} → q ≡ is_in k (0 ∷ 3 ∷ 8 ∷ 9 ∷ 10 ∷ []) → q ≡ true → OfOne cs sized_rule i (Typed 1)
+  pub sized_yes : {q : Bool} → q ≡ is_in k (0 ∷ 3 ∷ 8 ∷ 9 ∷ 10 ∷ []) → q ≡ true → OfOne cs sized_rule i (Ok 1)
   unfolding when test◌then◌else◌ plain
   sized_yes e y = record {
     says = λ ws t n s w h.
@@ -128,7 +127,7 @@ module _ {cs : List ℕ} {i k : ℕ} (kind_is : KindOf cs i k) where
         (sized_by t n s w h ∙ rw (sym e ∙ y) (ap ok (sym (plain_number w 1 (omega arith)))));
   }
 
-  pub sized_no : {q : Bool} → q ≡ is_in k (0 ∷ 3 ∷ 8 ∷ 9 ∷ 10 ∷ []) → q ≡ false → OfOne cs sized_rule i (Refused (because 40 i 0))
+  pub sized_no : {q : Bool} → q ≡ is_in k (0 ∷ 3 ∷ 8 ∷ 9 ∷ 10 ∷ []) → q ≡ false → OfOne cs sized_rule i (Err (because 40 i 0))
   unfolding when test◌then◌else◌
   sized_no e y = record {
     says = λ ws t n s w h. refuses_one n 40 i 0 names_sized h (sized_by t n s w h ∙ rw (sym e ∙ y));

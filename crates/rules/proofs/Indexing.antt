@@ -16,9 +16,8 @@ use Rattle.types.specs.Table.{Tab, Wf, denote, Means}
 use Rattle.types.specs.Reading.{Known, KindOf, PartOf, CommonOf, IsTuple}
 use Rattle.types.proofs.Laws.{plain_number, unknown_number, same_unknown}
 use Rattle.types.proofs.Readers.{is_tuple}
-use Rattle.rules.specs.declared.Decision.{Decision}
-use Rattle.rules.specs.declared.Decision.TheVariants.{«Type» as Typed, Refused}
-use Rattle.rules.specs.Outcome.{types_named, because, decision_code, Decides}
+use Rattle.std.specs.Prelude.{Ok, Err}
+use Rattle.rules.specs.Outcome.{Decision, types_named, because, decision_code, Decides}
 use Rattle.rules.specs.Leaves.{Expected, Keyed, index_place, Indexed}
 use Rattle.rules.proofs.Outcomes.{accepts, refuses_one, refuses_two}
 use Rattle.rules.proofs.Arguments.{maybe_number}
@@ -34,28 +33,28 @@ module _ (k i v : ℕ) where
       → (maybe (denote t k) (denote t i) or same (denote t k) unknown) ≡ (eqb i k or eqb i 0 or eqb k 0)
   key_by w hk hi = rw (maybe_number w k i hk hi, same_unknown w k hk)
 
-  pub key_same : i ≡ k → Keyed k i v (Typed v)
+  pub key_same : i ≡ k → Keyed k i v (Ok v)
   unfolding when test◌then◌else◌ ◌or◌
   key_same e = record {
     says = λ ws t n w hk hi hv. accepts n v hv (rw (key_by w hk hi, eq-eqb i k e));
     codes = inl refl;
   }
 
-  pub key_unknown : (i ≡ k → ⊥) → i ≡ 0 → Keyed k i v (Typed v)
+  pub key_unknown : (i ≡ k → ⊥) → i ≡ 0 → Keyed k i v (Ok v)
   unfolding when test◌then◌else◌ ◌or◌
   key_unknown d e = record {
     says = λ ws t n w hk hi hv. accepts n v hv (rw (key_by w hk hi, ne_eqb i k d, eq-eqb i 0 e));
     codes = inl refl;
   }
 
-  pub key_any : (i ≡ k → ⊥) → (i ≡ 0 → ⊥) → k ≡ 0 → Keyed k i v (Typed v)
+  pub key_any : (i ≡ k → ⊥) → (i ≡ 0 → ⊥) → k ≡ 0 → Keyed k i v (Ok v)
   unfolding when test◌then◌else◌ ◌or◌
   key_any d f e = record {
     says = λ ws t n w hk hi hv. accepts n v hv (rw (key_by w hk hi, ne_eqb i k d, ne_eqb i 0 f, eq-eqb k 0 e));
     codes = inl refl;
   }
 
-  pub key_not : (i ≡ k → ⊥) → (i ≡ 0 → ⊥) → (k ≡ 0 → ⊥) → Keyed k i v (Refused (because 47 k i))
+  pub key_not : (i ≡ k → ⊥) → (i ≡ 0 → ⊥) → (k ≡ 0 → ⊥) → Keyed k i v (Err (because 47 k i))
   unfolding when test◌then◌else◌ ◌or◌
   key_not d f e = record {
     says = λ ws t n w hk hi hv.
@@ -103,14 +102,14 @@ module _ {cs : List ℕ} {o k : ℕ} (kind_is : KindOf cs o k) (i : ℕ) where
   own : (t : Tab) → t.cells ≡ cs → Wf t → o < t.n → {x : ℕ} → k ≡ x → kind (denote t o) ≡ x
   own t s w h e = sym (kind_is.says t s w h) ∙ e
 
-  pub index_unknown : k ≡ 0 → Indexed cs o i (Typed 0)
+  pub index_unknown : k ≡ 0 → Indexed cs o i (Ok 0)
   unfolding index_rule choose test◌then◌else◌
   index_unknown z = record {
     says = λ ws t m n s w ho hi.
         accepts _ 0 (omega (arith, w.base)) (rw (own t s w ho z) (ap ok (sym (unknown_number w))));
   }
 
-  pub index_other : (k ≡ 0 → ⊥) → (k ≡ 3 → ⊥) → (k ≡ 8 → ⊥) → (k ≡ 9 → ⊥) → (k ≡ 10 → ⊥) → Indexed cs o i (Refused (because 50 o 0))
+  pub index_other : (k ≡ 0 → ⊥) → (k ≡ 3 → ⊥) → (k ≡ 8 → ⊥) → (k ≡ 9 → ⊥) → (k ≡ 10 → ⊥) → Indexed cs o i (Err (because 50 o 0))
   unfolding index_rule choose test◌then◌else◌ index_place
   index_other d0 d3 d8 d9 d10 = record {
     says = λ ws t m n s w ho hi.

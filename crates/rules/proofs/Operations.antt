@@ -13,7 +13,7 @@ use Rattle.types.specs.Table.{Tab, Wf, denote}
 use Rattle.types.specs.Reading.{Known, KindOf}
 use Rattle.types.proofs.Laws.{plain_number, same_number}
 use Rattle.operators.proofs.Laws.{kind_below, BinaryMeans, binary_means, UnaryMeans, unary_means}
-use Rattle.rules.specs.declared.Decision.TheVariants.{«Type» as Typed, Refused}
+use Rattle.std.specs.Prelude.{Ok, Err}
 use Rattle.rules.specs.Outcome.{types_named, because}
 use Rattle.rules.specs.Leaves.{OfOne, OfTwo}
 use Rattle.rules.proofs.Outcomes.{accepts, refuses_one, refuses_two}
@@ -35,13 +35,13 @@ module _ {cs : List ℕ} {i k x : ℕ} (op : ℕ) (kind_is : KindOf cs i k) (ans
   means : (t : Tab) (n : ℕ) → t.cells ≡ cs → Wf t → i < t.n → UnaryMeans n op (denote t i) x
   means t n s w h = unary_means n op (denote t i) (kind_is.says t s w h) answer
 
-  pub unary_gives : x < 8 → OfOne cs (λ n. unary_rule n (unary_of op)) i (Typed x)
+  pub unary_gives : x < 8 → OfOne cs (λ n. unary_rule n (unary_of op)) i (Ok x)
   unary_gives l = record {
     says = λ ws t n s w h.
         accepts n x (omega (arith, w.base)) ((means t n s w h).gives l ∙ ap ok (sym (plain_number w x l)));
   }
 
-  pub unary_refuses : 8 ≤ x → OfOne cs (λ n. unary_rule n (unary_of op)) i (Refused (because x i 0))
+  pub unary_refuses : 8 ≤ x → OfOne cs (λ n. unary_rule n (unary_of op)) i (Err (because x i 0))
   unary_refuses l = record {
     says = λ ws t n s w h.
         let m = means t n s w h in
@@ -71,20 +71,20 @@ module _ {cs : List ℕ} {i j k l x : ℕ} (op : ℕ) (left : KindOf cs i k) (ri
   both_mean : (t : Tab) (n : ℕ) → t.cells ≡ cs → Wf t → i < t.n → j < t.n → BinaryMeans n op (denote t i) (denote t j) x
   both_mean t n s w hi hj = binary_means n op (denote t i) (denote t j) (left.says t s w hi) (right.says t s w hj) answer
 
-  pub binary_gives : x < 8 → OfTwo cs (λ n. binary_rule n (binary_of op)) i j (Typed x)
+  pub binary_gives : x < 8 → OfTwo cs (λ n. binary_rule n (binary_of op)) i j (Ok x)
   binary_gives h = record {
     says = λ ws t n s w hi hj.
         accepts n x (omega (arith, w.base)) ((both_mean t n s w hi hj).gives h ∙ ap ok (sym (plain_number w x h)));
   }
 
-  pub binary_refuses : 8 < x → OfTwo cs (λ n. binary_rule n (binary_of op)) i j (Refused (because x i j))
+  pub binary_refuses : 8 < x → OfTwo cs (λ n. binary_rule n (binary_of op)) i j (Err (because x i j))
   binary_refuses h = record {
     says = λ ws t n s w hi hj.
         let m = both_mean t n s w hi hj in
         refuses_two n x i j (binary_names x (m.code h).0 (m.code h).1) hi hj (m.refuses h);
   }
 
-  pub binary_equal : x ≡ 8 → i ≡ j → OfTwo cs (λ n. binary_rule n (binary_of op)) i j (Typed 2)
+  pub binary_equal : x ≡ 8 → i ≡ j → OfTwo cs (λ n. binary_rule n (binary_of op)) i j (Ok 2)
   unfolding when test◌then◌else◌ plain
   binary_equal h e = record {
     says = λ ws t n s w hi hj.
@@ -92,7 +92,7 @@ module _ {cs : List ℕ} {i j k l x : ℕ} (op : ℕ) (left : KindOf cs i k) (ri
         ((both_mean t n s w hi hj).compares h ∙ rw (same_number w i j hi hj, eq-eqb i j e) (ap ok (sym (plain_number w 2 (omega arith)))));
   }
 
-  pub binary_differs : x ≡ 8 → (i ≡ j → ⊥) → OfTwo cs (λ n. binary_rule n (binary_of op)) i j (Refused (because 32 i j))
+  pub binary_differs : x ≡ 8 → (i ≡ j → ⊥) → OfTwo cs (λ n. binary_rule n (binary_of op)) i j (Err (because 32 i j))
   unfolding when test◌then◌else◌
   binary_differs h e = record {
     says = λ ws t n s w hi hj.

@@ -1,7 +1,7 @@
 // What one node of an expression decides, given the types of its children: the rules of T's tc_expr, without its walk.
 #![tactic(auto)]
 
-ghost use Rattle.std.specs.Prelude.{◌≡◌, [], ◌∷◌, ◌<◌};
+ghost use Rattle.std.specs.Prelude.{◌≡◌, [], ◌∷◌, ◌<◌, Err};
 ghost use Rattle.meaning.specs.Base.{is_in};
 ghost use Rattle.meaning.specs.Decode.{unary_of, binary_of};
 ghost use Rattle.meaning.specs.Operators.{unary_rule, binary_rule};
@@ -17,7 +17,7 @@ pub mod codes;
 
 use operators::{COMPARE, answer_of, unary_answer_of};
 use types;
-use types::{Counts, Formed, Perhaps, common_of, element_of, form, kind_of, part_of, second_of};
+use types::{Counts, Formed, common_of, element_of, form, kind_of, part_of, second_of};
 
 // A refusal as it is decided: its code and the two numbers that its message needs.
 #[derive(Clone, Copy)]
@@ -28,16 +28,12 @@ pub struct Reason {
 }
 
 // What T's `SemanticResult<Ty>` is here: the number of a type, or why there is none.
-#[derive(Clone, Copy)]
-pub enum Decision {
-    Type(usize),
-    Refused(Reason),
-}
+pub type Decision = Result<usize, Reason>;
 
 fn refused(code: u32, a: usize, b: usize) -> Decision
-    ensures { result ≡ Decision.Refused (because code a b) }
+    ensures { result ≡ Err (because code a b) }
 {
-    Decision::Refused(Reason { code, a, b })
+    Err(Reason { code, a, b })
 }
 
 // ---- operators
@@ -50,7 +46,7 @@ pub fn unary(table: &[u16], op: u32, i: usize) -> Decision
     let kind = kind_of(table, i);
     let answer = unary_answer_of(op, kind as u32);
     if answer < COMPARE {
-        return Decision::Type(answer as usize);
+        return Ok(answer as usize);
     }
     refused(answer, i, 0)
 }
@@ -65,45 +61,27 @@ pub fn binary(table: &[u16], op: u32, left: usize, right: usize) -> Decision
     let r = kind_of(table, right);
     let answer = answer_of(op, l as u32, r as u32);
     if answer < COMPARE {
-        return Decision::Type(answer as usize);
+        return Ok(answer as usize);
     }
     if answer > COMPARE {
         return refused(answer, left, right);
     }
     if left == right {
-        return Decision::Type(types::BOOL);
+        return Ok(types::BOOL);
     }
     refused(codes::EQUALITY, left, right)
 }
 
 // ---- List and Dict
 
-// The element type after one more element, and whether the List ends with it.
-#[derive(Clone, Copy)]
-pub struct Step {
-    pub stop: bool,
-    pub number: usize,
-}
-
-// "List stops at the first mismatch."
-pub fn list_step(so_far: usize, next: usize) -> Step
-    ensures { ListStep so_far next result.stop result.number }
+// "List stops at the first mismatch": the element type after one more element, or none where the List ends, of Unknown.
+pub fn list_step(so_far: usize, next: usize) -> Option<usize>
+    ensures { ListStep so_far next result }
 {
-    if so_far == types::UNKNOWN {
-        return Step {
-            stop: false,
-            number: next,
-        };
-    }
-    if so_far == next {
-        return Step {
-            stop: false,
-            number: next,
-        };
-    }
-    Step {
-        stop: true,
-        number: types::UNKNOWN,
+    if so_far == types::UNKNOWN || so_far == next {
+        Some(next)
+    } else {
+        None
     }
 }
 
@@ -111,47 +89,31 @@ pub fn list_step(so_far: usize, next: usize) -> Step
 fn joined_of(a: usize, b: usize) -> usize
     ensures { JoinedOf a b result }
 {
-    if a == types::UNKNOWN {
-        return b;
+    if a == types::UNKNOWN || a == b {
+        b
+    } else {
+        types::UNKNOWN
     }
-    if a == b {
-        return b;
-    }
-    types::UNKNOWN
 }
 
-// The key and value types after one more pair, and whether the Dict ends with them.
+// The types of a Dict's keys and values.
 #[derive(Clone, Copy)]
 pub struct Pair {
-    pub stop: bool,
     pub key: usize,
     pub value: usize,
 }
 
-// "Dict stops only when key and value are both Unknown after a pair."
-pub fn dict_step(k: usize, v: usize, a: usize, b: usize) -> Pair
-    ensures { DictStep k v a b result.stop result.key result.value }
+// "Dict stops only when key and value are both Unknown after a pair": the types after one more pair, or none where the
+// Dict ends, of Unknown and Unknown.
+pub fn dict_step(so_far: Pair, next: Pair) -> Option<Pair>
+    ensures { DictStep so_far next result }
 {
-    let key = joined_of(k, a);
-    let value = joined_of(v, b);
-    if key != types::UNKNOWN {
-        return Pair {
-            stop: false,
-            key,
-            value,
-        };
-    }
-    if value != types::UNKNOWN {
-        return Pair {
-            stop: false,
-            key,
-            value,
-        };
-    }
-    Pair {
-        stop: true,
-        key,
-        value,
+    let key = joined_of(so_far.key, next.key);
+    let value = joined_of(so_far.value, next.value);
+    if key != types::UNKNOWN || value != types::UNKNOWN {
+        Some(Pair { key, value })
+    } else {
+        None
     }
 }
 
@@ -162,10 +124,10 @@ fn expect(wanted: usize, i: usize, code: u32, res: usize) -> Decision
     ensures { Expected wanted i code res result }
 {
     if i == wanted {
-        return Decision::Type(res);
+        return Ok(res);
     }
     if i == types::UNKNOWN {
-        return Decision::Type(res);
+        return Ok(res);
     }
     refused(code, i, 0)
 }
@@ -209,7 +171,7 @@ pub fn len(table: &[u16], a: usize) -> Decision
 {
     let kind = kind_of(table, a);
     if has_length(kind) {
-        return Decision::Type(types::INT);
+        return Ok(types::INT);
     }
     refused(codes::LEN, a, 0)
 }
@@ -221,13 +183,13 @@ fn key(wanted: usize, i: usize, value: usize) -> Decision
     ensures { Keyed wanted i value result }
 {
     if i == wanted {
-        return Decision::Type(value);
+        return Ok(value);
     }
     if i == types::UNKNOWN {
-        return Decision::Type(value);
+        return Ok(value);
     }
     if wanted == types::UNKNOWN {
-        return Decision::Type(value);
+        return Ok(value);
     }
     refused(codes::DICT_KEY, wanted, i)
 }
@@ -238,7 +200,7 @@ pub fn index(table: &[u16], object: usize, index: usize) -> Decision
 {
     let kind = kind_of(table, object);
     match kind {
-        types::UNKNOWN => Decision::Type(types::UNKNOWN),
+        types::UNKNOWN => Ok(types::UNKNOWN),
         types::STRING => expect(types::INT, index, codes::STRING_INDEX, types::STRING),
         types::LIST => expect(types::INT, index, codes::LIST_INDEX, part_of(table, object)),
         types::DICT => key(part_of(table, object), index, second_of(table, object)),
@@ -255,16 +217,12 @@ pub fn index(table: &[u16], object: usize, index: usize) -> Decision
 // ---- the second argument of map and filter
 
 // What a walk over a value of type i gives: "map refuses Dict and Tuple", and filter does as map.
-fn streamed_of(table: &[u16], i: usize) -> Perhaps
+fn streamed_of(table: &[u16], i: usize) -> Option<usize>
     requires { IsNumber table.now i }
-    ensures { StreamedOf table.now i result.there result.number }
+    ensures { StreamedOf table.now i result }
 {
-    let kind = kind_of(table, i);
-    match kind {
-        types::DICT | types::TUPLE => Perhaps {
-            there: false,
-            number: 0,
-        },
+    match kind_of(table, i) {
+        types::DICT | types::TUPLE => None,
         _ => element_of(table, i),
     }
 }
@@ -314,17 +272,15 @@ pub fn stream(table: &mut [u16], counts: Counts, filters: bool, b: usize) -> Str
         b
         result.decision }
 {
-    let element = streamed_of(table, b);
-    if element.there {
-        let formed = iterator(table, counts, filters, element.number);
-        let after = formed.counts;
+    let Some(element) = streamed_of(table, b) else {
         return Streamed {
-            decision: Decision::Type(formed.number),
-            counts: after,
+            decision: refused(second_code(filters), b, 0),
+            counts,
         };
-    }
+    };
+    let formed = iterator(table, counts, filters, element);
     Streamed {
-        decision: refused(second_code(filters), b, 0),
-        counts,
+        decision: Ok(formed.number),
+        counts: formed.counts,
     }
 }

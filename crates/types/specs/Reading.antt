@@ -1,6 +1,6 @@
 -- What the readers of the table tell of number i, whatever the counts of the table that the cells cs hold; and what they need.
-use Rattle.std.specs.Prelude.{◌≡◌, Bool, List, [], ◌∷◌, ℕ, suc, ◌+◌, ◌≤◌, ◌<◌, eqb, length}
-use Rattle.std.proofs.Math.Option.{Option, none, some}
+use Rattle.std.specs.Prelude.{◌≡◌, List, [], ◌∷◌, Option, Some, None, ℕ, suc, ◌+◌, ◌≤◌, ◌<◌, eqb, length}
+use Rattle.std.proofs.Math.Option.{Option as Perhaps, none, some}
 use Rattle.meaning.specs.Base.{test◌then◌else◌, all}
 use Rattle.meaning.specs.Types.{Ty, kind, parts, part, common}
 use Rattle.meaning.specs.Rules.{element_of}
@@ -78,15 +78,16 @@ pub record CommonOf (cs : List ℕ) (i r : ℕ) : Type 0 where
 -- ---- answers that may be none
 
 -- a type by its number, or none
-unfoldable pub perhaps : Tab → Bool → ℕ → Option Ty
-perhaps t there r = test there then some (denote t r) else none
+unfoldable pub perhaps : Tab → Option ℕ → Perhaps Ty
+perhaps t None = none
+perhaps t (Some r) = some (denote t r)
 
 -- what a walk over a value of the type gives
-pub record ElementOf (cs : List ℕ) (i : ℕ) (there : Bool) (r : ℕ) : Type 0 where
-  pub says : (t : Tab) → t.cells ≡ cs → Wf t → i < t.n → element_of (denote t i) ≡ perhaps t there r
-  pub below : (t : Tab) → t.cells ≡ cs → Wf t → i < t.n → r < t.n
+pub record ElementOf (cs : List ℕ) (i : ℕ) (r : Option ℕ) : Type 0 where
+  pub says : (t : Tab) → t.cells ≡ cs → Wf t → i < t.n → element_of (denote t i) ≡ perhaps t r
+  pub below : (t : Tab) → t.cells ≡ cs → Wf t → i < t.n → (k : ℕ) → r ≡ Some k → k < t.n
 
 -- what an old type a and a new type b agree on: no look into the table tells it
-pub record Agreement (a b : ℕ) (there : Bool) (r : ℕ) : Type 0 where
-  pub says : (t : Tab) → Wf t → a < t.n → b < t.n → agreed (denote t a) (denote t b) ≡ perhaps t there r
-  pub below : (t : Tab) → a < t.n → b < t.n → r < t.n
+pub record Agreement (a b : ℕ) (r : Option ℕ) : Type 0 where
+  pub says : (t : Tab) → Wf t → a < t.n → b < t.n → agreed (denote t a) (denote t b) ≡ perhaps t r
+  pub below : (t : Tab) → a < t.n → b < t.n → (k : ℕ) → r ≡ Some k → k < t.n

@@ -96,13 +96,6 @@ pub struct Formed {
     pub counts: Counts,
 }
 
-// A type's number, or none.
-#[derive(Clone, Copy)]
-pub struct Perhaps {
-    pub there: bool,
-    pub number: usize,
-}
-
 fn cell(table: &[u16], at: usize) -> usize
     requires { at < length table.now }
     ensures { result ≡ get_or table.now at 0 }
@@ -444,67 +437,29 @@ pub fn common_of(table: &[u16], i: usize) -> usize
 }
 
 // What a walk over a value of type i gives.
-pub fn element_of(table: &[u16], i: usize) -> Perhaps
+pub fn element_of(table: &[u16], i: usize) -> Option<usize>
     requires { IsNumber table.now i }
-    ensures { ElementOf table.now i result.there result.number }
+    ensures { ElementOf table.now i result }
 {
-    let kind = cell(table, RECORD * i);
-    if kind == TUPLE {
-        return Perhaps {
-            there: true,
-            number: common_of(table, i),
-        };
-    }
-    if kind >= LIST {
-        return Perhaps {
-            there: true,
-            number: part_of(table, i),
-        };
-    }
-    match kind {
-        UNKNOWN => Perhaps {
-            there: true,
-            number: UNKNOWN,
-        },
-        STRING => Perhaps {
-            there: true,
-            number: STRING,
-        },
-        RANGE => Perhaps {
-            there: true,
-            number: INT,
-        },
-        _ => Perhaps {
-            there: false,
-            number: UNKNOWN,
-        },
+    match cell(table, RECORD * i) {
+        UNKNOWN => Some(UNKNOWN),
+        STRING => Some(STRING),
+        RANGE => Some(INT),
+        TUPLE => Some(common_of(table, i)),
+        LIST..=FILTER_ITER => Some(part_of(table, i)),
+        _ => None,
     }
 }
 
 // What an old type a and a new type b agree on: Unknown gives way, and two others must be equal.
-pub fn agreed(a: usize, b: usize) -> Perhaps
-    ensures { Agreement a b result.there result.number }
+pub fn agreed(a: usize, b: usize) -> Option<usize>
+    ensures { Agreement a b result }
 {
-    if a == UNKNOWN {
-        return Perhaps {
-            there: true,
-            number: b,
-        };
-    }
-    if a == b {
-        return Perhaps {
-            there: true,
-            number: b,
-        };
-    }
-    if b == UNKNOWN {
-        return Perhaps {
-            there: true,
-            number: a,
-        };
-    }
-    Perhaps {
-        there: false,
-        number: a,
+    if a == UNKNOWN || a == b {
+        Some(b)
+    } else if b == UNKNOWN {
+        Some(a)
+    } else {
+        None
     }
 }

@@ -6,16 +6,16 @@ use Rattle.frames.proofs.number_of.Goals as goal
 
 pub overflow_cast-result : goal.overflow_cast-result
 overflow_cast-result c =
-    let l = at_below c.in-At.is c.requires in omega arith
+    let l = at_below c.in-Some.is c.requires in omega arith
 
 pub overflow_add-result : goal.overflow_add-result
 overflow_add-result c =
-    let l = at_below c.in-At.is c.requires in omega arith
+    let l = at_below c.in-Some.is c.requires in omega arith
 
-pub returns-in-Nowhere : goal.returns-in-Nowhere
-returns-in-Nowhere c =
-    rw c.in-Nowhere.is (refl, omega arith)
+pub returns-in-None : goal.returns-in-None
+returns-in-None c =
+    rw c.in-None.is (refl, omega arith)
 
-pub returns-in-At : goal.returns-in-At
-returns-in-At c =
-    let l = at_below c.in-At.is c.requires in (rw c.in-At.is (add-one _), omega arith)
+pub returns-in-Some : goal.returns-in-Some
+returns-in-Some c =
+    let l = at_below c.in-Some.is c.requires in (rw c.in-Some.is (add-one _), omega arith)

@@ -4,8 +4,8 @@ use Rattle.rules.proofs.streamed_of.Goals as goal
 
 pub returns-in-9 : goal.returns-in-9
 returns-in-9 c =
-    stream_none c.kind_of-kind.ensures (omega arith) (omega arith)
+    stream_none c.kind_of.ensures (omega arith) (omega arith)
 
 pub returns-in_default : goal.returns-in_default
 returns-in_default c =
-    stream_other c.kind_of-kind.ensures (omega arith) (omega arith) c.element_of.ensures
+    stream_other c.kind_of.ensures (omega arith) (omega arith) c.element_of.ensures
