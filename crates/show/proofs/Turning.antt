@@ -22,6 +22,7 @@ use Rattle.sheet.specs.Listing.{start_at, length_at, type_at, PutName, listed, l
 use Rattle.sheet.specs.Listing.{entry_at as entry_in}
 use Rattle.std.specs.Prelude.{Option, unwrap_or}
 use Rattle.show.specs.Words.{IsOpened, entry_at, entry_of, largest_alone}
+use Rattle.sheet.specs.declared.list.ListedName.{ListedName}
 use Rattle.show.specs.declared.Opened.{Opened}
 use Rattle.show.proofs.Names.{its_names, its_sheet, names_many, entry_is, name_inside}
 
@@ -46,7 +47,7 @@ module _ {o : Opened} (w : IsOpened o) where
     name_short = (its_names w).short k h
 
     -- a list of name k alone
-    module _ {old new : List ℕ} {start size ty : ℕ} (p : PutName old new 0 start size ty) (a : start ≡ start_at o.names.now k) (b : size ≡ length_at o.names.now k) (c : ty ≡ type_at o.names.now k) where
+    module _ {old new : List ListedName} {start size ty : ℕ} (p : PutName old new 0 start size ty) (a : start ≡ start_at o.names.now k) (b : size ≡ length_at o.names.now k) (c : ty ≡ type_at o.names.now k) where
       only : (j : ℕ) → j < 1 → j ≡ 0
       only j l = omega (arith, l)
 

@@ -21,6 +21,7 @@ use Rattle.sheet.specs.Reading.{Reads}
 use Rattle.std.specs.Prelude.{Some, None, Ok, Err}
 use Rattle.show.specs.Words.{Tells, Telling, telling_code, telling_length}
 use Rattle.show.specs.declared.Untold.TheVariants.{NoRoom, NoSheet}
+use Rattle.sheet.specs.declared.list.ListedName.{ListedName}
 use Rattle.sheet.specs.declared.reader.ReadSheet.{ReadSheet}
 
 -- ---- a text is handed out
@@ -46,7 +47,7 @@ front_is {d} {s} {e} {n} p =
 
 -- ---- a sheet, or none
 
-module _ {bs cs cells : List ℕ} (r : Reads bs None cs cells) where
+module _ {bs cs : List ℕ} {cells : List ListedName} (r : Reads bs None cs cells) where
   none_read : read_sheet bs ≡ none
   none_read = read_no bs (sym r.stands_is)
 
@@ -59,7 +60,7 @@ module _ {bs cs cells : List ℕ} (r : Reads bs None cs cells) where
   pub new_none : (old : List ℕ) (room : ℕ) (out : List ℕ) → Tells (changes_answer old bs room) 12 0 out out
   new_none old room out = rw (changes_none old bs room (inr none_read)) (refused 12 out)
 
-module _ {bs cs cells : List ℕ} {s : ReadSheet} (r : Reads bs (Some s) cs cells) where
+module _ {bs cs : List ℕ} {cells : List ListedName} {s : ReadSheet} (r : Reads bs (Some s) cs cells) where
   its_sheet : SheetOf bs (entries_in bs)
   its_sheet = sheet_is bs (sym r.stands_is)
 
@@ -72,7 +73,7 @@ module _ {bs cs cells : List ℕ} {s : ReadSheet} (r : Reads bs (Some s) cs cell
   pub shown_all : (room : ℕ) {t : List ℕ} → t ≡ entries_text (entries_in bs) → show_answer bs room ≡ in_words room t
   shown_all room e = rw e (show_some bs room its_read)
 
-  module _ {bs₂ cs₂ cells₂ : List ℕ} {s₂ : ReadSheet} (r₂ : Reads bs₂ (Some s₂) cs₂ cells₂) where
+  module _ {bs₂ cs₂ : List ℕ} {cells₂ : List ListedName} {s₂ : ReadSheet} (r₂ : Reads bs₂ (Some s₂) cs₂ cells₂) where
     other_sheet : SheetOf bs₂ (entries_in bs₂)
     other_sheet = sheet_is bs₂ (sym r₂.stands_is)
 

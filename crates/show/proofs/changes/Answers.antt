@@ -7,14 +7,14 @@ use Rattle.show.proofs.changes.Goals as goal
 
 pub read-requires : goal.read-requires
 unfolding capacity
-read-requires c = (refl, refl, fresh_filled 12336 1 (omega arith) (omega arith) (omega arith))
+read-requires c = (refl, fresh_filled 12336 1 (omega arith) (omega arith) (omega arith))
 
 pub returns-in_default : goal.returns-in_default
 returns-in_default c = old_none c.in_default.ensures _ _ _
 
 pub read-requires-2 : goal.read-requires-2
 unfolding capacity
-read-requires-2 c = (refl, refl, fresh_filled 12336 1 (omega arith) (omega arith) (omega arith))
+read-requires-2 c = (refl, fresh_filled 12336 1 (omega arith) (omega arith) (omega arith))
 
 pub returns-in_default-read : goal.returns-in_default-read
 returns-in_default-read c = new_none c.in_default-read.ensures _ _ _

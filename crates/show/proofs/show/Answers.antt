@@ -7,7 +7,7 @@ use Rattle.show.proofs.show.Goals as goal
 
 pub read-requires : goal.read-requires
 unfolding capacity
-read-requires c = (refl, refl, fresh_filled 12336 1 (omega arith) (omega arith) (omega arith))
+read-requires c = (refl, fresh_filled 12336 1 (omega arith) (omega arith) (omega arith))
 
 pub returns-in_default : goal.returns-in_default
 returns-in_default c = not_shown c.in_default.ensures _ _
