@@ -20,6 +20,7 @@ use Rattle.types.specs.Table.{Tab, most_numbers, capacity, denote}
 use Rattle.types.specs.Reading.{KindOf, PartOf, PartsOf, HasPart, PartAt}
 use Rattle.types.proofs.Parts.{kind_most, parts_few}
 use Rattle.types.proofs.Readers.{in_room, has_part}
+use Rattle.sheet.specs.declared.list.ListedName.{ListedName}
 use Rattle.sheet.specs.Listing.{start_at, length_at, type_at}
 use Rattle.sheet.specs.Marks.{most_written, order_from, count_in, tab_of, types_in, Marked}
 use Rattle.sheet.specs.Writing.{listed_size, listed_records, listed_texts, ElementsIn, NumberOf, Put, Met, record_bytes, element_bytes, types_bytes, elements_bytes, names_bytes, Named, NamesFit, NamesPut, TextsFit}
@@ -335,19 +336,19 @@ module _ {cs ms old : List ℕ} {from n k at : ℕ} {out : List ℕ} (l : Elemen
 
 -- ---- the name records
 
-pub record NamesLoop (ms cells : List ℕ) (n : ℕ) (old : List ℕ) (at k from : ℕ) (out : List ℕ) : Type 0 where
+pub record NamesLoop (ms : List ℕ) (cells : List ListedName) (n : ℕ) (old : List ℕ) (at k from : ℕ) (out : List ℕ) : Type 0 where
   pub fit : NamesFit cells n old at
   pub passed : k ≤ n
   pub small : from ≤ longest_name * k
   pub long : length out ≡ length old
   pub left : (t : Tab) → Named t ms cells n → put_at out (at + 12 * k) (words (laid (listed_records (types_in t ms) t cells from k (n - k)))) ≡ put_at old at (names_bytes t ms cells n)
 
-pub names_first : {ms cells : List ℕ} {n : ℕ} {out : List ℕ} {at : ℕ} → NamesFit cells n out at → NamesLoop ms cells n out at 0 0 out
+pub names_first : {ms : List ℕ} {cells : List ListedName} {n : ℕ} {out : List ℕ} {at : ℕ} → NamesFit cells n out at → NamesLoop ms cells n out at 0 0 out
 names_first {n = n} {at = at} f =
     let z : at + 12 * 0 ≡ at = omega arith in
     record { fit = f; passed = omega arith; small = omega arith; long = refl; left = λ t m. rw (z, all_left n) }
 
-module _ {ms cells : List ℕ} {n : ℕ} {old : List ℕ} {at k from : ℕ} {out : List ℕ} (l : NamesLoop ms cells n old at k from out) where
+module _ {ms : List ℕ} {cells : List ListedName} {n : ℕ} {old : List ℕ} {at k from : ℕ} {out : List ℕ} (l : NamesLoop ms cells n old at k from out) where
   pub names_room : k < n → at + 12 * k + 12 ≤ length out
   names_room h = omega (arith, l.fit.room, l.long)
 
@@ -387,17 +388,17 @@ module _ {ms cells : List ℕ} {n : ℕ} {old : List ℕ} {at k from : ℕ} {out
 
 -- ---- the texts
 
-pub record TextsLoop (source cells : List ℕ) (n : ℕ) (old : List ℕ) (from k at : ℕ) (out : List ℕ) : Type 0 where
+pub record TextsLoop (source : List ℕ) (cells : List ListedName) (n : ℕ) (old : List ℕ) (from k at : ℕ) (out : List ℕ) : Type 0 where
   pub fit : TextsFit source cells n old from
   pub passed : k ≤ n
   pub room : at + listed_size cells k (n - k) ≤ length old
   pub long : length out ≡ length old
   pub left : put_at out at (listed_texts source cells k (n - k)) ≡ put_at old from (listed_texts source cells 0 n)
 
-pub texts_first : {source cells : List ℕ} {n : ℕ} {out : List ℕ} {from : ℕ} → TextsFit source cells n out from → TextsLoop source cells n out from 0 from out
+pub texts_first : {source : List ℕ} {cells : List ListedName} {n : ℕ} {out : List ℕ} {from : ℕ} → TextsFit source cells n out from → TextsLoop source cells n out from 0 from out
 texts_first {n = n} f = record { fit = f; passed = omega arith; room = rw (all_left n) f.room; long = refl; left = rw (all_left n) }
 
-module _ {source cells : List ℕ} {n : ℕ} {old : List ℕ} {from k at : ℕ} {out : List ℕ} (l : TextsLoop source cells n old from k at out) where
+module _ {source : List ℕ} {cells : List ListedName} {n : ℕ} {old : List ℕ} {from k at : ℕ} {out : List ℕ} (l : TextsLoop source cells n old from k at out) where
   pub texts_inside : {start len : ℕ} → k < n → start ≡ start_at cells k → len ≡ length_at cells k → start + len ≤ length source
   texts_inside h es el = omega (arith, l.fit.inside k h)
 

@@ -8,6 +8,7 @@ use native.Mathlib.Numerals.{add-one}
 use borrow.Author.Tests.{leb-true, leb-false, le-leb}
 use lib.Dec.{leb}
 use Rattle.std.specs.Prelude.{Some, None}
+use Rattle.sheet.specs.declared.list.ListedName.{ListedName}
 use Rattle.sheet.specs.declared.reader.ReadSheet.{ReadSheet}
 use lib.ListN.{length, take, drop, length-append}
 use lib.Seq.{take-append_seam}
@@ -27,19 +28,19 @@ use Rattle.sheet.proofs.Naming.{entries_are, entries_listing, texts_of}
 
 -- ---- the texts
 
-pub record StandLoop (source cells : List ℕ) (n k last size : ℕ) : Type 0 where
+pub record StandLoop (source : List ℕ) (cells : List ListedName) (n k last size : ℕ) : Type 0 where
   pub texts : TextsInside source cells n
   pub passed : k ≤ n
   pub inside : last + size ≤ length source
   pub left : (t : Tab) → texts_stand (take size (drop last source)) (listed_from source t cells k (n - k)) ≡ texts_stand [] (listed source t cells n)
 
-pub stand_first : {source cells : List ℕ} {n : ℕ} → TextsInside source cells n → StandLoop source cells n 0 0 0
+pub stand_first : {source : List ℕ} {cells : List ListedName} {n : ℕ} → TextsInside source cells n → StandLoop source cells n 0 0 0
 unfolding listed
 stand_first {source} {cells} {n} x =
     let e : n - 0 ≡ n = omega arith in
     record { texts = x; passed = omega arith; inside = omega arith; left = λ t. ap (λ m. texts_stand [] (listed_from source t cells 0 m)) e }
 
-module _ {source cells : List ℕ} {n k last size : ℕ} (l : StandLoop source cells n k last size) where
+module _ {source : List ℕ} {cells : List ListedName} {n k last size : ℕ} (l : StandLoop source cells n k last size) where
   pub stand_inside : {s z : ℕ} → k < n → s ≡ start_at cells k → z ≡ length_at cells k → s + z ≤ length source
   stand_inside h es ez = omega (arith, l.texts.inside k h)
 
@@ -120,19 +121,19 @@ within : (es : List Entry) → texts_stand [] es ≡ true → length es ≤ most
 unfolding within_limits
 within es t n u e = both _ _ (both _ _ (both _ _ t (le-leb (length es) most_names n)) (le-leb _ most_types u)) (le-leb _ most_elements e)
 
-names_listed : (source : List ℕ) (t : Tab) (cells : List ℕ) (k n : ℕ) → length (listed_from source t cells k n) ≡ n
+names_listed : (source : List ℕ) (t : Tab) (cells : List ListedName) (k n : ℕ) → length (listed_from source t cells k n) ≡ n
 unfolding listed_from count
 names_listed source t cells k zero = refl
 names_listed source t cells k (suc n) = ap suc (names_listed source t cells (suc k) n)
 
-listed_many : (source : List ℕ) (t : Tab) (cells : List ℕ) (n : ℕ) → length (listed source t cells n) ≡ n
+listed_many : (source : List ℕ) (t : Tab) (cells : List ListedName) (n : ℕ) → length (listed source t cells n) ≡ n
 unfolding listed
 listed_many source t cells n = names_listed source t cells 0 n
 
-pub read_not : {bs cs cells : List ℕ} → is_sheet bs ≡ false → Reads bs None cs cells
+pub read_not : {bs cs : List ℕ} {cells : List ListedName} → is_sheet bs ≡ false → Reads bs None cs cells
 read_not f = record { stands_is = sym f; listing = tt; listed_is = tt }
 
-module _ {bs xs cells : List ℕ} {t : Tab} {n : ℕ} (b : Bounds bs) (ty : TypesRead bs xs t) (nr : NamesRead bs (take (word bs 4) xs) cells (word bs 20)) (en : n ≡ word bs 20) where
+module _ {bs xs : List ℕ} {cells : List ListedName} {t : Tab} {n : ℕ} (b : Bounds bs) (ty : TypesRead bs xs t) (nr : NamesRead bs (take (word bs 4) xs) cells (word bs 20)) (en : n ≡ word bs 20) where
   pub read_listing : Listing bs t cells n
   read_listing = subst (Listing bs t cells) (sym en) (entries_listing ty nr b)
 
@@ -167,6 +168,6 @@ module _ {bs xs cells : List ℕ} {t : Tab} {n : ℕ} (b : Bounds bs) (ty : Type
         let m : length es ≤ most_names = omega (arith, ap length read_entries, listed_many bs t cells n, read_listing.few) in
         is_sheet_lem bs es record { written = y.0; limits = within es stand m u v }
 
-pub read_all : {bs xs cs cells : List ℕ} {s : ReadSheet} (b : Bounds bs) → TypesRead bs xs (tab_read cs s) → NamesRead bs (take (word bs 4) xs) cells (word bs 20)
+pub read_all : {bs xs cs : List ℕ} {cells : List ListedName} {s : ReadSheet} (b : Bounds bs) → TypesRead bs xs (tab_read cs s) → NamesRead bs (take (word bs 4) xs) cells (word bs 20)
     → s.names ≡ word bs 20 → {q r : Bool} → TextsTold bs cells s.names q → q ≡ true → Compared bs (listed bs (tab_read cs s) cells s.names) r → r ≡ true → Reads bs (Some s) cs cells
 read_all b ty nr en x f c e = record { stands_is = sym (rewrites_so b ty nr en x f c e); listing = read_listing b ty nr en; listed_is = read_entries b ty nr en }

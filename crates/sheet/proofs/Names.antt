@@ -9,6 +9,7 @@ use Rattle.meaning.specs.Limits.{most_types, longest_name, most_text}
 use Rattle.meaning.specs.Types.{Ty}
 use Rattle.meaning.specs.Sheet.{number, met}
 use Rattle.types.specs.Table.{Tab, denote}
+use Rattle.sheet.specs.declared.list.ListedName.{ListedName}
 use Rattle.sheet.specs.Listing.{start_at, length_at, type_at}
 use Rattle.sheet.specs.Marks.{type_count, tab_of, types_in, Marked, met_each}
 use Rattle.sheet.specs.Opening.{open_cells, few_types, OpenRoom, Visiting, Visited}
@@ -21,20 +22,20 @@ module _ (n k : ℕ) (h : k < n) where
   one_less : n - k ≡ suc (n - (k + 1))
   one_less = omega arith
 
-  pub types_step : (t : Tab) (cells : List ℕ) → listed_types t cells k (n - k) ≡ denote t (type_at cells k) ∷ listed_types t cells (k + 1) (n - (k + 1))
+  pub types_step : (t : Tab) (cells : List ListedName) → listed_types t cells k (n - k) ≡ denote t (type_at cells k) ∷ listed_types t cells (k + 1) (n - (k + 1))
   unfolding listed_types
   types_step t cells = rw (one_less, add-one k)
 
-  pub size_step : (cells : List ℕ) → listed_size cells k (n - k) ≡ length_at cells k + listed_size cells (k + 1) (n - (k + 1))
+  pub size_step : (cells : List ListedName) → listed_size cells k (n - k) ≡ length_at cells k + listed_size cells (k + 1) (n - (k + 1))
   unfolding listed_size
   size_step cells = rw (one_less, add-one k)
 
-  pub records_step : (us : List Ty) (t : Tab) (cells : List ℕ) (from : ℕ)
+  pub records_step : (us : List Ty) (t : Tab) (cells : List ListedName) (from : ℕ)
       → listed_records us t cells from k (n - k) ≡ (from, length_at cells k, number us (denote t (type_at cells k))) ∷ listed_records us t cells (from + length_at cells k) (k + 1) (n - (k + 1))
   unfolding listed_records
   records_step us t cells from = rw (one_less, add-one k)
 
-  pub texts_step : (source cells : List ℕ)
+  pub texts_step : (source : List ℕ) (cells : List ListedName)
       → listed_texts source cells k (n - k) ≡ take (length_at cells k) (drop (start_at cells k) source) ++ listed_texts source cells (k + 1) (n - (k + 1))
   unfolding listed_texts
   texts_step source cells = rw (one_less, add-one k)
@@ -47,16 +48,16 @@ all_left n = omega arith
 
 -- ---- the walk over the types
 
-pub record MeetLoop (cs ms cells : List ℕ) (n k : ℕ) (ns : List ℕ) : Type 0 where
+pub record MeetLoop (cs ms : List ℕ) (cells : List ListedName) (n k : ℕ) (ns : List ℕ) : Type 0 where
   pub meeting : Meeting cs ms cells n
   pub passed : k ≤ n
   pub marked : Marked (tab_of cs ms) ns
   pub left : met_each (listed_types (tab_of cs ms) cells k (n - k)) (types_in (tab_of cs ms) ns) ≡ met_each (listed_types (tab_of cs ms) cells 0 n) (types_in (tab_of cs ms) ms)
 
-pub meet_first : {cs ms cells : List ℕ} {n : ℕ} → Meeting cs ms cells n → MeetLoop cs ms cells n 0 ms
+pub meet_first : {cs ms : List ℕ} {cells : List ListedName} {n : ℕ} → Meeting cs ms cells n → MeetLoop cs ms cells n 0 ms
 meet_first {n = n} m = record { meeting = m; passed = omega arith; marked = m.marked; left = rw (all_left n) }
 
-module _ {cs ms cells : List ℕ} {n k : ℕ} {ns : List ℕ} (l : MeetLoop cs ms cells n k ns) where
+module _ {cs ms : List ℕ} {cells : List ListedName} {n k : ℕ} {ns : List ℕ} (l : MeetLoop cs ms cells n k ns) where
   abbrev t : Tab
   t = tab_of cs ms
 
@@ -85,16 +86,16 @@ module _ {cs ms cells : List ℕ} {n k : ℕ} {ns : List ℕ} (l : MeetLoop cs m
 
 -- ---- the size of the texts
 
-pub record SizeLoop (cells : List ℕ) (n k sum : ℕ) : Type 0 where
+pub record SizeLoop (cells : List ListedName) (n k sum : ℕ) : Type 0 where
   pub short : Short cells n
   pub passed : k ≤ n
   pub small : sum ≤ longest_name * k
   pub left : sum + listed_size cells k (n - k) ≡ listed_size cells 0 n
 
-pub size_first : {cells : List ℕ} {n : ℕ} → Short cells n → SizeLoop cells n 0 0
+pub size_first : {cells : List ListedName} {n : ℕ} → Short cells n → SizeLoop cells n 0 0
 size_first {cells} {n} s = record { short = s; passed = omega arith; small = omega arith; left = rw (all_left n) (omega arith) }
 
-module _ {cells : List ℕ} {n k sum : ℕ} (l : SizeLoop cells n k sum) where
+module _ {cells : List ListedName} {n k sum : ℕ} (l : SizeLoop cells n k sum) where
   pub size_next : {r : ℕ} → k < n → r ≡ length_at cells k → SizeLoop cells n (k + 1) (sum + r)
   size_next {r} h e = record {
     short = l.short;

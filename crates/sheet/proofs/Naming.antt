@@ -18,7 +18,8 @@ use Rattle.meaning.proofs.Choices.{and_left, and_right}
 use Rattle.meaning.proofs.SheetForm.{sheet_is, sheet_size}
 use Rattle.meaning.specs.Limits.{longest_name}
 use Rattle.types.specs.Table.{Tab, denote}
-use Rattle.sheet.specs.Listing.{name_cells, PutName, start_at, length_at, type_at, entry_at, listed_from, listed, Listing}
+use Rattle.sheet.specs.declared.list.ListedName.{ListedName}
+use Rattle.sheet.specs.Listing.{PutName, start_at, length_at, type_at, entry_at, listed_from, listed, Listing}
 use Rattle.sheet.specs.Reading.{names_at, texts_at, words_at, triples_at, Bounds, number_in, TypesRead, NameRead, NameStep, NamesRead, Naming}
 use Rattle.sheet.specs.Reading.{elements_in as elements_read}
 use Rattle.sheet.proofs.Reading.{sheet_head, number_means, number_below}
@@ -72,7 +73,7 @@ module _ (bs : List ℕ) (h : is_sheet bs ≡ true) where
 
 -- ---- one name
 
-module _ {bs : List ℕ} {k : ℕ} {cells : List ℕ} (n : Naming bs k cells) {T E N s l : ℕ} (e_t : T ≡ word bs 4) (e_e : E ≡ word bs 12) (e_n : N ≡ word bs 20)
+module _ {bs : List ℕ} {k : ℕ} {cells : List ListedName} (n : Naming bs k cells) {T E N s l : ℕ} (e_t : T ≡ word bs 4) (e_e : E ≡ word bs 12) (e_n : N ≡ word bs 20)
     (es₁ : s ≡ word bs (40 + 12 * T + 4 * E + 12 * k)) (el : l ≡ word bs (40 + 12 * T + 4 * E + 12 * k + 4)) where
   from_is : 40 + 12 * T + 4 * E ≡ names_at bs
   from_is = rw (e_t, e_e)
@@ -92,7 +93,7 @@ module _ {bs : List ℕ} {k : ℕ} {cells : List ℕ} (n : Naming bs k cells) {T
   pub refuse_outside : length bs < 40 + 12 * T + 4 * E + 12 * N + s + l → is_sheet bs ≡ true → ⊥
   refuse_outside h i = absurd (omega (arith, (sheet_name bs i k n.here here_is).1))
 
-  pub name_step : {w ty : ℕ} {xs new : List ℕ} → w ≡ word bs (40 + 12 * T + 4 * E + 12 * k + 8) → ty ≡ number_in (take T xs) w → l ≤ longest_name
+  pub name_step : {w ty : ℕ} {xs : List ℕ} {new : List ListedName} → w ≡ word bs (40 + 12 * T + 4 * E + 12 * k + 8) → ty ≡ number_in (take T xs) w → l ≤ longest_name
       → 40 + 12 * T + 4 * E + 12 * N + s + l ≤ length bs → PutName cells new k (40 + 12 * T + 4 * E + 12 * N + s) l ty → NameStep bs xs cells new k
   name_step {w} {ty} {xs} {new} ew ety short inside p =
       let texts : 40 + 12 * T + 4 * E + 12 * N ≡ texts_at bs = rw (e_t, e_e, e_n) in
@@ -104,32 +105,30 @@ module _ {bs : List ℕ} {k : ℕ} {cells : List ℕ} (n : Naming bs k cells) {T
           short = omega (arith, p.length_is);
           inside = omega (arith, p.start_is, p.length_is);
         };
-        size = p.long ∙ n.size;
         before = p.before;
       }
 
 -- ---- all names
 
-pub record NamesLoop (bs xs : List ℕ) (n k : ℕ) (cells : List ℕ) : Type 0 where
+pub record NamesLoop (bs xs : List ℕ) (n k : ℕ) (cells : List ListedName) : Type 0 where
   pub bounds : Bounds bs
   pub many : n ≡ word bs 20
   pub passed : k ≤ n
   pub read : NamesRead bs (take (word bs 4) xs) cells k
 
-pub names_first : {bs xs cells : List ℕ} {n : ℕ} → Bounds bs → length cells ≡ name_cells → n ≡ word bs 20 → NamesLoop bs xs n 0 cells
-names_first b s e = record { bounds = b; many = e; passed = omega arith; read = record { size = s; each = λ k h. absurd (omega arith) } }
+pub names_first : {bs xs : List ℕ} {cells : List ListedName} {n : ℕ} → Bounds bs → n ≡ word bs 20 → NamesLoop bs xs n 0 cells
+names_first b e = record { bounds = b; many = e; passed = omega arith; read = record { each = λ k h. absurd (omega arith) } }
 
-module _ {bs xs : List ℕ} {n k : ℕ} {cells : List ℕ} (l : NamesLoop bs xs n k cells) where
+module _ {bs xs : List ℕ} {n k : ℕ} {cells : List ListedName} (l : NamesLoop bs xs n k cells) where
   pub names_naming : k < n → Naming bs k cells
-  names_naming h = record { bounds = l.bounds; here = omega (arith, l.many); size = l.read.size }
+  names_naming h = record { bounds = l.bounds; here = omega (arith, l.many) }
 
-  pub names_next : {new : List ℕ} → k < n → NameStep bs xs cells new k → NamesLoop bs xs n (k + 1) new
+  pub names_next : {new : List ListedName} → k < n → NameStep bs xs cells new k → NamesLoop bs xs n (k + 1) new
   names_next {new} h s = record {
     bounds = l.bounds;
     many = l.many;
     passed = omega arith;
     read = record {
-      size = s.size;
       each = λ j b. elim (ℕ_discrete j k) [
         | yes e ↦ subst (NameRead bs (take (word bs 4) xs) new) (sym e) s.name
         | no e ↦ kept j (omega arith) (l.read.each j (omega arith))
@@ -151,7 +150,7 @@ module _ {bs xs : List ℕ} {n k : ℕ} {cells : List ℕ} (l : NamesLoop bs xs 
 
 -- ---- they are the entries of the byte string
 
-module _ {bs xs cells : List ℕ} {t : Tab} (ty : TypesRead bs xs t) (nr : NamesRead bs (take (word bs 4) xs) cells (word bs 20)) where
+module _ {bs xs : List ℕ} {cells : List ListedName} {t : Tab} (ty : TypesRead bs xs t) (nr : NamesRead bs (take (word bs 4) xs) cells (word bs 20)) where
   abbrev vs : List Ty
   vs = types_from (elements_read bs) [] (triples_at bs 40 (word bs 4))
 

@@ -12,21 +12,22 @@ use Rattle.meaning.specs.Answer.{written, write_answer, overlaid}
 use Rattle.meaning.proofs.Answers.{write_read}
 use Rattle.meaning.proofs.SheetForm.{sheet_is, is_sheet_lem, sheet_one, read_some}
 use Rattle.std.specs.Prelude.{Option, Some, None, is_some, IfSome, unwrap_or}
+use Rattle.sheet.specs.declared.list.ListedName.{ListedName}
 use Rattle.sheet.specs.declared.reader.ReadSheet.{ReadSheet}
 use Rattle.sheet.specs.Listing.{listed, Wrote}
 use Rattle.sheet.specs.Reading.{tab_read, Reads}
 
 -- the names and types that were read
-abbrev pub names_read : List ℕ → ReadSheet → List ℕ → List ℕ → List Entry
+abbrev pub names_read : List ℕ → ReadSheet → List ℕ → List ListedName → List Entry
 names_read bs s cs cells = listed bs (tab_read cs s) cells s.names
 
 -- any sheet is taken, with the entries that it is the sheet of
-pub read_takes : {bs cs cells : List ℕ} {o : Option ReadSheet} → Reads bs o cs cells → (es : List Entry) → SheetOf bs es
+pub read_takes : {bs cs : List ℕ} {cells : List ListedName} {o : Option ReadSheet} → Reads bs o cs cells → (es : List Entry) → SheetOf bs es
     → (is_some o ≡ true) × IfSome o (λ s. names_read bs s cs cells ≡ es)
 read_takes {bs} {o = None} r es s = (r.stands_is ∙ is_sheet_lem bs es s, tt)
 read_takes {bs} {o = Some x} r es s = (refl, r.listed_is ∙ sheet_one bs es s)
 
-module _ {bs cs cells : List ℕ} {s : ReadSheet} (r : Reads bs (Some s) cs cells) where
+module _ {bs cs : List ℕ} {cells : List ListedName} {s : ReadSheet} (r : Reads bs (Some s) cs cells) where
   -- what was read is what the bytes are the sheet of
   pub read_sheet_lem : SheetOf bs (names_read bs s cs cells)
   read_sheet_lem = subst (SheetOf bs) (sym r.listed_is) (sheet_is bs (sym r.stands_is))
@@ -51,7 +52,7 @@ module _ {bs cs cells : List ℕ} {s : ReadSheet} (r : Reads bs (Some s) cs cell
       )
 
 -- two byte strings that are both taken have the same entries exactly if they are the same
-module _ {bs bs₂ cs cs₂ cells cells₂ : List ℕ} {s s₂ : ReadSheet} (r : Reads bs (Some s) cs cells) (r₂ : Reads bs₂ (Some s₂) cs₂ cells₂) where
+module _ {bs bs₂ cs cs₂ : List ℕ} {cells cells₂ : List ListedName} {s s₂ : ReadSheet} (r : Reads bs (Some s) cs cells) (r₂ : Reads bs₂ (Some s₂) cs₂ cells₂) where
   pub same_entries : names_read bs s cs cells ≡ names_read bs₂ s₂ cs₂ cells₂ → bs ≡ bs₂
   same_entries e = sym (rewritten r) ∙ ap sheet_of e ∙ rewritten r₂
 

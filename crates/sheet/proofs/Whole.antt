@@ -24,6 +24,7 @@ use Rattle.meaning.proofs.Answers.{overlaid_none}
 use Rattle.words.specs.Words.{put_at}
 use Rattle.words.proofs.Laws.{put_overlaid}
 use Rattle.types.specs.Table.{Tab, tab, denote, Wf}
+use Rattle.sheet.specs.declared.list.ListedName.{ListedName}
 use Rattle.sheet.specs.Listing.{start_at, length_at, type_at, entry_at, listed_from, listed, Listing, Wrote}
 use Rattle.sheet.specs.Marks.{mark_cells, met_cell, type_count_cell, element_count_cell, order_from, most_written, count_in, tab_of, types_in, Marked, met_each}
 use Rattle.sheet.specs.Writing.{listed_types, listed_size, listed_records, listed_texts, Meeting, MetAll, Short, Put, types_bytes, elements_bytes, names_bytes, Named, NamesFit, NamesPut, TextsFit, Blank, header_bytes, Filling}
@@ -32,7 +33,7 @@ use Rattle.sheet.proofs.Areas.{put_then, put_as}
 
 -- ---- the names by their cells are the names
 
-module _ (source : List ℕ) (t : Tab) (cells : List ℕ) where
+module _ (source : List ℕ) (t : Tab) (cells : List ListedName) where
   types_listed : (k n : ℕ) (us : List Ty) → met_each (listed_types t cells k n) us ≡ types_of (listed_from source t cells k n) us
   unfolding met_each listed_types types_of listed_from entry_at count
   types_listed k zero us = refl
@@ -132,7 +133,7 @@ header_long : (T E N S : ℕ) → length (header_bytes T E N S) ≡ 40
 unfolding header_bytes words
 header_long T E N S = refl
 
-module _ {source cs ms cells : List ℕ} {n E S : ℕ} {out : List ℕ} (f : Filling source cs ms cells n E S out) where
+module _ {source cs ms : List ℕ} {cells : List ListedName} {n E S : ℕ} {out : List ℕ} (f : Filling source cs ms cells n E S out) where
   abbrev t : Tab
   t = tab_of cs ms
 
@@ -225,12 +226,12 @@ module _ {source cs ms cells : List ℕ} {n E S : ℕ} {out : List ℕ} (f : Fil
 
 -- ---- what `write` knows after its walk
 
-pub record Walked (source : List ℕ) (t : Tab) (cells : List ℕ) (n : ℕ) (ms : List ℕ) : Type 0 where
+pub record Walked (source : List ℕ) (t : Tab) (cells : List ListedName) (n : ℕ) (ms : List ℕ) : Type 0 where
   pub listing : Listing source t cells n
   pub marked : Marked t ms
   pub types_are : types_in t ms ≡ types_of (listed source t cells n) []
 
-module _ {source cs cells bs ms : List ℕ} {N M n : ℕ} (l : Listing source (tab cs N M) cells n) (b : Blank bs) (e : ms ≡ set (set (set bs met_cell 0) type_count_cell N) element_count_cell M) where
+module _ {source cs : List ℕ} {cells : List ListedName} {bs ms : List ℕ} {N M n : ℕ} (l : Listing source (tab cs N M) cells n) (b : Blank bs) (e : ms ≡ set (set (set bs met_cell 0) type_count_cell N) element_count_cell M) where
   first_marked : Marked (tab cs N M) ms
   first_marked = subst (Marked (tab cs N M)) (sym e) (begun (tab cs N M) l.wf bs b)
 
@@ -256,7 +257,7 @@ module _ {source cs cells bs ms : List ℕ} {N M n : ℕ} (l : Listing source (t
             ∙ types_listed source t cells 0 n [];
       }
 
-module _ {source cs cells ms : List ℕ} {N M n : ℕ} (w : Walked source (tab cs N M) cells n ms) where
+module _ {source cs : List ℕ} {cells : List ListedName} {ms : List ℕ} {N M n : ℕ} (w : Walked source (tab cs N M) cells n ms) where
   pub own_marked : Marked (tab_of cs ms) ms
   own_marked = subst (λ u. Marked u ms) (sym (own_tab w.marked)) w.marked
 

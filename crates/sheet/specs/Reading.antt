@@ -6,8 +6,9 @@ use Rattle.meaning.specs.Types.{Ty, tuple, tys}
 use Rattle.meaning.specs.Sheet.{Entry, Triple, sheet_of, texts_stand}
 use Rattle.meaning.specs.Read.{triple, numbered, type_from, types_from, entries_in, is_sheet}
 use Rattle.types.specs.Table.{Tab, tab, most_numbers, capacity, denote, Wf, Grown}
+use Rattle.sheet.specs.declared.list.ListedName.{ListedName}
 use Rattle.sheet.specs.declared.reader.ReadSheet.{ReadSheet}
-use Rattle.sheet.specs.Listing.{name_cells, start_at, length_at, type_at, SameName, listed, Listing}
+use Rattle.sheet.specs.Listing.{start_at, length_at, type_at, SameName, listed, Listing}
 
 -- ---- the areas
 
@@ -122,36 +123,33 @@ pub record TypesRead (bs xs : List ℕ) (t : Tab) : Type 0 where
 -- ---- the names
 
 -- name k was read into the cells
-pub record NameRead (bs xs cells : List ℕ) (k : ℕ) : Type 0 where
+pub record NameRead (bs xs : List ℕ) (cells : List ListedName) (k : ℕ) : Type 0 where
   pub start_is : start_at cells k ≡ texts_at bs + word bs (names_at bs + 12 * k)
   pub length_is : length_at cells k ≡ word bs (names_at bs + 12 * k + 4)
   pub type_is : type_at cells k ≡ number_in xs (word bs (names_at bs + 12 * k + 8))
   pub short : length_at cells k ≤ longest_name
   pub inside : start_at cells k + length_at cells k ≤ length bs
 
-pub record NamesRead (bs xs cells : List ℕ) (n : ℕ) : Type 0 where
-  pub size : length cells ≡ name_cells
+pub record NamesRead (bs xs : List ℕ) (cells : List ListedName) (n : ℕ) : Type 0 where
   pub each : (k : ℕ) → k < n → NameRead bs xs cells k
 
 -- name k was read, and the cells before are kept
-pub record NameStep (bs xs cells new : List ℕ) (k : ℕ) : Type 0 where
+pub record NameStep (bs xs : List ℕ) (cells new : List ListedName) (k : ℕ) : Type 0 where
   pub name : NameRead bs (take (word bs 4) xs) new k
-  pub size : length new ≡ name_cells
   pub before : (j : ℕ) → j < k → SameName cells new j
 
-pub record Naming (bs : List ℕ) (k : ℕ) (cells : List ℕ) : Type 0 where
+pub record Naming (bs : List ℕ) (k : ℕ) (cells : List ListedName) : Type 0 where
   pub bounds : Bounds bs
   pub here : k < word bs 20
-  pub size : length cells ≡ name_cells
 
 -- ---- the whole
 
-pub record TextsInside (source cells : List ℕ) (n : ℕ) : Type 0 where
+pub record TextsInside (source : List ℕ) (cells : List ListedName) (n : ℕ) : Type 0 where
   pub few : n ≤ most_names
   pub inside : (k : ℕ) → k < n → start_at cells k + length_at cells k ≤ length source
 
 -- the texts stand, whatever the table
-pub record TextsTold (source cells : List ℕ) (n : ℕ) (r : Bool) : Type 0 where
+pub record TextsTold (source : List ℕ) (cells : List ListedName) (n : ℕ) (r : Bool) : Type 0 where
   pub is : (t : Tab) → r ≡ texts_stand [] (listed source t cells n)
 
 -- the sheet of es is bs and not too long
@@ -164,7 +162,7 @@ abbrev pub tab_read : List ℕ → ReadSheet → Tab
 tab_read cs s = tab cs s.counts.types s.counts.elements
 
 -- what the reader says of bs, with the table's cells cs and the names' cells
-pub record Reads (bs : List ℕ) (r : Option ReadSheet) (cs cells : List ℕ) : Type 0 where
+pub record Reads (bs : List ℕ) (r : Option ReadSheet) (cs : List ℕ) (cells : List ListedName) : Type 0 where
   pub stands_is : is_some r ≡ is_sheet bs
   pub listing : IfSome r (λ s. Listing bs (tab_read cs s) cells s.names)
   pub listed_is : IfSome r (λ s. listed bs (tab_read cs s) cells s.names ≡ entries_in bs)

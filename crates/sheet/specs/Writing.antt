@@ -7,36 +7,37 @@ use Rattle.meaning.specs.Types.{Ty, kind}
 use Rattle.meaning.specs.Sheet.{Triple, laid, number, elements_in, elements_of, type_record, type_records, types_of}
 use Rattle.words.specs.Words.{put_at}
 use Rattle.types.specs.Table.{Tab, most_numbers, Wf, denote}
+use Rattle.sheet.specs.declared.list.ListedName.{ListedName}
 use Rattle.sheet.specs.Listing.{start_at, length_at, type_at, listed, Listing}
 use Rattle.sheet.specs.Marks.{mark_cells, most_written, Marked, type_count, tab_of, types_in, count_in, met_each}
 
 -- ---- the names, by their cells alone
 
-unfoldable pub listed_types : Tab → List ℕ → ℕ → ℕ → List Ty
+unfoldable pub listed_types : Tab → List ListedName → ℕ → ℕ → List Ty
 listed_types t cells k zero = []
 listed_types t cells k (suc n) = denote t (type_at cells k) ∷ listed_types t cells (suc k) n
 
-unfoldable pub listed_size : List ℕ → ℕ → ℕ → ℕ
+unfoldable pub listed_size : List ListedName → ℕ → ℕ → ℕ
 listed_size cells k zero = 0
 listed_size cells k (suc n) = length_at cells k + listed_size cells (suc k) n
 
-unfoldable pub listed_records : List Ty → Tab → List ℕ → ℕ → ℕ → ℕ → List Triple
+unfoldable pub listed_records : List Ty → Tab → List ListedName → ℕ → ℕ → ℕ → List Triple
 listed_records us t cells from k zero = []
 listed_records us t cells from k (suc n) =
     (from, length_at cells k, number us (denote t (type_at cells k))) ∷ listed_records us t cells (from + length_at cells k) (suc k) n
 
-unfoldable pub listed_texts : List ℕ → List ℕ → ℕ → ℕ → List ℕ
+unfoldable pub listed_texts : List ℕ → List ListedName → ℕ → ℕ → List ℕ
 listed_texts source cells k zero = []
 listed_texts source cells k (suc n) = take (length_at cells k) (drop (start_at cells k) source) ++ listed_texts source cells (suc k) n
 
 -- ---- the walk over the names
 
-pub record Meeting (cs ms cells : List ℕ) (n : ℕ) : Type 0 where
+pub record Meeting (cs ms : List ℕ) (cells : List ListedName) (n : ℕ) : Type 0 where
   pub marked : Marked (tab_of cs ms) ms
   pub few : n ≤ most_names
   pub known : (k : ℕ) → k < n → type_at cells k < type_count ms
 
-pub record MetAll (cs ms ns cells : List ℕ) (n : ℕ) : Type 0 where
+pub record MetAll (cs ms ns : List ℕ) (cells : List ListedName) (n : ℕ) : Type 0 where
   pub marked : Marked (tab_of cs ms) ns
   pub met_is : types_in (tab_of cs ms) ns ≡ met_each (listed_types (tab_of cs ms) cells 0 n) (types_in (tab_of cs ms) ms)
 
@@ -47,7 +48,7 @@ pub record ElementsIn (cs : List ℕ) (i r : ℕ) : Type 0 where
   pub says : (t : Tab) → t.cells ≡ cs → Wf t → i < t.n → r ≡ length (elements_in (denote t i))
   pub small : (t : Tab) → t.cells ≡ cs → Wf t → i < t.n → r ≤ most_numbers
 
-pub record Short (cells : List ℕ) (n : ℕ) : Type 0 where
+pub record Short (cells : List ListedName) (n : ℕ) : Type 0 where
   pub few : n ≤ most_names
   pub short : (k : ℕ) → k < n → length_at cells k ≤ longest_name
 
@@ -85,26 +86,26 @@ types_bytes t ms = words (laid (type_records (types_in t ms) 0 (types_in t ms)))
 abbrev pub elements_bytes : Tab → List ℕ → List ℕ
 elements_bytes t ms = words (map (number (types_in t ms)) (elements_of (types_in t ms)))
 
-abbrev pub names_bytes : Tab → List ℕ → List ℕ → ℕ → List ℕ
+abbrev pub names_bytes : Tab → List ℕ → List ListedName → ℕ → List ℕ
 names_bytes t ms cells n = words (laid (listed_records (types_in t ms) t cells 0 0 n))
 
 -- each name's type is one of the table, and plain or met
-pub record Named (t : Tab) (ms cells : List ℕ) (n : ℕ) : Type 0 where
+pub record Named (t : Tab) (ms : List ℕ) (cells : List ListedName) (n : ℕ) : Type 0 where
   pub marked : Marked t ms
   pub known : (k : ℕ) → k < n → type_at cells k < t.n
   pub member : (k : ℕ) → k < n → 8 ≤ kind (denote t (type_at cells k)) → Memᴰ (denote t (type_at cells k)) (types_in t ms)
 
-pub record NamesFit (cells : List ℕ) (n : ℕ) (out : List ℕ) (at : ℕ) : Type 0 where
+pub record NamesFit (cells : List ListedName) (n : ℕ) (out : List ℕ) (at : ℕ) : Type 0 where
   pub short : Short cells n
   pub known : (k : ℕ) → k < n → type_at cells k < most_numbers
   pub room : at + 12 * n ≤ length out
 
 -- whatever the table that the marks are made for
-pub record NamesPut (ms cells : List ℕ) (n : ℕ) (old new : List ℕ) (at : ℕ) : Type 0 where
+pub record NamesPut (ms : List ℕ) (cells : List ListedName) (n : ℕ) (old new : List ℕ) (at : ℕ) : Type 0 where
   pub is : (t : Tab) → Named t ms cells n → new ≡ put_at old at (names_bytes t ms cells n)
   pub long : length new ≡ length old
 
-pub record TextsFit (source cells : List ℕ) (n : ℕ) (out : List ℕ) (at : ℕ) : Type 0 where
+pub record TextsFit (source : List ℕ) (cells : List ListedName) (n : ℕ) (out : List ℕ) (at : ℕ) : Type 0 where
   pub short : Short cells n
   pub inside : (k : ℕ) → k < n → start_at cells k + length_at cells k ≤ length source
   pub room : at + listed_size cells 0 n ≤ length out
@@ -122,7 +123,7 @@ header_bytes types elements names size =
     ∷ (40 + 12 * types + 4 * elements + 12 * names) ∷ (40 + 12 * types + 4 * elements + 12 * names + size) ∷ [])
 
 -- everything is known that is to be written, and it fits
-pub record Filling (source cs ms cells : List ℕ) (n elements size : ℕ) (out : List ℕ) : Type 0 where
+pub record Filling (source cs ms : List ℕ) (cells : List ListedName) (n elements size : ℕ) (out : List ℕ) : Type 0 where
   pub listing : Listing source (tab_of cs ms) cells n
   pub marked : Marked (tab_of cs ms) ms
   pub types_are : types_in (tab_of cs ms) ms ≡ types_of (listed source (tab_of cs ms) cells n) []

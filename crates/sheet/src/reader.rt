@@ -4,7 +4,7 @@ ghost use Rattle.meaning.specs.Base.{word, test◌then◌else◌};
 ghost use Rattle.meaning.specs.Limits.{most_types};
 ghost use Rattle.meaning.specs.Read.{type_from, is_sheet};
 ghost use Rattle.types.specs.Table.{most_numbers, capacity, Fresh, tab, denote, Wf, Made};
-ghost use Rattle.sheet.specs.Listing.{name_cells, Listing, listed};
+ghost use Rattle.sheet.specs.Listing.{Listing, listed};
 ghost use Rattle.sheet.specs.Reading.{Bounds, Told, number_in, Gathering, Gathered, Tupling, tuple_at, Forming};
 ghost use Rattle.sheet.specs.Reading.{Typing, Typed as TypeRead, TypesRead};
 ghost use Rattle.sheet.specs.Reading.{NameStep, NamesRead, Naming, TextsInside, TextsTold, Compared, Reads};
@@ -260,8 +260,7 @@ fn read_name(sheet: &[u8], k: usize, numbers: &Numbers, names: &mut NameList) ->
 }
 
 fn read_names(sheet: &[u8], numbers: &Numbers, names: &mut NameList) -> bool
-    requires bounds { Bounds sheet.now }
-    requires names_len { length names.old ≡ name_cells }
+    requires { Bounds sheet.now }
     ensures { Told (NamesRead sheet.now (take (word sheet.now 4) numbers.now)
         names.new (word sheet.now 20)) sheet.now result }
 {
@@ -315,7 +314,7 @@ fn begin_table(table: &mut [u16])
 // Reads a sheet into a table of its types and a list of its names: whatever the bytes, it says whether they are one.
 // The table is one of TABLE_CELLS.
 pub fn read(sheet: &[u8], table: &mut [u16], names: &mut NameList) -> Option<ReadSheet>
-    requires { (capacity table.old ≡ most_numbers) × (length names.old ≡ name_cells) × Fresh table.old }
+    requires { (capacity table.old ≡ most_numbers) × Fresh table.old }
     ensures { Reads sheet.now result table.new names.new }
 {
     if !bounded(sheet) {

@@ -1,5 +1,5 @@
 -- What the functions that tell a sheet in words need and leave.
-use Rattle.std.specs.Prelude.{◌≡◌, true, List, [], ◌∷◌, ◌++◌, ℕ, ◌+◌, ◌-◌, ◌*◌, ◌<◌, ◌≤◌, length, get_or, take, drop, Result, Ok, Err}
+use Rattle.std.specs.Prelude.{◌≡◌, List, [], ◌∷◌, ◌++◌, ℕ, ◌+◌, ◌-◌, ◌*◌, ◌<◌, ◌≤◌, length, get_or, drop, Some, Result, Ok, Err}
 use Rattle.meaning.specs.Limits.{most_names, longest_name, largest_sheet}
 use Rattle.meaning.specs.Base.{bytes}
 use Rattle.meaning.specs.Types.{Ty, unknown}
@@ -8,10 +8,8 @@ use Rattle.meaning.specs.Read.{entries_in}
 use Rattle.meaning.specs.Answer.{overlaid}
 use Rattle.meaning.specs.Show.{Change, came, went, turned, change_text, changes_text, retyped, changes, InWords}
 use Rattle.words.specs.Words.{Wrote}
-use Rattle.types.specs.Table.{tab}
-use Rattle.sheet.specs.Listing.{start_at, length_at}
 use Rattle.sheet.specs.Reading.{Reads}
-use Rattle.sheet.specs.declared.reader.ReadSheet.{ReadSheet}
+use Rattle.show.specs.declared.Opened.{Opened}
 use Rattle.show.specs.declared.Next.{Next}
 use Rattle.show.specs.declared.Next.TheVariants.{Came, Went, Both}
 use Rattle.show.specs.declared.Place.{Place}
@@ -20,9 +18,8 @@ use Rattle.show.specs.declared.Untold.TheVariants.{NoRoom, NoSheet}
 
 -- ---- a sheet that was read into a table and a list of names
 
-pub record Opened (bs cs cells : List ℕ) (r : ReadSheet) : Type 0 where
-  pub stands : r.stands ≡ true
-  pub reads : Reads bs r.stands (tab cs r.counts.types r.counts.elements) cells r.names
+pub record IsOpened (o : Opened) : Type 0 where
+  pub reads : Reads o.sheet.now (Some o.read) o.table.now o.names.now
 
 abbrev pub entry_at : List Entry → ℕ → Entry
 entry_at es k = get_or es k ([], unknown)
@@ -30,13 +27,6 @@ entry_at es k = get_or es k ([], unknown)
 -- its name k, with its type
 abbrev pub entry_of : List ℕ → ℕ → Entry
 entry_of bs k = entry_at (entries_in bs) k
-
--- the texts of its names lie in the bytes, whatever the table
-pub record Named (bs cells : List ℕ) (n : ℕ) : Type 0 where
-  pub few : n ≤ most_names
-  pub many : length (entries_in bs) ≡ n
-  pub inside : (k : ℕ) → k < n → start_at cells k + length_at cells k ≤ length bs
-  pub spelled : (k : ℕ) → k < n → take (length_at cells k) (drop (start_at cells k) bs) ≡ (entry_of bs k).0
 
 -- the largest sheet of one name: the largest of all without the records and texts of the other names
 abbrev pub largest_alone : ℕ

@@ -13,7 +13,7 @@ returns-then-not-bounded c =
 
 pub begin_table-requires : goal.begin_table-requires
 begin_table-requires c =
-    c.requires.2
+    c.requires.1
 
 pub read_types-requires-clause-bounds : goal.read_types-requires-clause-bounds
 read_types-requires-clause-bounds c =
@@ -27,13 +27,9 @@ pub returns-in_err-counts : goal.returns-in_err-counts
 returns-in_err-counts c =
     rw c.from_residual.ensures (read_not c.in_err-counts.ensures)
 
-pub read_names-requires-clause-bounds : goal.read_names-requires-clause-bounds
-read_names-requires-clause-bounds c =
+pub read_names-requires : goal.read_names-requires
+read_names-requires c =
     c.bounded.ensures.yes c.if-not-bounded.false
-
-pub read_names-requires-clause-names_len : goal.read_names-requires-clause-names_len
-read_names-requires-clause-names_len c =
-    c.requires.1
 
 pub returns-then-not-read_names : goal.returns-then-not-read_names
 returns-then-not-read_names c =

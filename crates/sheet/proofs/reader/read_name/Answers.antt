@@ -13,7 +13,7 @@ returns-then-sheet-texts c =
 
 pub put_name-requires : goal.put_name-requires
 put_name-requires c =
-    (omega (arith, c.requires.here, c.requires.bounds.names), c.requires.size)
+    omega (arith, c.requires.here, c.requires.bounds.names)
 
 pub returns : goal.returns
 returns c =

@@ -6,7 +6,7 @@ use Rattle.sheet.proofs.reader.read_names.Goals as goal
 
 pub loop-k-init : goal.loop-k-init
 loop-k-init c =
-    names_first c.requires.bounds c.requires.names_len refl
+    names_first c.requires refl
 
 pub read_name-requires : goal.read_name-requires
 read_name-requires c =
