@@ -1,6 +1,5 @@
 use Rattle.image.specs.Kinds.{root_stands}
 use Rattle.meaning.specs.Image.{nodes_of, nests, first_not, badly_nested}
-use Prim.Native.Nat.{◌≤◌}
 use lib.ListN.{drop}
 use mathlib.Core.Bool.{true}
 use mathlib.Core.Path.{◌≡◌}

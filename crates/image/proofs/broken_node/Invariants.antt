@@ -1,5 +1,4 @@
 use Rattle.meaning.specs.Image.{name_count, node_count, nodes_of, node_stands, first_not, broken_node}
-use Prim.Native.Nat.{◌≤◌}
 use lib.ListN.{drop}
 use mathlib.Core.Path.{◌≡◌}
 use Rattle.image.proofs.broken_node.Given as goal

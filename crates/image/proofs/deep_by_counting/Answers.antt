@@ -20,21 +20,9 @@ pub returns-then-around-ge-DEEPEST : goal.returns-then-around-ge-DEEPEST
 returns-then-around-ge-DEEPEST c =
     let ds = nodes_of c.args.image.now in
     let l = c.loop-i in
-    let inside : l.i < length ds = rw nodes_many (omega arith) in
+    let inside : l.i < length ds = rw nodes_many (omega (arith, c.requires.laid.count)) in
     let stands = node_stands_lem c.args.image.now c.requires.image_value l.i (omega arith) in
     sym (first_fails (λ (i : ℕ) (d : Node). leb (depth i 0 ds) 64) ds l.i no_node inside (deep ds l.i inside stands.above l.invariant.1 (omega arith))) ∙ l.invariant.2
-
-pub node_at-d-requires-clause-headed : goal.node_at-d-requires-clause-headed
-node_at-d-requires-clause-headed c =
-    c.requires.headed
-
-pub node_at-d-requires-clause-nodes_value : goal.node_at-d-requires-clause-nodes_value
-node_at-d-requires-clause-nodes_value c =
-    (c.requires.nodes_value.0, omega arith)
-
-pub offset_bounds-ends-d : goal.offset_bounds-ends-d
-offset_bounds-ends-d c =
-    omega (arith, ap (λ (n : Node). n.stop) c.node_at-d.ensures, stop_below c.requires.headed c.requires.image_value c.loop-i.i (omega arith))
 
 pub bounds-ends-d : goal.bounds-ends-d
 bounds-ends-d c =
@@ -44,7 +32,7 @@ pub overflow_add-ends : goal.overflow_add-ends
 overflow_add-ends c =
     let ds = nodes_of c.args.image.now in
     let l = c.loop-i in
-    let inside : l.i < length ds = rw nodes_many (omega arith) in
+    let inside : l.i < length ds = rw nodes_many (omega (arith, c.requires.laid.count)) in
     let stop = ap (λ (n : Node). n.stop) c.node_at-d.ensures in
     let fits : c.node_at-d.result.stop < 2049 = rw stop (stop_below c.requires.headed c.requires.image_value l.i (omega arith)) in
     omega (arith, counted_few ds l.i inside l.ends l.invariant.0 c.node_at-d.result.stop stop fits, sizes c.requires.headed)
@@ -53,19 +41,11 @@ pub bounds-ends-d-in-loop-i : goal.bounds-ends-d-in-loop-i
 bounds-ends-d-in-loop-i c =
     omega (arith, ap (λ (n : Node). n.stop) c.node_at-d.ensures, stop_below c.requires.headed c.requires.image_value c.loop-i.i (omega arith))
 
-pub offset_bounds-ends-i : goal.offset_bounds-ends-i
-offset_bounds-ends-i c =
-    omega (arith, sizes c.requires.headed)
-
-pub bounds-ends-i : goal.bounds-ends-i
-bounds-ends-i c =
-    omega (arith, sizes c.requires.headed)
-
 pub overflow_sub-around : goal.overflow_sub-around
 overflow_sub-around c =
     let ds = nodes_of c.args.image.now in
     let l = c.loop-i in
-    let inside : l.i < length ds = rw nodes_many (omega arith) in
+    let inside : l.i < length ds = rw nodes_many (omega (arith, c.requires.laid.count)) in
     let stands = node_stands_lem c.args.image.now c.requires.image_value l.i (omega arith) in
     let stop = ap (λ (n : Node). n.stop) c.node_at-d.ensures in
     let fits : c.node_at-d.result.stop < 2049 = rw stop (stop_below c.requires.headed c.requires.image_value l.i (omega arith)) in
@@ -78,7 +58,7 @@ pub loop-i-preserved : goal.loop-i-preserved
 loop-i-preserved c =
     let ds = nodes_of c.args.image.now in
     let l = c.loop-i in
-    let inside : l.i < length ds = rw nodes_many (omega arith) in
+    let inside : l.i < length ds = rw nodes_many (omega (arith, c.requires.laid.count)) in
     let stands = node_stands_lem c.args.image.now c.requires.image_value l.i (omega arith) in
     let stop = ap (λ (n : Node). n.stop) c.node_at-d.ensures in
     let fits : c.node_at-d.result.stop < 2049 = rw stop (stop_below c.requires.headed c.requires.image_value l.i (omega arith)) in
@@ -93,5 +73,5 @@ loop-i-preserved c =
 pub returns : goal.returns
 returns c =
     let ds = nodes_of c.args.image.now in
-    let done : length ds ≤ c.loop-i.i = rw nodes_many (omega arith) in
+    let done : length ds ≤ c.loop-i.i = rw nodes_many (omega (arith, c.requires.laid.count)) in
     sym (first_end (λ (i : ℕ) (d : Node). leb (depth i 0 ds) 64) ds c.loop-i.i done) ∙ c.loop-i.invariant.2

@@ -2,7 +2,7 @@ use Rattle.image.proofs.Depth.{held, Counted}
 use Rattle.meaning.specs.Image.{Node, nodes_of, depth, first_not, too_deep_node}
 use lib.ListN.{take, drop}
 use lib.Dec.{leb}
-use Prim.Native.Nat.{ℕ, ◌≤◌}
+use Prim.Native.Nat.{ℕ}
 use mathlib.Core.Path.{◌≡◌}
 use Rattle.image.proofs.deep_by_counting.Given as goal
 

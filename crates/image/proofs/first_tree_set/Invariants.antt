@@ -1,6 +1,6 @@
 use Rattle.meaning.specs.Image.{Node, nodes_of, is_tree_set, first_not, first_tree_set}
 use mathlib.Core.Bool.{not}
-use Prim.Native.Nat.{ℕ, ◌≤◌}
+use Prim.Native.Nat.{ℕ}
 use lib.ListN.{drop}
 use mathlib.Core.Path.{◌≡◌}
 use Rattle.image.proofs.first_tree_set.Given as goal

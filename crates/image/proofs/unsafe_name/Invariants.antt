@@ -1,5 +1,5 @@
 use Rattle.meaning.specs.Image.{Name, names_of, safe, first_not, unsafe_name}
-use Prim.Native.Nat.{ℕ, ◌≤◌}
+use Prim.Native.Nat.{ℕ}
 use lib.ListN.{drop}
 use mathlib.Core.Path.{◌≡◌}
 use Rattle.image.proofs.unsafe_name.Given as goal
