@@ -20,9 +20,10 @@ use Rattle.types.specs.Table.{Tab, most_numbers, capacity, denote}
 use Rattle.types.specs.Reading.{KindOf, PartOf, PartsOf, HasPart, PartAt}
 use Rattle.types.proofs.Parts.{kind_most, parts_few}
 use Rattle.types.proofs.Readers.{in_room, has_part}
+use Rattle.sheet.specs.declared.writer.Marks.{Marks}
 use Rattle.sheet.specs.declared.list.ListedName.{ListedName}
 use Rattle.sheet.specs.Listing.{start_at, length_at, type_at}
-use Rattle.sheet.specs.Marks.{most_written, order_from, count_in, tab_of, types_in, Marked}
+use Rattle.sheet.specs.Marks.{most_written, type_met, tab_of, types_in, Marked}
 use Rattle.sheet.specs.Writing.{listed_size, listed_records, listed_texts, ElementsIn, NumberOf, Put, Met, record_bytes, element_bytes, types_bytes, elements_bytes, names_bytes, Named, NamesFit, NamesPut, TextsFit}
 use Rattle.sheet.proofs.Meeting.{parts_stand}
 use Rattle.sheet.proofs.Marking.{types_length, type_at_lem}
@@ -66,7 +67,7 @@ part_known us ty j k h = elim (dec_lt j (length (parts ty))) [
   | no a ↦ absurd (omega (arith, ap kind (beyond (parts ty) j (omega arith))))
 ]
 
-module _ {cs ms : List ℕ} {i : ℕ} (m : Met cs ms i) where
+module _ {cs : List ℕ} {ms : Marks} {i : ℕ} (m : Met cs ms i) where
   abbrev tt₀ : Tab
   tt₀ = tab_of cs ms
 
@@ -143,20 +144,20 @@ laid_cons : (x : Triple) (xs : List Triple) → words (laid (x ∷ xs)) ≡ word
 unfolding words laid
 laid_cons x xs = refl
 
-pub record TypesLoop (t : Tab) (ms old : List ℕ) (n k from : ℕ) (out : List ℕ) : Type 0 where
+pub record TypesLoop (t : Tab) (ms : Marks) (old : List ℕ) (n k from : ℕ) (out : List ℕ) : Type 0 where
   pub marked : Marked t ms
-  pub many : n ≡ count_in ms
+  pub many : n ≡ ms.met
   pub passed : k ≤ n
   pub small : from ≤ most_numbers * k
   pub room : 40 + 12 * n ≤ length old
   pub long : length out ≡ length old
   pub left : put_at out (40 + 12 * k) (words (laid (type_records (types_in t ms) from (drop k (types_in t ms))))) ≡ put_at old 40 (types_bytes t ms)
 
-pub types_first : {t : Tab} {ms out : List ℕ} {n : ℕ} → Marked t ms → 40 + 12 * count_in ms ≤ length out → n ≡ count_in ms → TypesLoop t ms out n 0 0 out
+pub types_first : {t : Tab} {ms : Marks} {out : List ℕ} {n : ℕ} → Marked t ms → 40 + 12 * ms.met ≤ length out → n ≡ ms.met → TypesLoop t ms out n 0 0 out
 types_first m h e = record { marked = m; many = e; passed = omega arith; small = omega arith; room = omega arith; long = refl; left = refl }
 
 -- the type at place k of the sheet
-module _ {cs ms : List ℕ} {k i : ℕ} (m : Marked (tab_of cs ms) ms) (h : k < count_in ms) (e : i ≡ get_or ms (order_from + k) 0) where
+module _ {cs : List ℕ} {ms : Marks} {k i : ℕ} (m : Marked (tab_of cs ms) ms) (h : k < ms.met) (e : i ≡ type_met ms k) where
   pub met_at : Met cs ms i
   met_at = record {
     marked = m;
@@ -170,14 +171,14 @@ module _ {cs ms : List ℕ} {k i : ℕ} (m : Marked (tab_of cs ms) ms) (h : k < 
       let inside : k < length (types_in (tab_of cs ms) ms) = omega (arith, types_length m) in
       rw (drop-cons (types_in (tab_of cs ms) ms) k unknown inside, type_at_lem m k h, add-one k, e)
 
-module _ {cs ms old : List ℕ} {n k from : ℕ} {out : List ℕ} (l : TypesLoop (tab_of cs ms) ms old n k from out) where
-  pub types_met : {i : ℕ} → k < n → i ≡ get_or ms (order_from + k) 0 → Met cs ms i
+module _ {cs : List ℕ} {ms : Marks} {old : List ℕ} {n k from : ℕ} {out : List ℕ} (l : TypesLoop (tab_of cs ms) ms old n k from out) where
+  pub types_met : {i : ℕ} → k < n → i ≡ type_met ms k → Met cs ms i
   types_met h e = met_at l.marked (omega (arith, l.many)) e
 
   pub types_room : k < n → (from ≤ most_written) × (40 + 12 * k + 12 ≤ length out)
   types_room h = (omega (arith, l.small, l.many, l.marked.few), omega (arith, l.room, l.long))
 
-  pub types_next : {i r : ℕ} {new : List ℕ} → k < n → i ≡ get_or ms (order_from + k) 0 → Put out new (40 + 12 * k) (record_bytes (tab_of cs ms) ms from i) → ElementsIn cs i r
+  pub types_next : {i r : ℕ} {new : List ℕ} → k < n → i ≡ type_met ms k → Put out new (40 + 12 * k) (record_bytes (tab_of cs ms) ms from i) → ElementsIn cs i r
       → TypesLoop (tab_of cs ms) ms old n (k + 1) (from + r) new
   unfolding type_records
   types_next {i} {r} {new} h e p s =
@@ -199,7 +200,7 @@ module _ {cs ms old : List ℕ} {n k from : ℕ} {out : List ℕ} (l : TypesLoop
         left = left_next rest (omega (arith, (types_room h).1)) p place ∙ ap (put_at out (40 + 12 * k)) (sym split) ∙ l.left;
       }
 
-  pub types_sum : {i r : ℕ} → k < n → i ≡ get_or ms (order_from + k) 0 → ElementsIn cs i r → from + r ≤ 4212744
+  pub types_sum : {i r : ℕ} → k < n → i ≡ type_met ms k → ElementsIn cs i r → from + r ≤ 4212744
   types_sum h e s = omega (arith, (types_room h).0, s.small (tab_of cs ms) refl l.marked.wf (types_met h e).below)
 
   pub types_end : (k < n → ⊥) → Put old out 40 (types_bytes (tab_of cs ms) ms)
@@ -213,7 +214,7 @@ module _ {cs ms old : List ℕ} {n k from : ℕ} {out : List ℕ} (l : TypesLoop
 
 -- ---- the elements of one type
 
-pub record PartsLoop (cs ms : List ℕ) (i : ℕ) (old : List ℕ) (at n j : ℕ) (out : List ℕ) : Type 0 where
+pub record PartsLoop (cs : List ℕ) (ms : Marks) (i : ℕ) (old : List ℕ) (at n j : ℕ) (out : List ℕ) : Type 0 where
   pub met : Met cs ms i
   pub many : n ≡ length (elements_in (denote (tab_of cs ms) i))
   pub passed : j ≤ n
@@ -221,13 +222,13 @@ pub record PartsLoop (cs ms : List ℕ) (i : ℕ) (old : List ℕ) (at n j : ℕ
   pub long : length out ≡ length old
   pub left : put_at out (at + 4 * j) (words (map (number (types_in (tab_of cs ms) ms)) (drop j (elements_in (denote (tab_of cs ms) i))))) ≡ put_at old at (element_bytes (tab_of cs ms) ms i)
 
-pub parts_first : {cs ms : List ℕ} {i : ℕ} {out : List ℕ} {at n : ℕ} → Met cs ms i → at + 4 * length (elements_in (denote (tab_of cs ms) i)) ≤ length out → ElementsIn cs i n → PartsLoop cs ms i out at n 0 out
+pub parts_first : {cs : List ℕ} {ms : Marks} {i : ℕ} {out : List ℕ} {at n : ℕ} → Met cs ms i → at + 4 * length (elements_in (denote (tab_of cs ms) i)) ≤ length out → ElementsIn cs i n → PartsLoop cs ms i out at n 0 out
 parts_first {cs} {ms} {at = at} m h s =
     let e = s.says (tab_of cs ms) refl m.marked.wf m.below in
     let z : at + 4 * 0 ≡ at = omega arith in
     record { met = m; many = e; passed = omega arith; room = omega arith; long = refl; left = rw z }
 
-module _ {cs ms : List ℕ} {i : ℕ} {old : List ℕ} {at n j : ℕ} {out : List ℕ} (l : PartsLoop cs ms i old at n j out) where
+module _ {cs : List ℕ} {ms : Marks} {i : ℕ} {old : List ℕ} {at n j : ℕ} {out : List ℕ} (l : PartsLoop cs ms i old at n j out) where
   abbrev t₁ : Tab
   t₁ = tab_of cs ms
 
@@ -282,30 +283,30 @@ module _ {cs ms : List ℕ} {i : ℕ} {old : List ℕ} {at n j : ℕ} {out : Lis
 
 -- ---- the elements of all types
 
-pub record ElementsLoop (t : Tab) (ms old : List ℕ) (from n k at : ℕ) (out : List ℕ) : Type 0 where
+pub record ElementsLoop (t : Tab) (ms : Marks) (old : List ℕ) (from n k at : ℕ) (out : List ℕ) : Type 0 where
   pub marked : Marked t ms
-  pub many : n ≡ count_in ms
+  pub many : n ≡ ms.met
   pub passed : k ≤ n
   pub room : at + 4 * length (elements_of (drop k (types_in t ms))) ≤ length old
   pub long : length out ≡ length old
   pub left : put_at out at (words (map (number (types_in t ms)) (elements_of (drop k (types_in t ms))))) ≡ put_at old from (elements_bytes t ms)
 
-pub elements_first : {t : Tab} {ms out : List ℕ} {from n : ℕ} → Marked t ms → from + 4 * length (elements_of (types_in t ms)) ≤ length out → n ≡ count_in ms → ElementsLoop t ms out from n 0 from out
+pub elements_first : {t : Tab} {ms : Marks} {out : List ℕ} {from n : ℕ} → Marked t ms → from + 4 * length (elements_of (types_in t ms)) ≤ length out → n ≡ ms.met → ElementsLoop t ms out from n 0 from out
 elements_first m h e = record { marked = m; many = e; passed = omega arith; room = h; long = refl; left = refl }
 
-module _ {cs ms old : List ℕ} {from n k at : ℕ} {out : List ℕ} (l : ElementsLoop (tab_of cs ms) ms old from n k at out) where
-  pub elements_met : {i : ℕ} → k < n → i ≡ get_or ms (order_from + k) 0 → Met cs ms i
+module _ {cs : List ℕ} {ms : Marks} {old : List ℕ} {from n k at : ℕ} {out : List ℕ} (l : ElementsLoop (tab_of cs ms) ms old from n k at out) where
+  pub elements_met : {i : ℕ} → k < n → i ≡ type_met ms k → Met cs ms i
   elements_met h e = met_at l.marked (omega (arith, l.many)) e
 
-  elements_split : {i : ℕ} → k < n → i ≡ get_or ms (order_from + k) 0 → elements_of (drop k (types_in (tab_of cs ms) ms)) ≡ elements_in (denote (tab_of cs ms) i) ++ elements_of (drop (k + 1) (types_in (tab_of cs ms) ms))
+  elements_split : {i : ℕ} → k < n → i ≡ type_met ms k → elements_of (drop k (types_in (tab_of cs ms) ms)) ≡ elements_in (denote (tab_of cs ms) i) ++ elements_of (drop (k + 1) (types_in (tab_of cs ms) ms))
   elements_split h e = rw e (elements_step l.marked k (omega (arith, l.many)))
 
-  pub elements_room : {i : ℕ} → k < n → i ≡ get_or ms (order_from + k) 0 → at + 4 * length (elements_in (denote (tab_of cs ms) i)) ≤ length out
+  pub elements_room : {i : ℕ} → k < n → i ≡ type_met ms k → at + 4 * length (elements_in (denote (tab_of cs ms) i)) ≤ length out
   elements_room {i} h e =
       let t = tab_of cs ms in
       omega (arith, l.room, l.long, ap length (elements_split h e), length-append (elements_in (denote t i)) (elements_of (drop (k + 1) (types_in t ms))))
 
-  pub elements_next : {i r : ℕ} {new : List ℕ} → k < n → i ≡ get_or ms (order_from + k) 0 → Put out new at (element_bytes (tab_of cs ms) ms i) → r ≡ at + 4 * length (elements_in (denote (tab_of cs ms) i))
+  pub elements_next : {i r : ℕ} {new : List ℕ} → k < n → i ≡ type_met ms k → Put out new at (element_bytes (tab_of cs ms) ms i) → r ≡ at + 4 * length (elements_in (denote (tab_of cs ms) i))
       → ElementsLoop (tab_of cs ms) ms old from n (k + 1) r new
   elements_next {i} {r} {new} h e p er =
       let t = tab_of cs ms in
@@ -336,19 +337,19 @@ module _ {cs ms old : List ℕ} {from n k at : ℕ} {out : List ℕ} (l : Elemen
 
 -- ---- the name records
 
-pub record NamesLoop (ms : List ℕ) (cells : List ListedName) (n : ℕ) (old : List ℕ) (at k from : ℕ) (out : List ℕ) : Type 0 where
+pub record NamesLoop (ms : Marks) (cells : List ListedName) (n : ℕ) (old : List ℕ) (at k from : ℕ) (out : List ℕ) : Type 0 where
   pub fit : NamesFit cells n old at
   pub passed : k ≤ n
   pub small : from ≤ longest_name * k
   pub long : length out ≡ length old
   pub left : (t : Tab) → Named t ms cells n → put_at out (at + 12 * k) (words (laid (listed_records (types_in t ms) t cells from k (n - k)))) ≡ put_at old at (names_bytes t ms cells n)
 
-pub names_first : {ms : List ℕ} {cells : List ListedName} {n : ℕ} {out : List ℕ} {at : ℕ} → NamesFit cells n out at → NamesLoop ms cells n out at 0 0 out
+pub names_first : {ms : Marks} {cells : List ListedName} {n : ℕ} {out : List ℕ} {at : ℕ} → NamesFit cells n out at → NamesLoop ms cells n out at 0 0 out
 names_first {n = n} {at = at} f =
     let z : at + 12 * 0 ≡ at = omega arith in
     record { fit = f; passed = omega arith; small = omega arith; long = refl; left = λ t m. rw (z, all_left n) }
 
-module _ {ms : List ℕ} {cells : List ListedName} {n : ℕ} {old : List ℕ} {at k from : ℕ} {out : List ℕ} (l : NamesLoop ms cells n old at k from out) where
+module _ {ms : Marks} {cells : List ListedName} {n : ℕ} {old : List ℕ} {at k from : ℕ} {out : List ℕ} (l : NamesLoop ms cells n old at k from out) where
   pub names_room : k < n → at + 12 * k + 12 ≤ length out
   names_room h = omega (arith, l.fit.room, l.long)
 

@@ -9,10 +9,12 @@ use Rattle.meaning.specs.Limits.{most_types, longest_name, most_text}
 use Rattle.meaning.specs.Types.{Ty}
 use Rattle.meaning.specs.Sheet.{number, met}
 use Rattle.types.specs.Table.{Tab, denote}
+use Rattle.sheet.specs.declared.writer.Open.{Open}
+use Rattle.sheet.specs.declared.writer.Marks.{Marks}
 use Rattle.sheet.specs.declared.list.ListedName.{ListedName}
 use Rattle.sheet.specs.Listing.{start_at, length_at, type_at}
-use Rattle.sheet.specs.Marks.{type_count, tab_of, types_in, Marked, met_each}
-use Rattle.sheet.specs.Opening.{open_cells, few_types, OpenRoom, Visiting, Visited}
+use Rattle.sheet.specs.Marks.{tab_of, types_in, Marked, met_each}
+use Rattle.sheet.specs.Opening.{OpenRoom, Visiting, Visited}
 use Rattle.sheet.specs.Writing.{listed_types, listed_size, listed_records, listed_texts, Meeting, MetAll, Short}
 use Rattle.sheet.proofs.Marking.{own_tab}
 
@@ -48,27 +50,27 @@ all_left n = omega arith
 
 -- ---- the walk over the types
 
-pub record MeetLoop (cs ms : List ℕ) (cells : List ListedName) (n k : ℕ) (ns : List ℕ) : Type 0 where
+pub record MeetLoop (cs : List ℕ) (ms : Marks) (cells : List ListedName) (n k : ℕ) (ns : Marks) : Type 0 where
   pub meeting : Meeting cs ms cells n
   pub passed : k ≤ n
   pub marked : Marked (tab_of cs ms) ns
   pub left : met_each (listed_types (tab_of cs ms) cells k (n - k)) (types_in (tab_of cs ms) ns) ≡ met_each (listed_types (tab_of cs ms) cells 0 n) (types_in (tab_of cs ms) ms)
 
-pub meet_first : {cs ms : List ℕ} {cells : List ListedName} {n : ℕ} → Meeting cs ms cells n → MeetLoop cs ms cells n 0 ms
+pub meet_first : {cs : List ℕ} {ms : Marks} {cells : List ListedName} {n : ℕ} → Meeting cs ms cells n → MeetLoop cs ms cells n 0 ms
 meet_first {n = n} m = record { meeting = m; passed = omega arith; marked = m.marked; left = rw (all_left n) }
 
-module _ {cs ms : List ℕ} {cells : List ListedName} {n k : ℕ} {ns : List ℕ} (l : MeetLoop cs ms cells n k ns) where
+module _ {cs : List ℕ} {ms : Marks} {cells : List ListedName} {n k : ℕ} {ns : Marks} (l : MeetLoop cs ms cells n k ns) where
   abbrev t : Tab
   t = tab_of cs ms
 
-  pub meet_visit : {ops new : List ℕ} {r : ℕ} → OpenRoom ms ops → length new ≡ length ops → k < n → r ≡ type_at cells k → Visiting cs ns new r
+  pub meet_visit : {ops new : List Open} {r : ℕ} → OpenRoom ms ops → length new ≡ length ops → k < n → r ≡ type_at cells k → Visiting cs ns new r
   meet_visit o q h e = record {
     marked = subst (λ u. Marked u ns) (sym (own_tab l.marked)) l.marked;
     open_room = record { room = omega (arith, o.room, q, l.marked.types) };
     below = omega (arith, l.meeting.known k h, l.marked.types);
   }
 
-  pub meet_next : {r : ℕ} {os : List ℕ} → k < n → r ≡ type_at cells k → Visited cs ns os r → MeetLoop cs ms cells n (k + 1) os
+  pub meet_next : {r : ℕ} {os : Marks} → k < n → r ≡ type_at cells k → Visited cs ns os r → MeetLoop cs ms cells n (k + 1) os
   unfolding met_each
   meet_next {r} {os} h er v =
       let e : tab_of cs ns ≡ t = own_tab l.marked in
@@ -110,11 +112,3 @@ module _ {cells : List ListedName} {n k sum : ℕ} (l : SizeLoop cells n k sum) 
   pub size_end : (k < n → ⊥) → (sum ≡ listed_size cells 0 n) × (sum ≤ most_text)
   unfolding listed_size
   size_end h = let e = rw (none_left n k h) at l.left in (omega arith, omega (arith, l.small, l.short.few, l.passed))
-
--- ---- the cells of open types: few will do for few types
-
-pub few_room : {ms ops : List ℕ} → type_count ms ≤ few_types → length ops ≡ open_cells few_types → OpenRoom ms ops
-few_room h e = record { room = omega arith }
-
-pub many_room : {cs ms ops : List ℕ} → Marked (tab_of cs ms) ms → length ops ≡ open_cells most_types → OpenRoom ms ops
-many_room m e = record { room = omega (arith, m.wf.room, m.wf.most) }

@@ -23,11 +23,13 @@ use Rattle.meaning.proofs.SheetForm.{sheet_size}
 use Rattle.meaning.proofs.Answers.{overlaid_none}
 use Rattle.words.specs.Words.{put_at}
 use Rattle.words.proofs.Laws.{put_overlaid}
-use Rattle.types.specs.Table.{Tab, tab, denote, Wf}
+use Rattle.types.specs.Table.{Tab, tab, most_numbers, denote, Wf}
+use Rattle.types.specs.declared.Counts.{Counts}
+use Rattle.sheet.specs.declared.writer.Marks.{Marks}
 use Rattle.sheet.specs.declared.list.ListedName.{ListedName}
 use Rattle.sheet.specs.Listing.{start_at, length_at, type_at, entry_at, listed_from, listed, Listing, Wrote}
-use Rattle.sheet.specs.Marks.{mark_cells, met_cell, type_count_cell, element_count_cell, order_from, most_written, count_in, tab_of, types_in, Marked, met_each}
-use Rattle.sheet.specs.Writing.{listed_types, listed_size, listed_records, listed_texts, Meeting, MetAll, Short, Put, types_bytes, elements_bytes, names_bytes, Named, NamesFit, NamesPut, TextsFit, Blank, header_bytes, Filling}
+use Rattle.sheet.specs.Marks.{most_written, number_at, tab_of, types_in, Marked, met_each}
+use Rattle.sheet.specs.Writing.{listed_types, listed_size, listed_records, listed_texts, Meeting, MetAll, Short, Put, types_bytes, elements_bytes, names_bytes, Named, NamesFit, NamesPut, TextsFit, header_bytes, Filling}
 use Rattle.sheet.proofs.Marking.{own_tab, types_length}
 use Rattle.sheet.proofs.Areas.{put_then, put_as}
 
@@ -77,46 +79,30 @@ module _ (source : List ℕ) (t : Tab) (cells : List ListedName) where
 
 -- ---- before the walk
 
-pub blank : Blank (replicate mark_cells 1)
-blank = record { long = length-replicate {A = ℕ} mark_cells 1; one_at = λ x l. get_or-replicate mark_cells x 1 0 l }
+abbrev pub unmarked : Counts → Marks
+unmarked n = record { numbers = replicate most_numbers 1; order = replicate most_types 1; met = 0; counts = n }
 
-module _ (t : Tab) (w : Wf t) (bs : List ℕ) (b : Blank bs) where
-  abbrev ms₀ : List ℕ
-  ms₀ = set (set (set bs met_cell 0) type_count_cell t.n) element_count_cell t.m
+none_met : (t : Tab) (n : Counts) → types_in t (unmarked n) ≡ []
+unfolding types_in
+none_met t n = refl
 
-  begun_above : (x : ℕ) → (x ≡ type_count_cell → ⊥) → (x ≡ element_count_cell → ⊥) → get_or ms₀ x 0 ≡ get_or (set bs met_cell 0) x 0
-  begun_above x p q = get_or-set_other (set (set bs met_cell 0) type_count_cell t.n) element_count_cell x t.m 0 q ∙ get_or-set_other (set bs met_cell 0) type_count_cell x t.n 0 p
-
-  begun_long : length ms₀ ≡ mark_cells
-  begun_long = simp length-set b.long
-
-  begun_count : count_in ms₀ ≡ 0
-  begun_count = begun_above met_cell (λ e. absurd (omega arith)) (λ e. absurd (omega arith)) ∙ get_or-set_same bs met_cell 0 0 (omega (arith, b.long))
-
-  begun_types : types_in t ms₀ ≡ []
-  unfolding types_in
-  begun_types = ap (λ n. map (denote t) (take n (drop order_from ms₀))) begun_count
-
-  pub begun : Marked t ms₀
-  begun =
-      let low : (i : ℕ) → i < t.n → get_or ms₀ i 0 ≡ 1 = λ i h.
-      begun_above i (λ e. absurd (omega (arith, w.room, w.most))) (λ e. absurd (omega (arith, w.room, w.most)))
-      ∙ get_or-set_other bs met_cell i 0 0 (λ e. absurd (omega (arith, w.room, w.most)))
-      ∙ b.one_at i (omega (arith, w.room, w.most)) in
-      record {
-        wf = w;
-        long = begun_long;
-        types =
-            get_or-set_other (set (set bs met_cell 0) type_count_cell t.n) element_count_cell type_count_cell t.m 0 (λ e. absurd (omega arith))
-            ∙ get_or-set_same (set bs met_cell 0) type_count_cell t.n 0 (omega (arith, length-set bs met_cell 0, b.long));
-        elements = get_or-set_same (set (set bs met_cell 0) type_count_cell t.n) element_count_cell t.m 0 (omega (arith, length-set (set bs met_cell 0) type_count_cell t.n, length-set bs met_cell 0, b.long));
-        few = omega (arith, begun_count);
-        within = λ k h. absurd (omega (arith, begun_count));
-        ordered = rw begun_types tt;
-        known = λ i h n. absurd (n (low i h));
-        number = λ i h n. absurd (n (low i h));
-        fresh = λ i h z m. Memᴰ.not-nil (rw begun_types at m);
-      }
+begun : (cs : List ℕ) (n : Counts) → Wf (tab cs n.types n.elements) → Marked (tab cs n.types n.elements) (unmarked n)
+begun cs n w =
+    let t = tab cs n.types n.elements in
+    let unmet : (i : ℕ) → i < t.n → number_at (unmarked n) i ≡ 1 = λ i h. get_or-replicate most_numbers i 1 0 (omega (arith, w.room, w.most)) in
+    record {
+      wf = w;
+      types = refl;
+      elements = refl;
+      numbers_long = length-replicate {A = ℕ} most_numbers 1;
+      order_long = length-replicate {A = ℕ} most_types 1;
+      few = omega arith;
+      within = λ k h. absurd (omega arith);
+      ordered = rw (none_met t n) tt;
+      known = λ i h o. absurd (o (unmet i h));
+      number = λ i h o. absurd (o (unmet i h));
+      fresh = λ i h z m. Memᴰ.not-nil (rw (none_met t n) at m);
+    }
 
 -- ---- the areas end to end
 
@@ -133,7 +119,7 @@ header_long : (T E N S : ℕ) → length (header_bytes T E N S) ≡ 40
 unfolding header_bytes words
 header_long T E N S = refl
 
-module _ {source cs ms : List ℕ} {cells : List ListedName} {n E S : ℕ} {out : List ℕ} (f : Filling source cs ms cells n E S out) where
+module _ {source cs : List ℕ} {ms : Marks} {cells : List ListedName} {n E S : ℕ} {out : List ℕ} (f : Filling source cs ms cells n E S out) where
   abbrev t : Tab
   t = tab_of cs ms
 
@@ -157,21 +143,20 @@ module _ {source cs ms : List ℕ} {cells : List ListedName} {n E S : ℕ} {out 
     member = λ k h g. subst (Memᴰ (denote t (type_at cells k))) (sym f.types_are) ((types_met es [] tt).known (denote t (type_at cells k)) (member_listed source t cells 0 n k (omega arith) (omega arith)) g);
   }
 
-  pub names_fit : {o : List ℕ} {at : ℕ} → at ≡ 40 + 12 * count_in ms + 4 * E → length o ≡ length out → NamesFit cells n o at
-  names_fit e l = record {
+  pub names_fit : {o : List ℕ} → length o ≡ length out → NamesFit cells n o (40 + 12 * ms.met + 4 * E)
+  names_fit l = record {
     short = short;
     known = λ k h. omega (arith, f.listing.known k h, f.marked.wf.room, f.marked.wf.most);
     room = omega (arith, f.room);
   }
 
-  pub texts_fit : {o : List ℕ} {at : ℕ} → at ≡ 40 + 12 * count_in ms + 4 * E + 12 * n → length o ≡ length out → TextsFit source cells n o at
-  texts_fit e l = record { short = short; inside = f.listing.inside; room = omega (arith, f.room, f.size_is) }
+  pub texts_fit : {o : List ℕ} → length o ≡ length out → TextsFit source cells n o (40 + 12 * ms.met + 4 * E + 12 * n)
+  texts_fit l = record { short = short; inside = f.listing.inside; room = omega (arith, f.room, f.size_is) }
 
-  sheet_is : {T : ℕ} → T ≡ count_in ms
-      → sheet_of es ≡ header_bytes T E n S ++ types_bytes t ms ++ elements_bytes t ms ++ names_bytes t ms cells n ++ listed_texts source cells 0 n
+  sheet_is : sheet_of es ≡ header_bytes ms.met E n S ++ types_bytes t ms ++ elements_bytes t ms ++ names_bytes t ms cells n ++ listed_texts source cells 0 n
   unfolding sheet_of header_bytes listed
-  sheet_is {T} e_t =
-      let lu : length us ≡ T = types_length f.marked ∙ sym e_t in
+  sheet_is =
+      let lu = types_length f.marked in
       rw (
         ← f.types_are,
         records_listed source t cells us 0 0 n inside,
@@ -183,34 +168,34 @@ module _ {source cs ms : List ℕ} {cells : List ListedName} {n E S : ℕ} {out 
         ← f.elements_are,
       )
 
-  pub filled : {o₁ o₂ o₃ o₄ o₅ : List ℕ} {T : ℕ} → T ≡ count_in ms
-      → Put out o₁ 0 (header_bytes T E n S)
+  pub filled : {o₁ o₂ o₃ o₄ o₅ : List ℕ}
+      → Put out o₁ 0 (header_bytes ms.met E n S)
       → Put o₁ o₂ 40 (types_bytes t ms)
-      → Put o₂ o₃ (40 + 12 * T) (elements_bytes t ms)
-      → NamesPut ms cells n o₃ o₄ (40 + 12 * T + 4 * E)
-      → Put o₄ o₅ (40 + 12 * T + 4 * E + 12 * n) (listed_texts source cells 0 n)
+      → Put o₂ o₃ (40 + 12 * ms.met) (elements_bytes t ms)
+      → NamesPut ms cells n o₃ o₄ (40 + 12 * ms.met + 4 * E)
+      → Put o₄ o₅ (40 + 12 * ms.met + 4 * E + 12 * n) (listed_texts source cells 0 n)
       → Put out o₅ 0 (sheet_of es)
-  filled {T = T} e_t a b c d e =
-      let A = header_bytes T E n S in
+  filled a b c d e =
+      let A = header_bytes ms.met E n S in
       let B = types_bytes t ms in
       let C = elements_bytes t ms in
       let D = names_bytes t ms cells n in
-      let la = header_long T E n S in
-      let lb : length B ≡ 12 * T = omega (arith, laid_length (type_records us 0 us), types_many us 0 us, types_length f.marked) in
+      let la = header_long ms.met E n S in
+      let lb : length B ≡ 12 * ms.met = omega (arith, laid_length (type_records us 0 us), types_many us 0 us, types_length f.marked) in
       let lc : length C ≡ 4 * E = omega (arith, words_length (map (number us) (elements_of us)), length-map (elements_of us) (number us), f.elements_are) in
       let ld : length D ≡ 12 * n = omega (arith, laid_length (listed_records us t cells 0 0 n), ap length (records_listed source t cells us 0 0 n inside), names_many us 0 (listed_from source t cells 0 n), names_listed source t cells 0 n) in
-      let names : Put _ _ (40 + 12 * T + 4 * E) D = record { is = d.is t named; long = d.long } in
+      let names : Put _ _ (40 + 12 * ms.met + 4 * E) D = record { is = d.is t named; long = d.long } in
       let ab = put_then (omega arith) a (omega arith) b in
       let lab = length-append A B in
       let abc = put_then (omega arith) ab (omega arith) c in
       let labc = length-append (A ++ B) C in
       let abcd = put_then (omega arith) abc (omega arith) names in
       let labcd = length-append (A ++ B ++ C) D in
-      put_as (sheet_is e_t) (put_then (omega arith) abcd (omega arith) e)
+      put_as sheet_is (put_then (omega arith) abcd (omega arith) e)
 
-  pub total_is : {T : ℕ} → T ≡ count_in ms → length (sheet_of es) ≡ 40 + 12 * T + 4 * E + 12 * n + S
+  pub total_is : length (sheet_of es) ≡ 40 + 12 * ms.met + 4 * E + 12 * n + S
   unfolding listed
-  total_is {T} e_t =
+  total_is =
       let e = f.types_are in
       omega (
         arith,
@@ -226,49 +211,37 @@ module _ {source cs ms : List ℕ} {cells : List ListedName} {n E S : ℕ} {out 
 
 -- ---- what `write` knows after its walk
 
-pub record Walked (source : List ℕ) (t : Tab) (cells : List ListedName) (n : ℕ) (ms : List ℕ) : Type 0 where
+pub record Walked (source : List ℕ) (t : Tab) (cells : List ListedName) (n : ℕ) (ms : Marks) : Type 0 where
   pub listing : Listing source t cells n
   pub marked : Marked t ms
   pub types_are : types_in t ms ≡ types_of (listed source t cells n) []
 
-module _ {source cs : List ℕ} {cells : List ListedName} {bs ms : List ℕ} {N M n : ℕ} (l : Listing source (tab cs N M) cells n) (b : Blank bs) (e : ms ≡ set (set (set bs met_cell 0) type_count_cell N) element_count_cell M) where
-  first_marked : Marked (tab cs N M) ms
-  first_marked = subst (Marked (tab cs N M)) (sym e) (begun (tab cs N M) l.wf bs b)
+module _ {source cs : List ℕ} {cells : List ListedName} {n : ℕ} (m : Counts) (l : Listing source (tab cs m.types m.elements) cells n) where
+  pub meeting : Meeting cs (unmarked m) cells n
+  meeting = record { marked = begun cs m l.wf; few = l.few; known = l.known }
 
-  pub meeting : Meeting cs ms cells n
-  meeting = record {
-    marked = subst (λ u. Marked u ms) (sym (own_tab first_marked)) first_marked;
-    few = l.few;
-    known = λ k h. omega (arith, l.known k h, first_marked.types);
-  }
-
-  pub walked : {ns : List ℕ} → MetAll cs ms ns cells n → Walked source (tab cs N M) cells n ns
+  pub walked : {ms : Marks} → MetAll cs (unmarked m) ms cells n → Walked source (tab cs m.types m.elements) cells n ms
   unfolding listed
-  walked {ns} m =
-      let t = tab cs N M in
-      let own : tab_of cs ms ≡ t = own_tab first_marked in
-      let none : types_in t ms ≡ [] = ap (types_in t) e ∙ begun_types t l.wf bs b in
+  walked a =
+      let t = tab cs m.types m.elements in
       record {
         listing = l;
-        marked = subst (λ u. Marked u ns) own m.marked;
-        types_are =
-            subst (λ u. types_in u ns ≡ met_each (listed_types u cells 0 n) (types_in u ms)) own m.met_is
-            ∙ ap (met_each (listed_types t cells 0 n)) none
-            ∙ types_listed source t cells 0 n [];
+        marked = a.marked;
+        types_are = a.met_is ∙ ap (met_each (listed_types t cells 0 n)) (none_met t m) ∙ types_listed source t cells 0 n [];
       }
 
-module _ {source cs : List ℕ} {cells : List ListedName} {ms : List ℕ} {N M n : ℕ} (w : Walked source (tab cs N M) cells n ms) where
+module _ {source cs : List ℕ} {cells : List ListedName} {ms : Marks} {N M n : ℕ} (w : Walked source (tab cs N M) cells n ms) where
   pub own_marked : Marked (tab_of cs ms) ms
   own_marked = subst (λ u. Marked u ms) (sym (own_tab w.marked)) w.marked
 
   pub walked_short : Short cells n
   walked_short = record { few = w.listing.few; short = w.listing.short }
 
-  pub few_types : count_in ms ≤ most_types
+  pub few_types : ms.met ≤ most_types
   few_types = w.marked.few
 
-  module _ {T E S : ℕ} (e_t : T ≡ count_in ms) (e_e : (E ≡ length (elements_of (types_in (tab_of cs ms) ms))) × (E ≤ most_written)) (e_s : (S ≡ listed_size cells 0 n) × (S ≤ most_text)) where
-    pub filling : {out : List ℕ} → 40 + 12 * T + 4 * E + 12 * n + S ≤ length out → Filling source cs ms cells n E S out
+  module _ {E S : ℕ} (e_e : (E ≡ length (elements_of (types_in (tab_of cs ms) ms))) × (E ≤ most_written)) (e_s : (S ≡ listed_size cells 0 n) × (S ≤ most_text)) where
+    pub filling : {out : List ℕ} → 40 + 12 * ms.met + 4 * E + 12 * n + S ≤ length out → Filling source cs ms cells n E S out
     filling h =
         let own = sym (own_tab w.marked) in
         record {
@@ -282,15 +255,15 @@ module _ {source cs : List ℕ} {cells : List ListedName} {ms : List ℕ} {N M n
           room = omega arith;
         }
 
-    sheet_long : length (sheet_of (listed source (tab cs N M) cells n)) ≡ 40 + 12 * T + 4 * E + 12 * n + S
+    sheet_long : length (sheet_of (listed source (tab cs N M) cells n)) ≡ 40 + 12 * ms.met + 4 * E + 12 * n + S
     sheet_long =
-        let total = 40 + 12 * T + 4 * E + 12 * n + S in
+        let total = 40 + 12 * ms.met + 4 * E + 12 * n + S in
         let room : List ℕ = replicate total 0 in
         let long : length room ≡ total = length-replicate {A = ℕ} total 0 in
         let f = filling {out = room} (omega arith) in
-        subst (λ u. length (sheet_of (listed source u cells n)) ≡ total) (own_tab w.marked) (total_is f e_t)
+        subst (λ u. length (sheet_of (listed source u cells n)) ≡ total) (own_tab w.marked) (total_is f)
 
-    pub wrote_not : (out : List ℕ) → length out < 40 + 12 * T + 4 * E + 12 * n + S → Wrote (listed source (tab cs N M) cells n) None out out
+    pub wrote_not : (out : List ℕ) → length out < 40 + 12 * ms.met + 4 * E + 12 * n + S → Wrote (listed source (tab cs N M) cells n) None out out
     unfolding written test◌then◌else◌
     wrote_not out h =
         let es = listed source (tab cs N M) cells n in
@@ -301,8 +274,8 @@ module _ {source cs : List ℕ} {cells : List ListedName} {ms : List ℕ} {N M n
           out_is = rw no (sym (overlaid_none out));
         }
 
-    pub wrote_all : (out new : List ℕ) → (length out < 40 + 12 * T + 4 * E + 12 * n + S → ⊥) → Put out new 0 (sheet_of (listed source (tab_of cs ms) cells n))
-        → Wrote (listed source (tab cs N M) cells n) (Some (40 + 12 * T + 4 * E + 12 * n + S)) out new
+    pub wrote_all : (out new : List ℕ) → (length out < 40 + 12 * ms.met + 4 * E + 12 * n + S → ⊥) → Put out new 0 (sheet_of (listed source (tab_of cs ms) cells n))
+        → Wrote (listed source (tab cs N M) cells n) (Some (40 + 12 * ms.met + 4 * E + 12 * n + S)) out new
     unfolding written test◌then◌else◌
     wrote_all out new h p =
         let es = listed source (tab cs N M) cells n in

@@ -9,15 +9,15 @@ loop-k-init c =
 
 pub elements_in-sum-requires : goal.elements_in-sum-requires
 elements_in-sum-requires c =
-    sum_number c.loop-k.invariant (omega arith) c.mark.ensures.value
+    sum_number c.loop-k.invariant (omega arith) c.type_at.ensures
 
 pub overflow_add-sum : goal.overflow_add-sum
 overflow_add-sum c =
-    omega (arith, sum_room c.loop-k.invariant (omega arith) c.mark.ensures.value c.elements_in-sum.ensures)
+    omega (arith, sum_room c.loop-k.invariant (omega arith) c.type_at.ensures c.elements_in-sum.ensures)
 
 pub loop-k-preserved : goal.loop-k-preserved
 loop-k-preserved c =
-    sum_next c.loop-k.invariant (omega arith) c.mark.ensures.value c.elements_in-sum.ensures
+    sum_next c.loop-k.invariant (omega arith) c.type_at.ensures c.elements_in-sum.ensures
 
 pub returns-clause-value : goal.returns-clause-value
 returns-clause-value c =

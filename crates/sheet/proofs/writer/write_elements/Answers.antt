@@ -9,15 +9,15 @@ loop-k-init c =
 
 pub write_parts-at-requires-clause-met : goal.write_parts-at-requires-clause-met
 write_parts-at-requires-clause-met c =
-    elements_met c.loop-k.invariant (omega arith) c.mark.ensures.value
+    elements_met c.loop-k.invariant (omega arith) c.type_at.ensures
 
 pub write_parts-at-requires-clause-i_in_bounds : goal.write_parts-at-requires-clause-i_in_bounds
 write_parts-at-requires-clause-i_in_bounds c =
-    elements_room c.loop-k.invariant (omega arith) c.mark.ensures.value
+    elements_room c.loop-k.invariant (omega arith) c.type_at.ensures
 
 pub loop-k-preserved : goal.loop-k-preserved
 loop-k-preserved c =
-    elements_next c.loop-k.invariant (omega arith) c.mark.ensures.value c.write_parts-at.ensures.put c.write_parts-at.ensures.value
+    elements_next c.loop-k.invariant (omega arith) c.type_at.ensures c.write_parts-at.ensures.put c.write_parts-at.ensures.value
 
 pub returns : goal.returns
 returns c =

@@ -9,7 +9,7 @@ loop-k-init c =
 
 pub write_type-requires-clause-met : goal.write_type-requires-clause-met
 write_type-requires-clause-met c =
-    types_met c.loop-k.invariant (omega arith) c.mark-i.ensures.value
+    types_met c.loop-k.invariant (omega arith) c.type_at-i.ensures
 
 pub write_type-requires-clause-from_le_most_written : goal.write_type-requires-clause-from_le_most_written
 write_type-requires-clause-from_le_most_written c =
@@ -17,15 +17,15 @@ write_type-requires-clause-from_le_most_written c =
 
 pub elements_in-from-requires : goal.elements_in-from-requires
 elements_in-from-requires c =
-    met_room (types_met c.loop-k.invariant (omega arith) c.mark-i.ensures.value)
+    met_room (types_met c.loop-k.invariant (omega arith) c.type_at-i.ensures)
 
 pub overflow_add-from : goal.overflow_add-from
 overflow_add-from c =
-    omega (arith, types_sum c.loop-k.invariant (omega arith) c.mark-i.ensures.value c.elements_in-from.ensures)
+    omega (arith, types_sum c.loop-k.invariant (omega arith) c.type_at-i.ensures c.elements_in-from.ensures)
 
 pub loop-k-preserved : goal.loop-k-preserved
 loop-k-preserved c =
-    types_next c.loop-k.invariant (omega arith) c.mark-i.ensures.value c.write_type.ensures c.elements_in-from.ensures
+    types_next c.loop-k.invariant (omega arith) c.type_at-i.ensures c.write_type.ensures c.elements_in-from.ensures
 
 pub returns : goal.returns
 returns c =

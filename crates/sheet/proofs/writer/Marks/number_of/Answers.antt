@@ -1,6 +1,6 @@
 use Rattle.sheet.proofs.Sizes.{number_low, number_high}
 use native.Mathlib.Omega.{arith}
-use Rattle.sheet.proofs.writer.number_of.Goals as goal
+use Rattle.sheet.proofs.writer.Marks.number_of.Goals as goal
 
 pub returns-then-i-lt-STRUCTURED-clause-number_of : goal.returns-then-i-lt-STRUCTURED-clause-number_of
 returns-then-i-lt-STRUCTURED-clause-number_of c =
@@ -8,8 +8,4 @@ returns-then-i-lt-STRUCTURED-clause-number_of c =
 
 pub returns-clause-number_of : goal.returns-clause-number_of
 returns-clause-number_of c =
-    number_high _ _ _ (λ h. absurd (omega (arith, c.if-i-lt-STRUCTURED.false))) c.mark.ensures.value
-
-pub returns-clause-upper_bound : goal.returns-clause-upper_bound
-returns-clause-upper_bound c =
-    c.mark.ensures.upper_bound
+    number_high _ _ _ (λ h. absurd (omega (arith, c.if-i-lt-STRUCTURED.false))) c.from.ensures
