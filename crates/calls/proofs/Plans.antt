@@ -20,7 +20,7 @@ use Rattle.meaning.proofs.Faults.{Sound}
 use Rattle.types.specs.Table.{Tab}
 use Rattle.codes.specs.declared.Code.{Code}
 use Rattle.codes.specs.declared.Code.TheVariants.{BuiltinArity, FunctionArity}
-use Rattle.codes.specs.Codes.{number_of}
+use Rattle.codes.specs.Codes.{code_number}
 use Rattle.rules.specs.Outcome.{types_named, taken, pieces}
 use Rattle.image.specs.Parts.{record_of, name_means}
 use Rattle.image.specs.declared.NameAt.{NameAt}
@@ -121,9 +121,9 @@ module _ (ws : List Name) (x count : ℕ) where
     codes = λ c e. by_not_refused e;
   }
 
-  planned_refused : (code : Code) → 37 ≤ number_of code → number_of code ≤ 38
+  planned_refused : (code : Code) → 37 ≤ code_number code → code_number code ≤ 38
       → ((t : Tab) (n : ℕ) (cs : Children) → length cs ≡ count
-      → name_rule n (name_of ws x) (name_of ws x).role cs ≡ refused (refusal (number_of code) n (pieces ws t (number_of code) x count)))
+      → name_rule n (name_of ws x) (name_of ws x).role cs ≡ refused (refusal (code_number code) n (pieces ws t (code_number code) x count)))
       → Planned ws x count (Err code)
   planned_refused code l m f = record {
     well = λ k e. by_not_refused (sym e);

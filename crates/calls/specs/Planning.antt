@@ -6,7 +6,7 @@ use Rattle.meaning.specs.Message.{refusal}
 use Rattle.meaning.specs.Operators.{Checked, refused}
 use Rattle.meaning.specs.Rules.{Children, each_then, first_then, input_rule, len_rule, range_rule, stream_rule, builtin_rule, name_rule}
 use Rattle.codes.specs.declared.Code.{Code}
-use Rattle.codes.specs.Codes.{number_of}
+use Rattle.codes.specs.Codes.{code_number}
 use Rattle.types.specs.Table.{Tab}
 use Rattle.rules.specs.Outcome.{pieces}
 use Rattle.calls.specs.declared.Rule.{Rule}
@@ -47,5 +47,5 @@ pub record Planned (ws : List Name) (x count : ℕ) (p : Plan) : Type 0 where
       → name_rule n (name_of ws x) (name_of ws x).role cs ≡ rule_of k n cs
   pub enough : (k : Rule) → p ≡ Ok k → Enough k count
   pub ill : (code : Code) → p ≡ Err code → (t : Tab) (n : ℕ) (cs : Children) → length cs ≡ count
-      → name_rule n (name_of ws x) (name_of ws x).role cs ≡ refused (refusal (number_of code) n (pieces ws t (number_of code) x count))
-  pub codes : (code : Code) → p ≡ Err code → (37 ≤ number_of code) × (number_of code ≤ 38)
+      → name_rule n (name_of ws x) (name_of ws x).role cs ≡ refused (refusal (code_number code) n (pieces ws t (code_number code) x count))
+  pub codes : (code : Code) → p ≡ Err code → (37 ≤ code_number code) × (code_number code ≤ 38)

@@ -1,10 +1,10 @@
 -- The codes of typing refusals are 20 to 50.
-use Rattle.std.proofs.Common.{◌≤◌, arith}
+use Rattle.std.proofs.Common.{◌≡◌, ◌≤◌, refl, arith}
 use Rattle.codes.specs.declared.Code.{Code}
 use Rattle.codes.specs.declared.Code.TheVariants.{Break, Continue, InconsistentReturn, IncompatibleBranches, NotIterable, CannotAssign, UnpackLength, UnpackNonIterable, InvalidTarget, Plus, Times, Compare, Equality, NumericPair, IntOrFloat, ExpectedBool, Condition, BuiltinArity, FunctionArity, Input, Len, Range, MapFirst, MapSecond, FilterFirst, FilterSecond, ListIndex, DictKey, TupleIndex, StringIndex, NotSubscriptable}
-use Rattle.codes.specs.Codes.{number_of}
+use Rattle.codes.specs.Codes.{code_number}
 
-pub least_code : (c : Code) → 20 ≤ number_of c
+pub least_code : (c : Code) → 20 ≤ code_number c
 least_code Break = omega arith
 least_code Continue = omega arith
 least_code InconsistentReturn = omega arith
@@ -36,3 +36,36 @@ least_code DictKey = omega arith
 least_code TupleIndex = omega arith
 least_code StringIndex = omega arith
 least_code NotSubscriptable = omega arith
+
+pub not_subscriptable : (c : Code) → code_number c ≡ 50 → c ≡ NotSubscriptable
+not_subscriptable Break e = absurd (omega arith)
+not_subscriptable Continue e = absurd (omega arith)
+not_subscriptable InconsistentReturn e = absurd (omega arith)
+not_subscriptable IncompatibleBranches e = absurd (omega arith)
+not_subscriptable NotIterable e = absurd (omega arith)
+not_subscriptable CannotAssign e = absurd (omega arith)
+not_subscriptable UnpackLength e = absurd (omega arith)
+not_subscriptable UnpackNonIterable e = absurd (omega arith)
+not_subscriptable InvalidTarget e = absurd (omega arith)
+not_subscriptable Plus e = absurd (omega arith)
+not_subscriptable Times e = absurd (omega arith)
+not_subscriptable Compare e = absurd (omega arith)
+not_subscriptable Equality e = absurd (omega arith)
+not_subscriptable NumericPair e = absurd (omega arith)
+not_subscriptable IntOrFloat e = absurd (omega arith)
+not_subscriptable ExpectedBool e = absurd (omega arith)
+not_subscriptable Condition e = absurd (omega arith)
+not_subscriptable BuiltinArity e = absurd (omega arith)
+not_subscriptable FunctionArity e = absurd (omega arith)
+not_subscriptable Input e = absurd (omega arith)
+not_subscriptable Len e = absurd (omega arith)
+not_subscriptable Range e = absurd (omega arith)
+not_subscriptable MapFirst e = absurd (omega arith)
+not_subscriptable MapSecond e = absurd (omega arith)
+not_subscriptable FilterFirst e = absurd (omega arith)
+not_subscriptable FilterSecond e = absurd (omega arith)
+not_subscriptable ListIndex e = absurd (omega arith)
+not_subscriptable DictKey e = absurd (omega arith)
+not_subscriptable TupleIndex e = absurd (omega arith)
+not_subscriptable StringIndex e = absurd (omega arith)
+not_subscriptable NotSubscriptable e = refl

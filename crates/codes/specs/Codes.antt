@@ -3,35 +3,35 @@ use Rattle.std.specs.Prelude.{ℕ}
 use Rattle.codes.specs.declared.Code.{Code}
 use Rattle.codes.specs.declared.Code.TheVariants.{Break, Continue, InconsistentReturn, IncompatibleBranches, NotIterable, CannotAssign, UnpackLength, UnpackNonIterable, InvalidTarget, Plus, Times, Compare, Equality, NumericPair, IntOrFloat, ExpectedBool, Condition, BuiltinArity, FunctionArity, Input, Len, Range, MapFirst, MapSecond, FilterFirst, FilterSecond, ListIndex, DictKey, TupleIndex, StringIndex, NotSubscriptable}
 
-abbrev pub number_of : Code → ℕ
-number_of Break = 20
-number_of Continue = 21
-number_of InconsistentReturn = 22
-number_of IncompatibleBranches = 23
-number_of NotIterable = 24
-number_of CannotAssign = 25
-number_of UnpackLength = 26
-number_of UnpackNonIterable = 27
-number_of InvalidTarget = 28
-number_of Plus = 29
-number_of Times = 30
-number_of Compare = 31
-number_of Equality = 32
-number_of NumericPair = 33
-number_of IntOrFloat = 34
-number_of ExpectedBool = 35
-number_of Condition = 36
-number_of BuiltinArity = 37
-number_of FunctionArity = 38
-number_of Input = 39
-number_of Len = 40
-number_of Range = 41
-number_of MapFirst = 42
-number_of MapSecond = 43
-number_of FilterFirst = 44
-number_of FilterSecond = 45
-number_of ListIndex = 46
-number_of DictKey = 47
-number_of TupleIndex = 48
-number_of StringIndex = 49
-number_of NotSubscriptable = 50
+abbrev pub code_number : Code → ℕ
+code_number Break = 20
+code_number Continue = 21
+code_number InconsistentReturn = 22
+code_number IncompatibleBranches = 23
+code_number NotIterable = 24
+code_number CannotAssign = 25
+code_number UnpackLength = 26
+code_number UnpackNonIterable = 27
+code_number InvalidTarget = 28
+code_number Plus = 29
+code_number Times = 30
+code_number Compare = 31
+code_number Equality = 32
+code_number NumericPair = 33
+code_number IntOrFloat = 34
+code_number ExpectedBool = 35
+code_number Condition = 36
+code_number BuiltinArity = 37
+code_number FunctionArity = 38
+code_number Input = 39
+code_number Len = 40
+code_number Range = 41
+code_number MapFirst = 42
+code_number MapSecond = 43
+code_number FilterFirst = 44
+code_number FilterSecond = 45
+code_number ListIndex = 46
+code_number DictKey = 47
+code_number TupleIndex = 48
+code_number StringIndex = 49
+code_number NotSubscriptable = 50

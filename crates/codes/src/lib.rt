@@ -2,7 +2,7 @@
 #![tactic(auto)]
 
 ghost use Rattle.std.specs.Prelude.{◌≡◌};
-ghost use Rattle.codes.specs.Codes.{number_of};
+ghost use Rattle.codes.specs.Codes.{code_number};
 
 #[derive(Clone, Copy, PartialEq, Eq)]
 pub enum Code {
@@ -41,7 +41,7 @@ pub enum Code {
 
 impl Code {
     pub fn number(self) -> u32
-        ensures { result ≡ number_of self }
+        ensures { result ≡ code_number self }
     {
         self as u32
     }

@@ -75,7 +75,7 @@ given_node i m o f xs p g = rw (← p) g
 module _ {cells : List ℕ} {ns ms : Notes} {r : Typed} {rule : Checked} {place : ℕ} {d : Decision} (w : Wf (tab_in cells ns))
     (x : (ws : List Name) → Decides ws (tab_in cells ns) rule place d) (f : Settles ns ms r place d) where
   settled : Settled ns ms r (decision_number d) (decision_code d) place (decision_first d) (decision_second d)
-  settled = settles_settled d (x []).coded f
+  settled = settles_settled d f
 
   pub decided_given : {ws : List Name} (spent M : ℕ) → place < M
       → Given ws rule (tab_in cells ns) (tab_in cells ms) spent M (code_of r ms) (place_in ms) (number_of r) (first_in ms) (second_in ms)
@@ -129,7 +129,7 @@ pub streams_gives : {cs ds : List ℕ} {ns os ms : Notes} {r : Typed} {filters :
     → Streams (tab_in cs ns) (tab_in ds os) filters i d → Kept ns os ⊥ → Settles os ms r n d
     → Gives cs ds ns ms r n (λ t. second_rule filters n (denote t i))
 streams_gives {n = n} {d} s m k f =
-    let a = settles_settled d (m.says [] n).coded f in (
+    let a = settles_settled d f in (
       record { says = λ ws M l. settled_given a (streams_given M n l s.asks.wf m) },
       kept_trans k (settled_kept a),
     )

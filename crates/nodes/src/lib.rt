@@ -13,8 +13,9 @@ ghost use Rattle.state.specs.Notes.{tab_of, tab_in};
 ghost use Rattle.nodes.specs.Operands.{literal_number, Decidable, Streamable};
 ghost use Rattle.nodes.specs.Clauses.{Forms, FormsTuple, Gives, NodeGives};
 
+use codes::Code;
 use image::{Cursor, kinds, literals};
-use rules::{Decision, codes, index, stream, unary};
+use rules::{Decision, index, stream, unary};
 use state::{Notes, Stack, Typed};
 use types;
 use types::{Counts, form};
@@ -77,8 +78,11 @@ fn index_place(decision: Decision, object: usize, index: usize) -> usize
     ensures { result ≡ index_place (decision_code decision) object index }
 {
     match decision {
-        Err(why) if why.code == codes::NOT_SUBSCRIPTABLE => object,
-        _ => index,
+        Ok(_) => index,
+        Err(why) => match why.code {
+            Code::NotSubscriptable => object,
+            _ => index,
+        },
     }
 }
 

@@ -17,7 +17,7 @@ use Rattle.types.specs.Reading.{KindOf}
 use Rattle.types.proofs.Laws.{plain_number, same_number, same_unknown}
 use Rattle.std.specs.Prelude.{Ok, Err}
 use Rattle.codes.specs.declared.Code.{Code}
-use Rattle.codes.specs.Codes.{number_of}
+use Rattle.codes.specs.Codes.{code_number}
 use Rattle.codes.specs.declared.Code.TheVariants.{Len}
 use Rattle.rules.specs.Outcome.{Decision, types_named, because}
 use Rattle.rules.specs.Leaves.{OfOne, OfNumber, Expected, prompt_rule, sized_rule, bound_rule, callable_rule}
@@ -30,21 +30,21 @@ unfolding maybe
 maybe_number w p i hp hi = rw (same_number w i p hi hp, same_unknown w i hi)
 
 module _ (p i : ℕ) (c : Code) (r : ℕ) where
-  pub expect_same : i ≡ p → Expected p i (number_of c) r (Ok r)
+  pub expect_same : i ≡ p → Expected p i (code_number c) r (Ok r)
   unfolding when test◌then◌else◌ ◌or◌
   expect_same e = record {
     says = λ ws t n k w hi hp hr. accepts n r hr (rw (maybe_number w p i hp hi, eq-eqb i p e));
     codes = inl refl;
   }
 
-  pub expect_unknown : (i ≡ p → ⊥) → i ≡ 0 → Expected p i (number_of c) r (Ok r)
+  pub expect_unknown : (i ≡ p → ⊥) → i ≡ 0 → Expected p i (code_number c) r (Ok r)
   unfolding when test◌then◌else◌ ◌or◌
   expect_unknown d e = record {
     says = λ ws t n k w hi hp hr. accepts n r hr (rw (maybe_number w p i hp hi, ne_eqb i p d, eq-eqb i 0 e));
     codes = inl refl;
   }
 
-  pub expect_not : (i ≡ p → ⊥) → (i ≡ 0 → ⊥) → Expected p i (number_of c) r (Err (because c i 0))
+  pub expect_not : (i ≡ p → ⊥) → (i ≡ 0 → ⊥) → Expected p i (code_number c) r (Err (because c i 0))
   unfolding when test◌then◌else◌ ◌or◌
   expect_not d e = record {
     says = λ ws t n k w hi hp hr. refuses_one n c i 0 k hi (rw (maybe_number w p i hp hi, ne_eqb i p d, ne_eqb i 0 e));

@@ -15,7 +15,7 @@ use Rattle.types.proofs.Laws.{plain_number, same_number}
 use Rattle.operators.proofs.Laws.{kind_below, BinaryMeans, binary_means, UnaryMeans, unary_means}
 use Rattle.std.specs.Prelude.{Ok, Err}
 use Rattle.codes.specs.declared.Code.{Code}
-use Rattle.codes.specs.Codes.{number_of}
+use Rattle.codes.specs.Codes.{code_number}
 use Rattle.codes.specs.declared.Code.TheVariants.{Equality}
 use Rattle.codes.proofs.Laws.{least_code}
 use Rattle.rules.specs.Outcome.{types_named, because}
@@ -45,7 +45,7 @@ module _ {cs : List ℕ} {i k x : ℕ} (op : ℕ) (kind_is : KindOf cs i k) (ans
         accepts n x (omega (arith, w.base)) ((means t n s w h).gives l ∙ ap ok (sym (plain_number w x l)));
   }
 
-  pub unary_refuses : {c : Code} → number_of c ≡ x → OfOne cs (λ n. unary_rule n (unary_of op)) i (Err (because c i 0))
+  pub unary_refuses : {c : Code} → code_number c ≡ x → OfOne cs (λ n. unary_rule n (unary_of op)) i (Err (because c i 0))
   unary_refuses {c} e = record {
     says = λ ws t n s w h.
         let m = means t n s w h in
@@ -82,7 +82,7 @@ module _ {cs : List ℕ} {i j k l x : ℕ} (op : ℕ) (left : KindOf cs i k) (ri
         accepts n x (omega (arith, w.base)) ((both_mean t n s w hi hj).gives h ∙ ap ok (sym (plain_number w x h)));
   }
 
-  pub binary_refuses : {c : Code} → number_of c ≡ x → OfTwo cs (λ n. binary_rule n (binary_of op)) i j (Err (because c i j))
+  pub binary_refuses : {c : Code} → code_number c ≡ x → OfTwo cs (λ n. binary_rule n (binary_of op)) i j (Err (because c i j))
   binary_refuses {c} e = record {
     says = λ ws t n s w hi hj.
         let m = both_mean t n s w hi hj in

@@ -17,7 +17,7 @@ use Rattle.types.proofs.Forming.{ask_map, ask_filter}
 use Rattle.types.proofs.Answers.{perhaps_yes, perhaps_no}
 use Rattle.std.specs.Prelude.{Option, Some, None, Ok, Err}
 use Rattle.codes.specs.declared.Code.{Code}
-use Rattle.codes.specs.Codes.{number_of}
+use Rattle.codes.specs.Codes.{code_number}
 use Rattle.rules.specs.Outcome.{types_named, because}
 use Rattle.rules.specs.Leaves.{StreamedOf, stream_type, second_code, Asks, Streams}
 use Rattle.rules.proofs.Outcomes.{names_none, accepts, refuses_one}
@@ -71,7 +71,7 @@ second_names true = refl
 second_names false = refl
 
 module _ {t : Tab} {i : ℕ} (filters : Bool) (asks : Asks t i) {element : Option ℕ} (given : StreamedOf t.cells i element) where
-  pub second_refuses : {c : Code} → number_of c ≡ second_code filters → element ≡ None → Streams t t filters i (Err (because c i 0))
+  pub second_refuses : {c : Code} → code_number c ≡ second_code filters → element ≡ None → Streams t t filters i (Err (because c i 0))
   unfolding if_some
   second_refuses {c} s n = record {
     says = λ ws m.

@@ -6,7 +6,7 @@ use Rattle.meaning.specs.Message.{Piece, a_type, a_text, a_number, refusal}
 use Rattle.meaning.specs.Operators.{Checked, ok, refused}
 use Rattle.meaning.specs.Rules.{described}
 use Rattle.codes.specs.declared.Code.{Code}
-use Rattle.codes.specs.Codes.{number_of}
+use Rattle.codes.specs.Codes.{code_number}
 use Rattle.types.specs.Table.{Tab, denote}
 use Rattle.rules.specs.declared.Reason.{Reason}
 
@@ -49,7 +49,7 @@ because c a b = record { code = c; a = a; b = b }
 
 abbrev pub decision_code : Decision → ℕ
 decision_code (Ok n) = 0
-decision_code (Err w) = number_of w.code
+decision_code (Err w) = code_number w.code
 
 abbrev pub decision_number : Decision → ℕ
 decision_number (Ok n) = n
@@ -67,7 +67,7 @@ decision_second (Err w) = w.b
 unfoldable pub decided : List Name → Tab → ℕ → ℕ → ℕ → ℕ → ℕ → Checked
 decided ws t c n number a b = test eqb c 0 then ok (denote t number) else refused (refusal c n (pieces ws t c a b))
 
--- at node n the decision says what r is, its types are numbers of the table, its counts fit a word, and a refusal has a code
+-- at node n the decision says what r is, its types are numbers of the table, and its counts fit a word
 pub record Decides (ws : List Name) (t : Tab) (r : Checked) (n : ℕ) (d : Decision) : Type 0 where
   pub says : r ≡ decided ws t (decision_code d) n (decision_number d) (decision_first d) (decision_second d)
   pub below : decision_code d ≡ 0 → decision_number d < t.n
@@ -75,4 +75,3 @@ pub record Decides (ws : List Name) (t : Tab) (r : Checked) (n : ℕ) (d : Decis
   pub second : 2 ≤ types_named (decision_code d) → decision_second d < t.n
   pub small : (decision_code d ≡ 0 → ⊥) → types_named (decision_code d) ≡ 0
       → (decision_first d < 4294967296) × (decision_second d < 4294967296)
-  pub coded : (w : Reason) → d ≡ Err w → number_of w.code ≡ 0 → ⊥

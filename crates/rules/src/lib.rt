@@ -7,7 +7,7 @@ ghost use Rattle.meaning.specs.Decode.{unary_of, binary_of};
 ghost use Rattle.meaning.specs.Operators.{unary_rule, binary_rule};
 ghost use Rattle.types.specs.Table.{tab, capacity, denote, Made};
 ghost use Rattle.types.specs.Reading.{Known, IsNumber};
-ghost use Rattle.codes.specs.Codes.{number_of};
+ghost use Rattle.codes.specs.Codes.{code_number};
 ghost use Rattle.rules.specs.Outcome.{types_named, because};
 ghost use Rattle.rules.specs.Leaves.{OfOne, OfTwo, OfNumber, Expected, Keyed, Indexed};
 ghost use Rattle.rules.specs.Leaves.{prompt_rule, sized_rule, bound_rule, callable_rule};
@@ -114,7 +114,7 @@ pub fn dict_step(so_far: Pair, next: Pair) -> Option<Pair>
 
 // Type i where the type `wanted` or Unknown is expected: the type `result`, or the code.
 fn expect(wanted: usize, i: usize, code: Code, res: usize) -> Decision
-    ensures { Expected wanted i (number_of code) res result }
+    ensures { Expected wanted i (code_number code) res result }
 {
     if i == wanted {
         return Ok(res);
@@ -141,8 +141,8 @@ pub fn bound(a: usize) -> Decision
 
 // The first argument of `map` (code 42) or `filter` (code 44).
 pub fn callable(a: usize, code: Code) -> Decision
-    requires { types_named (number_of code) ≡ 1 }
-    ensures { OfNumber (callable_rule (number_of code)) a result }
+    requires { types_named (code_number code) ≡ 1 }
+    ensures { OfNumber (callable_rule (code_number code)) a result }
 {
     expect(types::FUNCTION, a, code, a)
 }
@@ -221,7 +221,7 @@ fn streamed_of(table: &[u16], i: usize) -> Option<usize>
 }
 
 fn second_code(filters: bool) -> Code
-    ensures { number_of result ≡ second_code filters }
+    ensures { code_number result ≡ second_code filters }
 {
     if filters {
         return Code::FilterSecond;

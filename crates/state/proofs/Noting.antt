@@ -9,6 +9,7 @@ use Rattle.meaning.specs.Image.{Name}
 use Rattle.meaning.specs.Operators.{Checked, ok}
 use Rattle.types.specs.Table.{Tab, denote}
 use Rattle.types.specs.declared.Counts.{Counts}
+use Rattle.codes.proofs.Laws.{least_code}
 use Rattle.rules.specs.Outcome.{Decision, decision_code, decision_number, decision_first, decision_second}
 use Rattle.rules.specs.declared.Reason.{Reason}
 use Rattle.rules.proofs.Outcomes.{names_none}
@@ -113,11 +114,11 @@ module _ {ns ms : Notes} {q : Typed} {code place number a b : ℕ} (f : Settled 
         space = g.space;
       }
 
--- a rule's decision, whose refusals have codes
-pub settles_settled : {ns ms : Notes} {q : Typed} {n : ℕ} (d : Decision) → ((w : Reason) → d ≡ Err w → w.code ≡ 0 → ⊥) → Settles ns ms q n d
+-- a rule's decision
+pub settles_settled : {ns ms : Notes} {q : Typed} {n : ℕ} (d : Decision) → Settles ns ms q n d
     → Settled ns ms q (decision_number d) (decision_code d) n (decision_first d) (decision_second d)
-settles_settled (Ok k) c s = record { well = λ z. s.well k refl; ill = λ z. absurd (z refl) }
-settles_settled (Err w) c s = record { well = λ z. absurd (c w refl z); ill = λ z. s.ill w refl }
+settles_settled (Ok k) s = record { well = λ z. s.well k refl; ill = λ z. absurd (z refl) }
+settles_settled (Err w) s = record { well = λ z. absurd (omega (arith, least_code w.code)); ill = λ z. s.ill w refl }
 
 pub settles_counts : {ns ms : Notes} {q : Typed} {n : ℕ} (d : Decision) → Settles ns ms q n d → ms.counts ≡ ns.counts
 settles_counts (Ok k) s = ap (λ n. n.counts) (s.well k refl).1

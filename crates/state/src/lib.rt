@@ -1,9 +1,11 @@
 // What the walk carries from node to node: its answers, the notes, and the stack of types that wait for a rule.
 #![tactic(auto)]
 
+ghost use Rattle.codes.specs.Codes.{code_number};
 ghost use Rattle.state.specs.Answer.{Settles};
 ghost use Rattle.state.specs.Notes.{Refused, Conflicted};
 
+use codes::Code;
 use frames::First;
 use limits::MOST_NODES;
 use rules::Decision;
@@ -27,8 +29,8 @@ pub type Outcome = Result<(), Noted>;
 pub struct Notes {
     // How many types and elements the table has.
     pub counts: Counts,
-    // The last refusal: its code, its node, and the two numbers that its message needs.
-    pub code: u32,
+    // The last refusal, if there was one: its code, its node, and the two numbers that its message needs.
+    pub code: Option<Code>,
     pub place: usize,
     pub first: usize,
     pub second: usize,
@@ -41,10 +43,10 @@ pub struct Notes {
 
 impl Notes {
     // Notes a refusal: its code, its node, and the two numbers that its message needs. The caller answers Err of it.
-    pub fn refuse(&mut self, code: u32, place: usize, a: usize, b: usize) -> Noted
-        ensures { Refused self.old self.new code place a b }
+    pub fn refuse(&mut self, code: Code, place: usize, a: usize, b: usize) -> Noted
+        ensures { Refused self.old self.new (code_number code) place a b }
     {
-        self.code = code;
+        self.code = Some(code);
         self.place = place;
         self.first = a;
         self.second = b;
@@ -52,8 +54,8 @@ impl Notes {
     }
 
     // Notes a 25 or a 23: they "answer with a second span", that of the node that first made the old type known.
-    pub fn conflict(&mut self, code: u32, place: usize, since: First, a: usize, b: usize) -> Noted
-        ensures { Conflicted self.old self.new code place since a b }
+    pub fn conflict(&mut self, code: Code, place: usize, since: First, a: usize, b: usize) -> Noted
+        ensures { Conflicted self.old self.new (code_number code) place since a b }
     {
         let noted = self.refuse(code, place, a, b);
         self.since = since;

@@ -1,19 +1,21 @@
+use borrow.Author.Tests.{ne_eqb}
+use Rattle.codes.specs.Codes.{code_number}
+use Rattle.codes.proofs.Laws.{not_subscriptable}
 use Rattle.meaning.specs.Base.{test◌then◌else◌}
 use Rattle.rules.specs.Leaves.{index_place}
-use borrow.Author.Tests.{eq-eqb, ne_eqb}
 use Rattle.nodes.proofs.index_place.Goals as goal
 
-pub returns-in-Err : goal.returns-in-Err
+pub returns-in-Ok : goal.returns-in-Ok
 unfolding index_place test◌then◌else◌
-returns-in-Err c =
-    rw (c.in-Err.is, eq-eqb _ _ c.if-why-eq-NOT_SUBSCRIPTABLE.true)
+returns-in-Ok c =
+    rw c.in-Ok.is
+
+pub returns-in-NotSubscriptable : goal.returns-in-NotSubscriptable
+unfolding index_place test◌then◌else◌
+returns-in-NotSubscriptable c =
+    rw (c.in-Err.is, c.in-NotSubscriptable.is)
 
 pub returns-in_default : goal.returns-in_default
 unfolding index_place test◌then◌else◌
 returns-in_default c =
-    rw (c.in-Err.is, ne_eqb _ _ c.if-why-eq-NOT_SUBSCRIPTABLE.false)
-
-pub returns-in_default-2 : goal.returns-in_default-2
-unfolding index_place test◌then◌else◌
-returns-in_default-2 c =
-    rw c.in_default.is
+    rw (c.in-Err.is, ne_eqb (code_number c.in-Err.why.code) 50 (λ e. c.in_default.not-NotSubscriptable (not_subscriptable _ e)))
