@@ -1,7 +1,7 @@
 -- Each area of the sheet: what a turn of its loop writes, and that what is left to write makes the whole.
 use mathlib.Core.Path.{◌≡◌, refl, sym, ap, ◌∙◌, subst}
 use mathlib.Core.List.{List, [], ◌∷◌, ◌++◌, map, map-append, Memᴰ}
-use Prim.Native.Nat.{ℕ, zero, suc, ◌+◌, ◌-◌, ◌*◌, ◌≤◌, ◌<◌}
+use Prim.Native.Nat.{ℕ, zero, suc, ◌+◌, ◌*◌, ◌≤◌, ◌<◌}
 use native.Mathlib.Numerals.{add-one}
 use native.Mathlib.Omega.{arith}
 use native.Mathlib.Decide.{dec_lt, ℕ_discrete}
@@ -27,7 +27,7 @@ use Rattle.sheet.specs.Marks.{most_written, type_met, tab_of, types_in, Marked}
 use Rattle.sheet.specs.Writing.{listed_size, listed_records, listed_texts, ElementsIn, NumberOf, Put, Met, record_bytes, element_bytes, types_bytes, elements_bytes, names_bytes, Named, NamesFit, NamesPut, TextsFit}
 use Rattle.sheet.proofs.Meeting.{parts_stand}
 use Rattle.sheet.proofs.Marking.{types_length, type_at_lem}
-use Rattle.sheet.proofs.Names.{size_step, records_step, texts_step, none_left, all_left}
+use Rattle.sheet.proofs.Names.{size_step, records_step, texts_step, none_left}
 use Rattle.sheet.proofs.Sizes.{elements_tuple, elements_none, elements_step}
 
 -- ---- writes
@@ -337,96 +337,89 @@ module _ {cs : List ℕ} {ms : Marks} {old : List ℕ} {from n k at : ℕ} {out 
 
 -- ---- the name records
 
-pub record NamesLoop (ms : Marks) (cells : List ListedName) (n : ℕ) (old : List ℕ) (at k from : ℕ) (out : List ℕ) : Type 0 where
-  pub fit : NamesFit cells n old at
-  pub passed : k ≤ n
+pub record NamesLoop (ms : Marks) (ns : List ListedName) (old : List ℕ) (at k from : ℕ) (out : List ℕ) : Type 0 where
+  pub fit : NamesFit ns old at
   pub small : from ≤ longest_name * k
   pub long : length out ≡ length old
-  pub left : (t : Tab) → Named t ms cells n → put_at out (at + 12 * k) (words (laid (listed_records (types_in t ms) t cells from k (n - k)))) ≡ put_at old at (names_bytes t ms cells n)
+  pub left : (t : Tab) → Named t ms ns → put_at out (at + 12 * k) (words (laid (listed_records (types_in t ms) t (drop k ns) from))) ≡ put_at old at (names_bytes t ms ns)
 
-pub names_first : {ms : Marks} {cells : List ListedName} {n : ℕ} {out : List ℕ} {at : ℕ} → NamesFit cells n out at → NamesLoop ms cells n out at 0 0 out
-names_first {n = n} {at = at} f =
+pub names_first : {ms : Marks} {ns : List ListedName} {out : List ℕ} {at : ℕ} → NamesFit ns out at → NamesLoop ms ns out at 0 0 out
+names_first {at = at} f =
     let z : at + 12 * 0 ≡ at = omega arith in
-    record { fit = f; passed = omega arith; small = omega arith; long = refl; left = λ t m. rw (z, all_left n) }
+    record { fit = f; small = omega arith; long = refl; left = λ t m. rw z }
 
-module _ {ms : Marks} {cells : List ListedName} {n : ℕ} {old : List ℕ} {at k from : ℕ} {out : List ℕ} (l : NamesLoop ms cells n old at k from out) where
-  pub names_room : k < n → at + 12 * k + 12 ≤ length out
-  names_room h = omega (arith, l.fit.room, l.long)
+module _ {ms : Marks} {ns : List ListedName} {old : List ℕ} {at k from : ℕ} {out : List ℕ} (l : NamesLoop ms ns old at k from out) (h : k < length ns) where
+  pub names_room : at + 12 * k + 12 ≤ length out
+  names_room = omega (arith, l.fit.room, l.long)
 
-  pub names_small : {len w : ℕ} → k < n → len ≡ length_at cells k → w < 4294967296 → (from < 4294967296) × (len < 4294967296) × (w < 4294967296)
-  names_small h e b = (omega (arith, l.small, l.fit.short.few), omega (arith, l.fit.short.short k h), b)
+  pub names_small : {w : ℕ} → w < 4294967296 → (from < 4294967296) × (length_at ns k < 4294967296) × (w < 4294967296)
+  names_small b = (omega (arith, l.small, l.fit.short.few), omega (arith, l.fit.short.short k h), b)
 
-  pub names_known : {r : ℕ} → k < n → r ≡ type_at cells k → r < most_numbers
-  names_known h e = omega (arith, l.fit.known k h)
+  pub names_known : type_at ns k < most_numbers
+  names_known = l.fit.known k h
 
-  pub names_sum : {len : ℕ} → k < n → len ≡ length_at cells k → from + len ≤ most_text
-  names_sum h e = omega (arith, l.small, l.fit.short.few, l.fit.short.short k h)
+  pub names_sum : from + length_at ns k ≤ most_text
+  names_sum = omega (arith, l.small, l.fit.short.few, l.fit.short.short k h)
 
-  pub names_next : {len r w : ℕ} {new : List ℕ} → k < n → len ≡ length_at cells k → r ≡ type_at cells k → NumberOf ms r w → Put out new (at + 12 * k) (words (from ∷ len ∷ w ∷ []))
-      → NamesLoop ms cells n old at (k + 1) (from + len) new
+  pub names_next : {w : ℕ} {new : List ℕ} → NumberOf ms (type_at ns k) w → Put out new (at + 12 * k) (words (from ∷ length_at ns k ∷ w ∷ []))
+      → NamesLoop ms ns old at (k + 1) (from + length_at ns k) new
   unfolding words laid
-  names_next {len} {r} {w} {new} h el er q p = record {
+  names_next {w} {new} q p = record {
     fit = l.fit;
-    passed = omega arith;
     small = omega (arith, l.small, l.fit.short.short k h);
     long = p.long ∙ l.long;
     left = λ t m.
         let us = types_in t ms in
-        let number_is : w ≡ number us (denote t (type_at cells k)) =
-        q.says t m.marked (omega (arith, m.known k h)) (rw er (m.member k h)) ∙ ap (λ x. number us (denote t x)) er in
-        let rest = words (laid (listed_records us t cells (from + len) (k + 1) (n - (k + 1)))) in
-        let split : words (laid (listed_records us t cells from k (n - k))) ≡ words (from ∷ len ∷ w ∷ []) ++ rest = rw (records_step n k h us t cells from, el, number_is) in
+        let len = length_at ns k in
+        let number_is : w ≡ number us (denote t (type_at ns k)) = q.says t m.marked (m.known k h) (m.member k h) in
+        let rest = words (laid (listed_records us t (drop (k + 1) ns) (from + len))) in
+        let split : words (laid (listed_records us t (drop k ns) from)) ≡ words (from ∷ len ∷ w ∷ []) ++ rest = rw (records_step ns k h us t from, number_is) in
         let place : at + 12 * (k + 1) ≡ at + 12 * k + 12 = omega arith in
-        left_next rest (omega (arith, names_room h)) p place ∙ ap (put_at out (at + 12 * k)) (sym split) ∙ l.left t m;
+        left_next rest (omega (arith, names_room)) p place ∙ ap (put_at out (at + 12 * k)) (sym split) ∙ l.left t m;
   }
 
-  pub names_end : (k < n → ⊥) → NamesPut ms cells n old out at
-  unfolding listed_records laid words
-  names_end h = record {
-    is = λ t m. sym (put_nil out (at + 12 * k)) ∙ ap (λ x. put_at out (at + 12 * k) (words (laid (listed_records (types_in t ms) t cells from k x)))) (sym (none_left n k h)) ∙ l.left t m;
-    long = l.long;
-  }
+pub names_end : {ms : Marks} {ns : List ListedName} {old : List ℕ} {at k from : ℕ} {out : List ℕ} → NamesLoop ms ns old at k from out → (k < length ns → ⊥) → NamesPut ms ns old out at
+unfolding listed_records laid words
+names_end {ms} {ns} {at = at} {k} {from} {out} l h = record {
+  is = λ t m. sym (put_nil out (at + 12 * k)) ∙ ap (λ (rs : List ListedName). put_at out (at + 12 * k) (words (laid (listed_records (types_in t ms) t rs from)))) (sym (none_left ns k h)) ∙ l.left t m;
+  long = l.long;
+}
 
 -- ---- the texts
 
-pub record TextsLoop (source : List ℕ) (cells : List ListedName) (n : ℕ) (old : List ℕ) (from k at : ℕ) (out : List ℕ) : Type 0 where
-  pub fit : TextsFit source cells n old from
-  pub passed : k ≤ n
-  pub room : at + listed_size cells k (n - k) ≤ length old
+pub record TextsLoop (source : List ℕ) (ns : List ListedName) (old : List ℕ) (from k at : ℕ) (out : List ℕ) : Type 0 where
+  pub fit : TextsFit source ns old from
+  pub room : at + listed_size (drop k ns) ≤ length old
   pub long : length out ≡ length old
-  pub left : put_at out at (listed_texts source cells k (n - k)) ≡ put_at old from (listed_texts source cells 0 n)
+  pub left : put_at out at (listed_texts source (drop k ns)) ≡ put_at old from (listed_texts source ns)
 
-pub texts_first : {source : List ℕ} {cells : List ListedName} {n : ℕ} {out : List ℕ} {from : ℕ} → TextsFit source cells n out from → TextsLoop source cells n out from 0 from out
-texts_first {n = n} f = record { fit = f; passed = omega arith; room = rw (all_left n) f.room; long = refl; left = rw (all_left n) }
+pub texts_first : {source : List ℕ} {ns : List ListedName} {out : List ℕ} {from : ℕ} → TextsFit source ns out from → TextsLoop source ns out from 0 from out
+texts_first f = record { fit = f; room = f.room; long = refl; left = refl }
 
-module _ {source : List ℕ} {cells : List ListedName} {n : ℕ} {old : List ℕ} {from k at : ℕ} {out : List ℕ} (l : TextsLoop source cells n old from k at out) where
-  pub texts_inside : {start len : ℕ} → k < n → start ≡ start_at cells k → len ≡ length_at cells k → start + len ≤ length source
-  texts_inside h es el = omega (arith, l.fit.inside k h)
+module _ {source : List ℕ} {ns : List ListedName} {old : List ℕ} {from k at : ℕ} {out : List ℕ} (l : TextsLoop source ns old from k at out) (h : k < length ns) where
+  text_length : length (take (length_at ns k) (drop (start_at ns k) source)) ≡ length_at ns k
+  text_length = length-take-le (length_at ns k) (drop (start_at ns k) source) (omega (arith, length-drop (start_at ns k) source, l.fit.inside k h))
 
-  text_length : {start len : ℕ} → k < n → start ≡ start_at cells k → len ≡ length_at cells k → length (take len (drop start source)) ≡ len
-  text_length {start} {len} h es el = length-take-le len (drop start source) (omega (arith, length-drop start source, texts_inside h es el))
+  pub texts_room : {s : List ℕ} → s ≡ take (length_at ns k) (drop (start_at ns k) source) → at + length s ≤ length out
+  texts_room e = omega (arith, l.room, l.long, size_step ns k h, ap length e, text_length)
 
-  pub texts_room : {start len : ℕ} {s : List ℕ} → k < n → start ≡ start_at cells k → len ≡ length_at cells k → s ≡ take len (drop start source) → at + length s ≤ length out
-  texts_room h es el e = omega (arith, l.room, l.long, size_step n k h cells, ap length e, text_length h es el)
-
-  pub texts_next : {start len r : ℕ} {s new : List ℕ} → k < n → start ≡ start_at cells k → len ≡ length_at cells k → s ≡ take len (drop start source) → new ≡ put_at out at s → r ≡ at + length s
-      → TextsLoop source cells n old from (k + 1) r new
-  texts_next {start} {len} {r} {s} {new} h es el e en er =
-      let fits = texts_room h es el e in
+  pub texts_next : {r : ℕ} {s new : List ℕ} → s ≡ take (length_at ns k) (drop (start_at ns k) source) → new ≡ put_at out at s → r ≡ at + length s
+      → TextsLoop source ns old from (k + 1) r new
+  texts_next {r} {s} {new} e en er =
+      let fits = texts_room e in
       let p : Put out new at s = record { is = en; long = rw en (put_length out at s fits) } in
-      let rest = listed_texts source cells (k + 1) (n - (k + 1)) in
-      let split : listed_texts source cells k (n - k) ≡ s ++ rest = rw (e, es, el) (texts_step n k h source cells) in
+      let rest = listed_texts source (drop (k + 1) ns) in
+      let split : listed_texts source (drop k ns) ≡ s ++ rest = rw e (texts_step ns k h source) in
       record {
         fit = l.fit;
-        passed = omega arith;
-        room = omega (arith, l.room, size_step n k h cells, ap length e, text_length h es el);
+        room = omega (arith, l.room, size_step ns k h, ap length e, text_length);
         long = p.long ∙ l.long;
         left = left_next rest (omega arith) p er ∙ ap (put_at out at) (sym split) ∙ l.left;
       }
 
-  pub texts_end : (k < n → ⊥) → Put old out from (listed_texts source cells 0 n)
-  unfolding listed_texts
-  texts_end h = record {
-    is = sym (put_nil out at) ∙ ap (λ x. put_at out at (listed_texts source cells k x)) (sym (none_left n k h)) ∙ l.left;
-    long = l.long;
-  }
+pub texts_end : {source : List ℕ} {ns : List ListedName} {old : List ℕ} {from k at : ℕ} {out : List ℕ} → TextsLoop source ns old from k at out → (k < length ns → ⊥) → Put old out from (listed_texts source ns)
+unfolding listed_texts
+texts_end {source} {ns} {k = k} {at} {out} l h = record {
+  is = sym (put_nil out at) ∙ ap (λ (rs : List ListedName). put_at out at (listed_texts source rs)) (sym (none_left ns k h)) ∙ l.left;
+  long = l.long;
+}

@@ -1,17 +1,16 @@
 -- The reader's end: the texts, the comparison with what the writer writes, and the answer.
 use mathlib.Core.Path.{◌≡◌, refl, sym, ap, ◌∙◌, subst}
 use mathlib.Core.Bool.{Bool, true, false, false≢true}
-use mathlib.Core.List.{List, [], ◌∷◌, ◌++◌}
-use Prim.Native.Nat.{ℕ, zero, suc, ◌+◌, ◌-◌, ◌≤◌, ◌<◌}
+use mathlib.Core.List.{List, [], ◌++◌, map}
+use Prim.Native.Nat.{ℕ, zero, suc, ◌+◌, ◌≤◌, ◌<◌}
 use native.Mathlib.Omega.{arith}
-use native.Mathlib.Numerals.{add-one}
 use borrow.Author.Tests.{leb-true, leb-false, le-leb}
 use lib.Dec.{leb}
 use Rattle.std.specs.Prelude.{Some, None}
 use Rattle.sheet.specs.declared.list.ListedName.{ListedName}
 use Rattle.sheet.specs.declared.reader.ReadSheet.{ReadSheet}
-use lib.ListN.{length, take, drop, length-append}
-use lib.Seq.{take-append_seam}
+use lib.ListN.{length, take, drop, length-append, length-take}
+use lib.Seq.{take-append_seam, get_or-take}
 use Rattle.meaning.specs.Base.{◌and◌, test◌then◌else◌, same_text, word, words, count}
 use Rattle.meaning.specs.Image.{text_stands}
 use Rattle.meaning.specs.Sheet.{Entry, types_of, elements_of, sheet_of, texts_stand, within_limits}
@@ -22,61 +21,37 @@ use Rattle.meaning.proofs.SheetWords.{four_bytes}
 use Rattle.meaning.proofs.SheetForm.{sheet_is, is_sheet_lem, sheet_size, sheet_length}
 use Rattle.meaning.specs.Limits.{largest_sheet, most_names, most_types, most_elements}
 use Rattle.types.specs.Table.{Tab}
-use Rattle.sheet.specs.Listing.{start_at, length_at, entry_at, listed_from, listed, Listing, Wrote}
+use Rattle.sheet.specs.Listing.{no_name, start_at, length_at, entry_of, listed_from, listed, Listing, Wrote}
 use Rattle.sheet.specs.Reading.{Bounds, TypesRead, NamesRead, TextsInside, TextsTold, Compared, tab_read, Reads}
+use Rattle.sheet.proofs.Names.{names_step, none_left}
+use Rattle.sheet.proofs.Whole.{listed_first}
 use Rattle.sheet.proofs.Naming.{entries_are, entries_listing, texts_of}
 
 -- ---- the texts
 
-pub record StandLoop (source : List ℕ) (cells : List ListedName) (n k last size : ℕ) : Type 0 where
-  pub texts : TextsInside source cells n
-  pub passed : k ≤ n
-  pub inside : last + size ≤ length source
-  pub left : (t : Tab) → texts_stand (take size (drop last source)) (listed_from source t cells k (n - k)) ≡ texts_stand [] (listed source t cells n)
+pub record StandLoop (source : List ℕ) (ns : List ListedName) (k : ℕ) (last : List ℕ) : Type 0 where
+  pub left : (t : Tab) → texts_stand last (map (entry_of source t) (drop k ns)) ≡ texts_stand [] (map (entry_of source t) ns)
 
-pub stand_first : {source : List ℕ} {cells : List ListedName} {n : ℕ} → TextsInside source cells n → StandLoop source cells n 0 0 0
-unfolding listed
-stand_first {source} {cells} {n} x =
-    let e : n - 0 ≡ n = omega arith in
-    record { texts = x; passed = omega arith; inside = omega arith; left = λ t. ap (λ m. texts_stand [] (listed_from source t cells 0 m)) e }
+pub stand_first : (source : List ℕ) (ns : List ListedName) → StandLoop source ns 0 []
+stand_first source ns = record { left = λ t. refl }
 
-module _ {source : List ℕ} {cells : List ListedName} {n k last size : ℕ} (l : StandLoop source cells n k last size) where
-  pub stand_inside : {s z : ℕ} → k < n → s ≡ start_at cells k → z ≡ length_at cells k → s + z ≤ length source
-  stand_inside h es ez = omega (arith, l.texts.inside k h)
+module _ {source : List ℕ} {ns : List ListedName} {k : ℕ} {last : List ℕ} (l : StandLoop source ns k last) (h : k < length ns)
+    {s : List ℕ} (e : s ≡ take (length_at ns k) (drop (start_at ns k) source)) {r : Bool} (er : r ≡ text_stands last s) where
+  split : (t : Tab) → (text_stands last s and texts_stand s (map (entry_of source t) (drop (k + 1) ns))) ≡ texts_stand [] (map (entry_of source t) ns)
+  unfolding texts_stand
+  split t = rw e (sym (ap (λ (rs : List ListedName). texts_stand last (map (entry_of source t) rs)) (names_step ns k h)) ∙ l.left t)
 
-  step : (t : Tab) → k < n → listed_from source t cells k (n - k) ≡ entry_at source t cells k ∷ listed_from source t cells (k + 1) (n - (k + 1))
-  unfolding listed_from count
-  step t h = let e : n - k ≡ suc (n - (k + 1)) = omega arith in rw (e, add-one k)
-
-  texts_split : (t : Tab) {s z : ℕ} → k < n → s ≡ start_at cells k → z ≡ length_at cells k
-      → (text_stands (take size (drop last source)) (take z (drop s source)) and texts_stand (take z (drop s source)) (listed_from source t cells (k + 1) (n - (k + 1)))) ≡ texts_stand [] (listed source t cells n)
-  unfolding texts_stand entry_at
-  texts_split t h es ez = rw (es, ez) (sym (ap (texts_stand (take size (drop last source))) (step t h)) ∙ l.left t)
-
-  pub stand_not : {s z : ℕ} {a b : List ℕ} {r : Bool} → k < n → s ≡ start_at cells k → z ≡ length_at cells k → a ≡ take size (drop last source) → b ≡ take z (drop s source)
-      → r ≡ text_stands a b → r ≡ false → TextsTold source cells n false
+  pub stand_not : r ≡ false → TextsTold source ns false
   unfolding ◌and◌
-  stand_not {s} {z} {a} {b} {r} h es ez ea eb er f = record {
-    is = λ t.
-        let no : text_stands (take size (drop last source)) (take z (drop s source)) ≡ false = rw (ea, eb) at (sym er ∙ f) in
-        rw no at (texts_split t h es ez);
-  }
+  stand_not f = record { is = λ t. rw (sym er ∙ f) at (split t) }
 
-  pub stand_next : {s z : ℕ} {a b : List ℕ} {r : Bool} → k < n → s ≡ start_at cells k → z ≡ length_at cells k → a ≡ take size (drop last source) → b ≡ take z (drop s source)
-      → r ≡ text_stands a b → r ≡ true → StandLoop source cells n (k + 1) s z
+  pub stand_next : r ≡ true → StandLoop source ns (k + 1) s
   unfolding ◌and◌
-  stand_next {s} {z} {a} {b} {r} h es ez ea eb er f = record {
-    texts = l.texts;
-    passed = omega arith;
-    inside = stand_inside h es ez;
-    left = λ t.
-        let ok : text_stands (take size (drop last source)) (take z (drop s source)) ≡ true = rw (ea, eb) at (sym er ∙ f) in
-        rw ok at (texts_split t h es ez);
-  }
+  stand_next f = record { left = λ t. rw (sym er ∙ f) at (split t) }
 
-  pub stand_end : (k < n → ⊥) → TextsTold source cells n true
-  unfolding listed_from count texts_stand
-  stand_end h = let e : n - k ≡ 0 = omega arith in record { is = λ t. rw e at (l.left t) }
+pub stand_end : {source : List ℕ} {ns : List ListedName} {k : ℕ} {last : List ℕ} → StandLoop source ns k last → (k < length ns → ⊥) → TextsTold source ns true
+unfolding texts_stand
+stand_end {ns = ns} {k} l h = record { is = λ t. rw (none_left ns k h) at (l.left t) }
 
 -- ---- the comparison
 
@@ -133,24 +108,34 @@ listed_many source t cells n = names_listed source t cells 0 n
 pub read_not : {bs cs : List ℕ} {cells : List ListedName} → is_sheet bs ≡ false → Reads bs None cs cells
 read_not f = record { stands_is = sym f; listing = tt; listed_is = tt }
 
-module _ {bs xs : List ℕ} {cells : List ListedName} {t : Tab} {n : ℕ} (b : Bounds bs) (ty : TypesRead bs xs t) (nr : NamesRead bs (take (word bs 4) xs) cells (word bs 20)) (en : n ≡ word bs 20) where
+module _ {bs xs : List ℕ} {cells : List ListedName} {t : Tab} {n : ℕ} (b : Bounds bs) (ty : TypesRead bs xs t) (nr : NamesRead bs (take (word bs 4) xs) cells (word bs 20)) (en : n ≡ word bs 20) (long : length cells ≡ most_names) where
   pub read_listing : Listing bs t cells n
   read_listing = subst (Listing bs t cells) (sym en) (entries_listing ty nr b)
 
-  pub read_inside : TextsInside bs cells n
-  read_inside = record { few = read_listing.few; inside = read_listing.inside }
+  many : n ≤ length cells
+  many = omega (arith, read_listing.few)
+
+  pub read_inside : TextsInside bs (take n cells)
+  read_inside = record {
+    inside = λ k h.
+        let here : k < n = omega (arith, length-take n cells) in
+        subst (λ (r : ListedName). r.start + r.len ≤ length bs) (sym (get_or-take n cells k no_name here)) (read_listing.inside k here);
+  }
 
   read_entries : listed bs t cells n ≡ entries_in bs
   read_entries = ap (listed bs t cells) en ∙ entries_are ty nr
 
-  pub texts_refused : {r : Bool} → TextsTold bs cells n r → r ≡ false → is_sheet bs ≡ false
+  read_firsts : map (entry_of bs t) (take n cells) ≡ entries_in bs
+  read_firsts = sym (listed_first bs t cells n many) ∙ read_entries
+
+  pub texts_refused : {r : Bool} → TextsTold bs (take n cells) r → r ≡ false → is_sheet bs ≡ false
   texts_refused x f =
-      not_so (is_sheet bs) (λ h. false≢true (sym f ∙ x.is t ∙ ap (texts_stand []) read_entries ∙ texts_of (entries_in bs) (sheet_is bs h).limits))
+      not_so (is_sheet bs) (λ h. false≢true (sym f ∙ x.is t ∙ ap (texts_stand []) read_firsts ∙ texts_of (entries_in bs) (sheet_is bs h).limits))
 
   -- the answer hangs on what the writer writes
-  module _ {q : Bool} (x : TextsTold bs cells n q) (f : q ≡ true) {r : Bool} (c : Compared bs (listed bs t cells n) r) where
+  module _ {q : Bool} (x : TextsTold bs (take n cells) q) (f : q ≡ true) {r : Bool} (c : Compared bs (listed bs t cells n) r) where
     stand : texts_stand [] (entries_in bs) ≡ true
-    stand = sym (x.is t ∙ ap (texts_stand []) read_entries) ∙ f
+    stand = sym (x.is t ∙ ap (texts_stand []) read_firsts) ∙ f
 
     pub rewrites_not : r ≡ false → is_sheet bs ≡ false
     rewrites_not e =
@@ -169,5 +154,5 @@ module _ {bs xs : List ℕ} {cells : List ListedName} {t : Tab} {n : ℕ} (b : B
         is_sheet_lem bs es record { written = y.0; limits = within es stand m u v }
 
 pub read_all : {bs xs cs : List ℕ} {cells : List ListedName} {s : ReadSheet} (b : Bounds bs) → TypesRead bs xs (tab_read cs s) → NamesRead bs (take (word bs 4) xs) cells (word bs 20)
-    → s.names ≡ word bs 20 → {q r : Bool} → TextsTold bs cells s.names q → q ≡ true → Compared bs (listed bs (tab_read cs s) cells s.names) r → r ≡ true → Reads bs (Some s) cs cells
-read_all b ty nr en x f c e = record { stands_is = sym (rewrites_so b ty nr en x f c e); listing = read_listing b ty nr en; listed_is = read_entries b ty nr en }
+    → s.names ≡ word bs 20 → length cells ≡ most_names → {q r : Bool} → TextsTold bs (take s.names cells) q → q ≡ true → Compared bs (listed bs (tab_read cs s) cells s.names) r → r ≡ true → Reads bs (Some s) cs cells
+read_all b ty nr en l x f c e = record { stands_is = sym (rewrites_so b ty nr en l x f c e); listing = read_listing b ty nr en l; listed_is = read_entries b ty nr en l }

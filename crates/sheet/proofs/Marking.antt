@@ -8,8 +8,8 @@ use native.Mathlib.Numerals.{add-one}
 use native.Mathlib.Omega.{arith}
 use native.Mathlib.Decide.{ℕ_discrete}
 use borrow.Author.Tests.{eq-eqb, ne_eqb}
-use lib.ListN.{length, get_or, set, take, drop, length-set, length-append, length-drop, length-map, get_or-map}
-use lib.Seq.{get_or-set_same, get_or-set_other, take-set-le, drop-set-lt, drop-set-add, take-suc-set, get_or-take, get_or-drop, length-take-le}
+use lib.ListN.{length, get_or, set, length-set, length-append, length-map, get_or-map}
+use lib.Seq.{get_or-set_same, get_or-set_other, take-suc-set, get_or-take, length-take-le}
 use Rattle.meaning.specs.Limits.{most_types}
 use Rattle.meaning.specs.Base.{test◌then◌else◌, count}
 use Rattle.meaning.specs.Types.{Ty, unknown}
@@ -17,7 +17,7 @@ use Rattle.meaning.specs.Sheet.{add_new}
 use Rattle.meaning.proofs.Choices.{count_long}
 use Rattle.meaning.proofs.SheetTypes.{Ordered}
 use Rattle.meaning.proofs.SheetWalk.{near, far, here}
-use Rattle.types.specs.Table.{Tab, tab, most_numbers, denote}
+use Rattle.types.specs.Table.{Tab, tab, denote}
 use Rattle.types.proofs.Laws.{unknown_number}
 use Rattle.sheet.specs.declared.writer.Marks.{Marks}
 use Rattle.sheet.specs.Marks.{number_at, type_met, order_in, tab_of, types_in, Marked, completed, Completing}

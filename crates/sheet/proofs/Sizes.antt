@@ -5,7 +5,7 @@ use Prim.Native.Nat.{ℕ, ◌+◌, ◌*◌, ◌≤◌, ◌<◌}
 use native.Mathlib.Numerals.{add-one}
 use native.Mathlib.Omega.{arith}
 use borrow.Author.Tests.{eq-eqb, ne_eqb}
-use lib.ListN.{length, get_or, drop, drop_of_length-le, length-append}
+use lib.ListN.{length, drop, drop_of_length-le, length-append}
 use lib.Seq.{drop-cons}
 use Rattle.meaning.specs.Base.{test◌then◌else◌}
 use Rattle.meaning.specs.Types.{Ty, unknown, kind, parts}

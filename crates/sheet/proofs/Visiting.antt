@@ -9,7 +9,7 @@ use native.Mathlib.Omega.{arith}
 use borrow.Author.Tests.{eqb-true, eqb-false}
 use lib.Dec.{eqb}
 use lib.ListN.{length, get_or, set, take, length-set}
-use lib.Seq.{get_or-set_same, get_or-set_other}
+use lib.Seq.{get_or-set_same}
 use Rattle.meaning.specs.Limits.{most_types}
 use Rattle.meaning.specs.Types.{Ty, parts}
 use Rattle.meaning.specs.Sheet.{met}

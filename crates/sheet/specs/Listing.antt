@@ -1,6 +1,6 @@
 -- Names with their types, as the writer takes them and the reader gives them: name k is a text of a source (start, length) and a type's
 -- number.
-use Rattle.std.specs.Prelude.{◌≡◌, List, Option, is_some, unwrap_or, map, ℕ, ◌+◌, ◌*◌, ◌≤◌, ◌<◌, leb, length, get_or, take, drop}
+use Rattle.std.specs.Prelude.{◌≡◌, List, Option, is_some, unwrap_or, map, ℕ, ◌+◌, ◌≤◌, ◌<◌, leb, length, get_or, take, drop}
 use Rattle.meaning.specs.Limits.{most_names, longest_name}
 use Rattle.meaning.specs.Base.{count}
 use Rattle.meaning.specs.Sheet.{Entry, sheet_of}
@@ -35,8 +35,12 @@ pub record PutName (cs ds : List ListedName) (k start size ty : ℕ) : Type 0 wh
   pub type_is : type_at ds k ≡ ty
   pub before : (j : ℕ) → j < k → SameName cs ds j
 
+-- the text and the type of a listed name
+abbrev pub entry_of : List ℕ → Tab → ListedName → Entry
+entry_of source t r = (take r.len (drop r.start source), denote t r.ty)
+
 unfoldable pub entry_at : List ℕ → Tab → List ListedName → ℕ → Entry
-entry_at source t cells k = (take (length_at cells k) (drop (start_at cells k) source), denote t (type_at cells k))
+entry_at source t cells k = entry_of source t (get_or cells k no_name)
 
 -- names k to k + n - 1
 unfoldable pub listed_from : List ℕ → Tab → List ListedName → ℕ → ℕ → List Entry

@@ -8,7 +8,7 @@ use Rattle.meaning.specs.Read.{triple, numbered, type_from, types_from, entries_
 use Rattle.types.specs.Table.{Tab, tab, most_numbers, capacity, denote, Wf, Grown}
 use Rattle.sheet.specs.declared.list.ListedName.{ListedName}
 use Rattle.sheet.specs.declared.reader.ReadSheet.{ReadSheet}
-use Rattle.sheet.specs.Listing.{start_at, length_at, type_at, SameName, listed, Listing}
+use Rattle.sheet.specs.Listing.{start_at, length_at, type_at, SameName, entry_of, listed, Listing}
 
 -- ---- the areas
 
@@ -144,13 +144,12 @@ pub record Naming (bs : List ℕ) (k : ℕ) (cells : List ListedName) : Type 0 w
 
 -- ---- the whole
 
-pub record TextsInside (source : List ℕ) (cells : List ListedName) (n : ℕ) : Type 0 where
-  pub few : n ≤ most_names
-  pub inside : (k : ℕ) → k < n → start_at cells k + length_at cells k ≤ length source
+pub record TextsInside (source : List ℕ) (ns : List ListedName) : Type 0 where
+  pub inside : (k : ℕ) → k < length ns → start_at ns k + length_at ns k ≤ length source
 
 -- the texts stand, whatever the table
-pub record TextsTold (source : List ℕ) (cells : List ListedName) (n : ℕ) (r : Bool) : Type 0 where
-  pub is : (t : Tab) → r ≡ texts_stand [] (listed source t cells n)
+pub record TextsTold (source : List ℕ) (ns : List ListedName) (r : Bool) : Type 0 where
+  pub is : (t : Tab) → r ≡ texts_stand [] (map (entry_of source t) ns)
 
 -- the sheet of es is bs and not too long
 pub record Compared (bs : List ℕ) (es : List Entry) (r : Bool) : Type 0 where

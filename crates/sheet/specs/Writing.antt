@@ -1,5 +1,5 @@
 -- The writer's steps: the types of the names, the sizes of the areas, and each area's bytes.
-use Rattle.std.specs.Prelude.{◌≡◌, ℕ, zero, suc, ◌+◌, ◌*◌, ◌≤◌, ◌<◌, length, get_or, take, drop}
+use Rattle.std.specs.Prelude.{◌≡◌, ℕ, ◌+◌, ◌*◌, ◌≤◌, ◌<◌, length, take, drop, sum_by}
 use mathlib.Core.List.{List, [], ◌∷◌, ◌++◌, map, Memᴰ}
 use Rattle.meaning.specs.Limits.{most_names, longest_name, most_text}
 use Rattle.meaning.specs.Base.{words}
@@ -9,38 +9,34 @@ use Rattle.words.specs.Words.{put_at}
 use Rattle.types.specs.Table.{Tab, most_numbers, Wf, denote}
 use Rattle.sheet.specs.declared.writer.Marks.{Marks}
 use Rattle.sheet.specs.declared.list.ListedName.{ListedName}
-use Rattle.sheet.specs.Listing.{start_at, length_at, type_at, listed, Listing}
+use Rattle.sheet.specs.Listing.{start_at, length_at, type_at, entry_of, Listing}
 use Rattle.sheet.specs.Marks.{most_written, Marked, tab_of, types_in, met_each}
 
--- ---- the names, by their cells alone
+-- ---- the names alone
 
-unfoldable pub listed_types : Tab → List ListedName → ℕ → ℕ → List Ty
-listed_types t cells k zero = []
-listed_types t cells k (suc n) = denote t (type_at cells k) ∷ listed_types t cells (suc k) n
+abbrev pub listed_types : Tab → List ListedName → List Ty
+listed_types t ns = map (λ (r : ListedName). denote t r.ty) ns
 
-unfoldable pub listed_size : List ListedName → ℕ → ℕ → ℕ
-listed_size cells k zero = 0
-listed_size cells k (suc n) = length_at cells k + listed_size cells (suc k) n
+abbrev pub listed_size : List ListedName → ℕ
+listed_size ns = sum_by (λ (r : ListedName). r.len) ns
 
-unfoldable pub listed_records : List Ty → Tab → List ListedName → ℕ → ℕ → ℕ → List Triple
-listed_records us t cells from k zero = []
-listed_records us t cells from k (suc n) =
-    (from, length_at cells k, number us (denote t (type_at cells k))) ∷ listed_records us t cells (from + length_at cells k) (suc k) n
+unfoldable pub listed_records : List Ty → Tab → List ListedName → ℕ → List Triple
+listed_records us t [] from = []
+listed_records us t (r ∷ rs) from = (from, r.len, number us (denote t r.ty)) ∷ listed_records us t rs (from + r.len)
 
-unfoldable pub listed_texts : List ℕ → List ListedName → ℕ → ℕ → List ℕ
-listed_texts source cells k zero = []
-listed_texts source cells k (suc n) = take (length_at cells k) (drop (start_at cells k) source) ++ listed_texts source cells (suc k) n
+unfoldable pub listed_texts : List ℕ → List ListedName → List ℕ
+listed_texts source [] = []
+listed_texts source (r ∷ rs) = take r.len (drop r.start source) ++ listed_texts source rs
 
 -- ---- the walk over the names
 
-pub record Meeting (cs : List ℕ) (ms : Marks) (cells : List ListedName) (n : ℕ) : Type 0 where
+pub record Meeting (cs : List ℕ) (ms : Marks) (ns : List ListedName) : Type 0 where
   pub marked : Marked (tab_of cs ms) ms
-  pub few : n ≤ most_names
-  pub known : (k : ℕ) → k < n → type_at cells k < ms.counts.types
+  pub known : (k : ℕ) → k < length ns → type_at ns k < ms.counts.types
 
-pub record MetAll (cs : List ℕ) (ms ns : Marks) (cells : List ListedName) (n : ℕ) : Type 0 where
-  pub marked : Marked (tab_of cs ms) ns
-  pub met_is : types_in (tab_of cs ms) ns ≡ met_each (listed_types (tab_of cs ms) cells 0 n) (types_in (tab_of cs ms) ms)
+pub record MetAll (cs : List ℕ) (ms new : Marks) (ns : List ListedName) : Type 0 where
+  pub marked : Marked (tab_of cs ms) new
+  pub met_is : types_in (tab_of cs ms) new ≡ met_each (listed_types (tab_of cs ms) ns) (types_in (tab_of cs ms) ms)
 
 -- ---- sizes
 
@@ -49,9 +45,9 @@ pub record ElementsIn (cs : List ℕ) (i r : ℕ) : Type 0 where
   pub says : (t : Tab) → t.cells ≡ cs → Wf t → i < t.n → r ≡ length (elements_in (denote t i))
   pub small : (t : Tab) → t.cells ≡ cs → Wf t → i < t.n → r ≤ most_numbers
 
-pub record Short (cells : List ListedName) (n : ℕ) : Type 0 where
-  pub few : n ≤ most_names
-  pub short : (k : ℕ) → k < n → length_at cells k ≤ longest_name
+pub record Short (ns : List ListedName) : Type 0 where
+  pub few : length ns ≤ most_names
+  pub short : (k : ℕ) → k < length ns → length_at ns k ≤ longest_name
 
 -- the elements of the types met
 abbrev pub elements_met : List ℕ → Marks → List Ty
@@ -87,29 +83,28 @@ types_bytes t ms = words (laid (type_records (types_in t ms) 0 (types_in t ms)))
 abbrev pub elements_bytes : Tab → Marks → List ℕ
 elements_bytes t ms = words (map (number (types_in t ms)) (elements_of (types_in t ms)))
 
-abbrev pub names_bytes : Tab → Marks → List ListedName → ℕ → List ℕ
-names_bytes t ms cells n = words (laid (listed_records (types_in t ms) t cells 0 0 n))
+abbrev pub names_bytes : Tab → Marks → List ListedName → List ℕ
+names_bytes t ms ns = words (laid (listed_records (types_in t ms) t ns 0))
 
 -- each name's type is one of the table, and plain or met
-pub record Named (t : Tab) (ms : Marks) (cells : List ListedName) (n : ℕ) : Type 0 where
+pub record Named (t : Tab) (ms : Marks) (ns : List ListedName) : Type 0 where
   pub marked : Marked t ms
-  pub known : (k : ℕ) → k < n → type_at cells k < t.n
-  pub member : (k : ℕ) → k < n → 8 ≤ kind (denote t (type_at cells k)) → Memᴰ (denote t (type_at cells k)) (types_in t ms)
+  pub known : (k : ℕ) → k < length ns → type_at ns k < t.n
+  pub member : (k : ℕ) → k < length ns → 8 ≤ kind (denote t (type_at ns k)) → Memᴰ (denote t (type_at ns k)) (types_in t ms)
 
-pub record NamesFit (cells : List ListedName) (n : ℕ) (out : List ℕ) (at : ℕ) : Type 0 where
-  pub short : Short cells n
-  pub known : (k : ℕ) → k < n → type_at cells k < most_numbers
-  pub room : at + 12 * n ≤ length out
+pub record NamesFit (ns : List ListedName) (out : List ℕ) (at : ℕ) : Type 0 where
+  pub short : Short ns
+  pub known : (k : ℕ) → k < length ns → type_at ns k < most_numbers
+  pub room : at + 12 * length ns ≤ length out
 
 -- whatever the table that the marks are made for
-pub record NamesPut (ms : Marks) (cells : List ListedName) (n : ℕ) (old new : List ℕ) (at : ℕ) : Type 0 where
-  pub is : (t : Tab) → Named t ms cells n → new ≡ put_at old at (names_bytes t ms cells n)
+pub record NamesPut (ms : Marks) (ns : List ListedName) (old new : List ℕ) (at : ℕ) : Type 0 where
+  pub is : (t : Tab) → Named t ms ns → new ≡ put_at old at (names_bytes t ms ns)
   pub long : length new ≡ length old
 
-pub record TextsFit (source : List ℕ) (cells : List ListedName) (n : ℕ) (out : List ℕ) (at : ℕ) : Type 0 where
-  pub short : Short cells n
-  pub inside : (k : ℕ) → k < n → start_at cells k + length_at cells k ≤ length source
-  pub room : at + listed_size cells 0 n ≤ length out
+pub record TextsFit (source : List ℕ) (ns : List ListedName) (out : List ℕ) (at : ℕ) : Type 0 where
+  pub inside : (k : ℕ) → k < length ns → start_at ns k + length_at ns k ≤ length source
+  pub room : at + listed_size ns ≤ length out
 
 -- ---- the whole
 
@@ -119,12 +114,12 @@ header_bytes types elements names size =
     ∷ (40 + 12 * types + 4 * elements + 12 * names) ∷ (40 + 12 * types + 4 * elements + 12 * names + size) ∷ [])
 
 -- everything is known that is to be written, and it fits
-pub record Filling (source cs : List ℕ) (ms : Marks) (cells : List ListedName) (n elements size : ℕ) (out : List ℕ) : Type 0 where
-  pub listing : Listing source (tab_of cs ms) cells n
+pub record Filling (source cs : List ℕ) (ms : Marks) (ns : List ListedName) (elements size : ℕ) (out : List ℕ) : Type 0 where
+  pub listing : Listing source (tab_of cs ms) ns (length ns)
   pub marked : Marked (tab_of cs ms) ms
-  pub types_are : types_in (tab_of cs ms) ms ≡ types_of (listed source (tab_of cs ms) cells n) []
+  pub types_are : types_in (tab_of cs ms) ms ≡ types_of (map (entry_of source (tab_of cs ms)) ns) []
   pub elements_are : elements ≡ length (elements_of (types_in (tab_of cs ms) ms))
   pub few : elements ≤ most_written
-  pub size_is : size ≡ listed_size cells 0 n
+  pub size_is : size ≡ listed_size ns
   pub small : size ≤ most_text
-  pub room : 40 + 12 * ms.met + 4 * elements + 12 * n + size ≤ length out
+  pub room : 40 + 12 * ms.met + 4 * elements + 12 * length ns + size ≤ length out

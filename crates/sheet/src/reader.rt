@@ -10,7 +10,7 @@ ghost use Rattle.sheet.specs.Reading.{Typing, Typed as TypeRead, TypesRead};
 ghost use Rattle.sheet.specs.Reading.{NameStep, NamesRead, Naming, TextsInside, TextsTold, Compared, Reads};
 
 use crate::header;
-use crate::list::{NameList, length_of, put_name, start_of};
+use crate::list::{ListedName, NameList, put_name};
 use crate::records::{ELEMENT, NAME_RECORD, SECOND_WORD, THIRD_WORD, TYPE_RECORD};
 use crate::writer::write;
 use limits::{LARGEST_SHEET, LONGEST_NAME, MOST_ELEMENTS, MOST_NAMES, MOST_TYPES};
@@ -272,20 +272,17 @@ fn read_names(sheet: &[u8], numbers: &Numbers, names: &mut NameList) -> bool
     true
 }
 
-fn texts_stand(sheet: &[u8], names: &NameList, count: usize) -> bool
-    requires { TextsInside sheet.now names.now count }
-    ensures { TextsTold sheet.now names.now count result }
+fn texts_stand(sheet: &[u8], names: &[ListedName]) -> bool
+    requires { TextsInside sheet.now names.now }
+    ensures { TextsTold sheet.now names.now result }
 {
-    let mut last = 0;
-    let mut size = 0;
-    for k in 0..count {
-        let start = start_of(names, k);
-        let len = length_of(names, k);
-        if !text_stands(text(sheet, last, size), text(sheet, start, len)) {
+    let mut last = text(sheet, 0, 0);
+    for name in names {
+        let spelling = text(sheet, name.start as usize, name.len as usize);
+        if !text_stands(last, spelling) {
             return false;
         }
-        last = start;
-        size = len;
+        last = spelling;
     }
     true
 }
@@ -327,7 +324,7 @@ pub fn read(sheet: &[u8], table: &mut [u16], names: &mut NameList) -> Option<Rea
         return None;
     }
     let count = word_at(sheet, header::NAME_COUNT);
-    if !texts_stand(sheet, names, count) {
+    if !texts_stand(sheet, &names[..count]) {
         return None;
     }
     if !rewrites(sheet, table, counts, names, count) {

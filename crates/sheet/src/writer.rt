@@ -1,10 +1,10 @@
 // The sheet's writer: the types of the names by one walk, then area after area.
-ghost use Rattle.std.specs.Prelude.{◌≡◌, [], ◌∷◌, length, get_or, ℕ, ◌+◌, ◌*◌, ◌≤◌, ◌<◌};
+ghost use Rattle.std.specs.Prelude.{◌≡◌, [], ◌∷◌, map, length, get_or, ℕ, ◌+◌, ◌*◌, ◌≤◌, ◌<◌};
 ghost use Rattle.meaning.specs.Base.{words};
 ghost use Rattle.meaning.specs.Limits.{most_names, most_text, most_types};
 ghost use Rattle.meaning.specs.Sheet.{elements_in, sheet_of};
 ghost use Rattle.types.specs.Table.{most_numbers, capacity, tab, denote};
-ghost use Rattle.sheet.specs.Listing.{Listing, listed, Wrote};
+ghost use Rattle.sheet.specs.Listing.{Listing, entry_of, listed, Wrote};
 ghost use Rattle.sheet.specs.Marks.{most_written, type_met, Completing, completed, Marked, tab_of};
 ghost use Rattle.sheet.specs.Opening.{New, OpenRoom, Visiting, Visited, Stepping, Stepped};
 ghost use Rattle.sheet.specs.Writing.{elements_met, Meeting, MetAll, ElementsIn, Short, listed_size, NumberOf};
@@ -12,7 +12,7 @@ ghost use Rattle.sheet.specs.Writing.{Put, Met, record_bytes, element_bytes, typ
 ghost use Rattle.sheet.specs.Writing.{NamesPut, TextsFit, listed_texts, header_bytes, Filling};
 
 use crate::header;
-use crate::list::{NameList, length_of, start_of, type_of};
+use crate::list::{ListedName, NameList};
 use crate::records::{ELEMENT, NAME_RECORD, SECOND_WORD, THIRD_WORD, TYPE_RECORD};
 use limits::MOST_TYPES;
 use types::{Counts, FRESH, STRUCTURED, TUPLE, kind_of, part_at, part_of, parts_of, second_of};
@@ -138,34 +138,34 @@ fn visit(table: &[u16], i: usize, marks: &mut Marks, path: &mut [Open])
 }
 
 // Visits the types of the names, in their order.
-fn meet_each(table: &[u16], names: &NameList, count: usize, marks: &mut Marks, path: &mut [Open])
-    requires meeting { Meeting table.now marks.old names.now count }
+fn meet_each(table: &[u16], names: &[ListedName], marks: &mut Marks, path: &mut [Open])
+    requires meeting { Meeting table.now marks.old names.now }
     requires open_room { OpenRoom marks.old path.old }
-    ensures { MetAll table.now marks.old marks.new names.now count }
+    ensures { MetAll table.now marks.old marks.new names.now }
 {
-    for k in 0..count {
-        visit(table, type_of(names, k), marks, path);
+    for name in names {
+        visit(table, name.ty as usize, marks, path);
     }
 }
 
 // A function of its own for each size of the array, with a frame of its own: a small one is soon filled.
-fn meet_in<const TYPES: usize>(table: &[u16], names: &NameList, count: usize, marks: &mut Marks)
-    requires meeting { Meeting table.now marks.old names.now count }
+fn meet_in<const TYPES: usize>(table: &[u16], names: &[ListedName], marks: &mut Marks)
+    requires meeting { Meeting table.now marks.old names.now }
     requires room { (marks.old.counts.types ≤ TYPES + 8) × (TYPES ≤ most_types) }
-    ensures { MetAll table.now marks.old marks.new names.now count }
+    ensures { MetAll table.now marks.old marks.new names.now }
 {
     let mut path = [NONE_OPEN; TYPES];
-    meet_each(table, names, count, marks, &mut path);
+    meet_each(table, names, marks, &mut path);
 }
 
-fn meet_all(table: &[u16], names: &NameList, count: usize, marks: &mut Marks)
-    requires { Meeting table.now marks.old names.now count }
-    ensures { MetAll table.now marks.old marks.new names.now count }
+fn meet_all(table: &[u16], names: &[ListedName], marks: &mut Marks)
+    requires { Meeting table.now marks.old names.now }
+    ensures { MetAll table.now marks.old marks.new names.now }
 {
     if marks.counts.types <= FEW {
-        meet_in::<FEW>(table, names, count, marks);
+        meet_in::<FEW>(table, names, marks);
     } else {
-        meet_in::<MOST_TYPES>(table, names, count, marks);
+        meet_in::<MOST_TYPES>(table, names, marks);
     }
 }
 
@@ -196,15 +196,11 @@ fn elements_of(table: &[u16], marks: &Marks) -> usize
 }
 
 // How many bytes the names' texts have.
-fn size_of(names: &NameList, count: usize) -> usize
-    requires { Short names.now count }
-    ensures { (result ≡ listed_size names.now 0 count) × (result ≤ most_text) }
+fn size_of(names: &[ListedName]) -> usize
+    requires { length names.now ≤ most_names }
+    ensures { result ≡ listed_size names.now }
 {
-    let mut sum = 0;
-    for k in 0..count {
-        sum += length_of(names, k);
-    }
-    sum
+    names.iter().map(|name| name.len as usize).sum()
 }
 
 // ---- areas
@@ -279,30 +275,30 @@ fn write_elements(table: &[u16], marks: &Marks, out: &mut [u8], from: usize)
     }
 }
 
-fn write_names(marks: &Marks, names: &NameList, count: usize, out: &mut [u8], at: usize)
-    requires { NamesFit names.now count out.old at }
-    ensures { NamesPut marks.now names.now count
-        out.old out.new at }
+fn write_names(marks: &Marks, names: &[ListedName], out: &mut [u8], at: usize)
+    requires { NamesFit names.now out.old at }
+    ensures { NamesPut marks.now names.now out.old out.new at }
 {
     let mut from = 0;
-    for k in 0..count {
-        let len = length_of(names, k);
-        let ty = marks.number_of(type_of(names, k));
+    for (k, name) in names.iter().enumerate() {
+        let len = name.len as usize;
+        let ty = marks.number_of(name.ty as usize);
         put_three(out, at + NAME_RECORD * k, from, len, ty);
         from += len;
     }
 }
 
-fn write_texts(source: &[u8], names: &NameList, count: usize, out: &mut [u8], from: usize)
-    requires { TextsFit source.now names.now count out.old from }
-    ensures { Put out.old out.new from
-        (listed_texts source.now names.now 0 count) }
+fn write_texts(source: &[u8], names: &[ListedName], out: &mut [u8], from: usize)
+    requires { TextsFit source.now names.now out.old from }
+    ensures { Put out.old out.new from (listed_texts source.now names.now) }
 {
     let mut at = from;
-    for k in 0..count {
-        let start = start_of(names, k);
-        let len = length_of(names, k);
-        at = put(out, at, text(source, start, len));
+    for name in names {
+        at = put(
+            out,
+            at,
+            text(source, name.start as usize, name.len as usize),
+        );
     }
 }
 
@@ -326,26 +322,25 @@ fn fill(
     source: &[u8],
     table: &[u16],
     marks: &Marks,
-    names: &NameList,
-    count: usize,
+    names: &[ListedName],
     elements: usize,
     size: usize,
     out: &mut [u8],
 )
-    requires { Filling source.now table.now marks.now names.now count elements size out.old }
+    requires { Filling source.now table.now marks.now names.now elements size out.old }
     ensures { Put out.old out.new 0
-        (sheet_of (listed source.now (tab_of table.now marks.now)
-        names.now count)) }
+        (sheet_of (map (entry_of source.now (tab_of table.now marks.now)) names.now)) }
 {
     let types = marks.met;
+    let count = names.len();
     let a = header::LENGTH + TYPE_RECORD * types;
     let b = a + ELEMENT * elements;
     let c = b + NAME_RECORD * count;
     write_header(out, types, elements, count, size);
     write_types(table, marks, out);
     write_elements(table, marks, out, a);
-    write_names(marks, names, count, out, b);
-    write_texts(source, names, count, out, c);
+    write_names(marks, names, out, b);
+    write_texts(source, names, out, c);
 }
 
 // Writes the sheet of the names to the front of `out` if it fits, and gives its length: if not, no byte changes.
@@ -367,9 +362,10 @@ pub fn write(
         met: 0,
         counts,
     };
-    meet_all(table, names, count, &mut marks);
+    let names = &names[..count];
+    meet_all(table, names, &mut marks);
     let elements = elements_of(table, &marks);
-    let size = size_of(names, count);
+    let size = size_of(names);
     let total = header::LENGTH
         + TYPE_RECORD * marks.met
         + ELEMENT * elements
@@ -378,6 +374,6 @@ pub fn write(
     if out.len() < total {
         return None;
     }
-    fill(source, table, &marks, names, count, elements, size, out);
+    fill(source, table, &marks, names, elements, size, out);
     Some(total)
 }

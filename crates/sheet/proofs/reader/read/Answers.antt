@@ -1,7 +1,6 @@
 use Rattle.sheet.proofs.Ending.{read_not, read_inside, texts_refused, read_listing, rewrites_not, read_all}
 use lib.ListN.{length-replicate}
 use Prim.Native.Nat.{ℕ}
-use mathlib.Core.Path.{refl}
 use Rattle.types.proofs.Room.{capacity_as}
 use native.Mathlib.Omega.{arith}
 use Rattle.meaning.specs.Limits.{most_types}
@@ -41,20 +40,20 @@ word_at-count-requires c =
 
 pub texts_stand-requires : goal.texts_stand-requires
 texts_stand-requires c =
-    read_inside (c.bounded.ensures.yes c.if-not-bounded.false) c.in_ok-counts.ensures (c.read_names.ensures.yes c.if-not-read_names.false) c.word_at-count.ensures.value
+    read_inside (c.bounded.ensures.yes c.if-not-bounded.false) c.in_ok-counts.ensures (c.read_names.ensures.yes c.if-not-read_names.false) c.word_at-count.ensures.value (omega arith)
 
 pub returns-then-not-texts_stand : goal.returns-then-not-texts_stand
 returns-then-not-texts_stand c =
-    read_not (texts_refused (c.bounded.ensures.yes c.if-not-bounded.false) c.in_ok-counts.ensures (c.read_names.ensures.yes c.if-not-read_names.false) c.word_at-count.ensures.value c.texts_stand.ensures c.if-not-texts_stand.true)
+    read_not (texts_refused (c.bounded.ensures.yes c.if-not-bounded.false) c.in_ok-counts.ensures (c.read_names.ensures.yes c.if-not-read_names.false) c.word_at-count.ensures.value (omega arith) c.texts_stand.ensures c.if-not-texts_stand.true)
 
 pub rewrites-requires : goal.rewrites-requires
 rewrites-requires c =
-    read_listing (c.bounded.ensures.yes c.if-not-bounded.false) c.in_ok-counts.ensures (c.read_names.ensures.yes c.if-not-read_names.false) c.word_at-count.ensures.value
+    read_listing (c.bounded.ensures.yes c.if-not-bounded.false) c.in_ok-counts.ensures (c.read_names.ensures.yes c.if-not-read_names.false) c.word_at-count.ensures.value (omega arith)
 
 pub returns-then-not-rewrites : goal.returns-then-not-rewrites
 returns-then-not-rewrites c =
-    read_not (rewrites_not (c.bounded.ensures.yes c.if-not-bounded.false) c.in_ok-counts.ensures (c.read_names.ensures.yes c.if-not-read_names.false) c.word_at-count.ensures.value c.texts_stand.ensures c.if-not-texts_stand.false c.rewrites.ensures c.if-not-rewrites.true)
+    read_not (rewrites_not (c.bounded.ensures.yes c.if-not-bounded.false) c.in_ok-counts.ensures (c.read_names.ensures.yes c.if-not-read_names.false) c.word_at-count.ensures.value (omega arith) c.texts_stand.ensures c.if-not-texts_stand.false c.rewrites.ensures c.if-not-rewrites.true)
 
 pub returns : goal.returns
 returns c =
-    read_all (c.bounded.ensures.yes c.if-not-bounded.false) c.in_ok-counts.ensures (c.read_names.ensures.yes c.if-not-read_names.false) c.word_at-count.ensures.value c.texts_stand.ensures c.if-not-texts_stand.false c.rewrites.ensures c.if-not-rewrites.false
+    read_all (c.bounded.ensures.yes c.if-not-bounded.false) c.in_ok-counts.ensures (c.read_names.ensures.yes c.if-not-read_names.false) c.word_at-count.ensures.value (omega arith) c.texts_stand.ensures c.if-not-texts_stand.false c.rewrites.ensures c.if-not-rewrites.false

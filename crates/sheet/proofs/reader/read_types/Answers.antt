@@ -1,4 +1,4 @@
-use Rattle.sheet.proofs.Typing.{loop_first, loop_typing, loop_small, loop_next, loop_end}
+use Rattle.sheet.proofs.Typing.{loop_first, loop_small, loop_next, loop_end}
 use mathlib.Core.Path.{refl, ◌∙◌}
 use native.Mathlib.Omega.{arith}
 use Rattle.sheet.proofs.reader.read_types.Goals as goal

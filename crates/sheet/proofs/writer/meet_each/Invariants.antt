@@ -3,5 +3,5 @@ use mathlib.Core.Path.{◌≡◌}
 use lib.ListN.{length}
 use Rattle.sheet.proofs.writer.meet_each.Given as goal
 
-abbrev pub invariant-loop-k : goal.invariant-loop-k
-invariant-loop-k l = MeetLoop l.table l.initial.marks l.names l.count l.k l.marks × (length l.path ≡ length l.initial.path)
+abbrev pub invariant-loop-name : goal.invariant-loop-name
+invariant-loop-name l = MeetLoop l.table l.initial.marks l.names l.name-index l.marks × (length l.path ≡ length l.initial.path)

@@ -1,4 +1,4 @@
-use Rattle.sheet.proofs.Visiting.{step_depth, step_there, step_room, step_next, step_completing, step_closed, step_place, step_part, step_begins, step_begun, step_passed}
+use Rattle.sheet.proofs.Visiting.{step_room, step_next, step_completing, step_closed, step_place, step_part, step_begun, step_passed}
 use mathlib.Core.Path.{refl}
 use native.Mathlib.Omega.{arith}
 use Rattle.sheet.proofs.writer.step.Goals as goal

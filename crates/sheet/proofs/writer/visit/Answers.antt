@@ -1,4 +1,4 @@
-use Rattle.sheet.proofs.Visiting.{begun_long, visit_number, visit_nothing, visit_begins, walk_first, walk_step, walk_less, walk_next, walk_end}
+use Rattle.sheet.proofs.Visiting.{begun_long, visit_number, visit_nothing, walk_first, walk_step, walk_less, walk_next, walk_end}
 use mathlib.Core.Path.{refl, ◌∙◌}
 use native.Mathlib.Omega.{arith}
 use Rattle.sheet.proofs.writer.visit.Goals as goal
