@@ -76,6 +76,7 @@ fn opening(kind: usize) -> &'static [u8]
     }
 }
 
+#[tactic(auto, unfolding(crate::proofs::Open::texts_open), using(std::proofs::lemmas::Bool::Decides::nat_tests))]
 fn closing(kind: usize) -> &'static [u8]
     ensures { result.now ≡ closing kind }
 {
@@ -86,6 +87,7 @@ fn closing(kind: usize) -> &'static [u8]
 }
 
 // Nothing stands before the first part.
+#[tactic(auto, unfolding(crate::proofs::Open::texts_open), using(std::proofs::lemmas::Bool::Decides::nat_tests))]
 fn comma(j: usize) -> &'static [u8]
     ensures { result.now ≡ comma j }
 {
@@ -94,6 +96,7 @@ fn comma(j: usize) -> &'static [u8]
 
 // ---- lengths: a text may double with each type, so they are counted up to a cap only
 
+#[tactic(auto, unfolding(crate::proofs::Open::texts_open), using(std::proofs::lemmas::Bool::Decides::nat_tests))]
 fn clip(x: usize, y: usize, cap: usize) -> usize
     ensures { result ≡ clipped cap (x + y) }
 {
