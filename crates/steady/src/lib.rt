@@ -31,8 +31,7 @@ fn first_def(image: &[u8]) -> Option<Def>
     let mut until = 0;
     while i < l.count {
         let node = node_at(image, l.nodes, i);
-        let kind = node.kind;
-        match kind {
+        match node.kind {
             kinds::IF => {
                 if until <= i {
                     until = node.stop as usize;

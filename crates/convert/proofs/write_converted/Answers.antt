@@ -8,10 +8,6 @@ use native.Mathlib.Omega.{arith}
 use Rattle.convert.proofs.write_converted.Goals as goal
 use Rattle.convert.proofs.write_converted.Goals.{then-node-eq-TREE_SET, else-node-eq-TREE_SET}
 
-pub put-requires : goal.put-requires
-put-requires c =
-    omega (arith, c.requires.image_in_bounds)
-
 pub areas-l-requires : goal.areas-l-requires
 areas-l-requires c =
     head_long c.requires.sound.headed
@@ -19,14 +15,6 @@ areas-l-requires c =
 pub loop-i-init : goal.loop-i-init
 loop-i-init c =
     (refl, rw c.put.ensures.buf_after (turned_none c.args.image.now c.args.out.now))
-
-pub node_at-node-requires-clause-headed : goal.node_at-node-requires-clause-headed
-node_at-node-requires-clause-headed c =
-    c.requires.sound.headed
-
-pub node_at-node-requires-clause-nodes_value : goal.node_at-node-requires-clause-nodes_value
-node_at-node-requires-clause-nodes_value c =
-    (c.areas-l.ensures.nodes, (omega (arith, c.areas-l.ensures.count)))
 
 pub put_kind-requires : goal.put_kind-requires
 put_kind-requires c =
