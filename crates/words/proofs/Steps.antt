@@ -1,5 +1,5 @@
--- What std's methods tell, in the documents' words, and a turn of the loops over digits. Assumes nothing.
-use Rattle.std.proofs.Common.{◌≡◌, refl, Bool, true, false, ◌&&◌, List, [], ◌∷◌, ℕ, ◌+◌, ◌-◌, ◌/◌, ◌%◌, ◌<◌, ◌≤◌, length, drop-drop, append_assoc, nat_eq, nat_le, arith}
+-- What std's methods tell, in the documents' words, and one digit more. Assumes nothing.
+use Rattle.std.proofs.Common.{◌≡◌, refl, sym, ap, ◌∙◌, zero, suc, ◌*◌, ◌^◌, max, Bool, true, false, ◌&&◌, List, [], ◌∷◌, ℕ, ◌+◌, ◌-◌, ◌/◌, ◌%◌, ◌<◌, ◌≤◌, length, drop-drop, append_assoc, nat_eq, nat_le, arith}
 use Rattle.std.specs.Cmp.Lexicographic.{pointwise, slice_partial_cmp}
 use Rattle.std.specs.List.{list_all}
 use Rattle.std.specs.Char.{is_ascii_graphic}
@@ -11,13 +11,13 @@ use lib.ListN.{set}
 use native.Mathlib.Decide.{dec_lt}
 use native.Mathlib.Numerals.{add-one, add-two, add-three}
 use lib.Seq.{sets-eq}
-use native.Mathlib.Nat.{div-div-eq-div-mul, add-sub_cancel_left}
+use native.Mathlib.Nat.{div-div-eq-div-mul, add-sub_cancel_left, one-le-pow, pow-suc}
 use borrow.Author.Tests.{eq-eqb, ne_eqb, lt-ltb, le-ltb}
 use Rattle.meaning.specs.Base.{◌and◌, test◌then◌else◌, all, same_text, before, decimal, words}
 use Rattle.meaning.specs.Image.{printable}
 use Rattle.meaning.proofs.SheetWords.{Small}
 use Rattle.words.specs.Words.{put_at}
-use Rattle.words.proofs.Laws.{put_byte, put_put_back, decimal_one, decimal_more, decimal_longer}
+use Rattle.words.proofs.Laws.{put_byte, put_length, put_put, decimal_one, decimal_more, decimal_longer}
 
 -- ---- what std tells of two texts, and of each byte of one
 
@@ -77,16 +77,25 @@ pub four_bytes_of : (w : ℕ) → to_le_bytes w32 w ≡ words (w ∷ [])
 unfolding words
 four_bytes_of w = rw (div-div-eq-div-mul w 256 256, div-div-eq-div-mul w 65536 256)
 
--- ---- digits, the last first
+-- ---- decimal
 
-pub decimal_last : (d : List ℕ) (at n : ℕ) → 10 ≤ n → Small n → at + length (decimal n) ≤ length d → put_at (set d (at + (length (decimal n) - 1)) (48 + n % 10)) at (decimal (n / 10)) ≡ put_at d at (decimal n)
-decimal_last d at n h small fits =
-    let higher = decimal (n / 10) in
-    let longer : length (decimal n) ≡ length higher + 1 = decimal_longer n h small in
-    let place : length (decimal n) - 1 ≡ length higher = omega arith in
-    rw (place, put_byte d (at + length higher) _ (omega arith), decimal_more n h small)
-    (put_put_back d at higher _ (omega arith))
+-- as many digits as the powers of ten that n reaches, and one more
+pub decimal_long : (n k : ℕ) → Small n → 10 ^ k ≤ max n 1 → max n 1 < 10 * 10 ^ k → k + 1 ≡ length (decimal n)
+decimal_long n zero small low high = sym (ap length (decimal_one n (omega arith)))
+decimal_long n (suc k) small low high =
+    let power : 10 ^ suc k ≡ 10 * 10 ^ k = omega (arith, pow-suc 10 k) in
+    let one : 1 ≤ 10 ^ k = one-le-pow k 10 (omega arith) in
+    let big : 10 ≤ n = omega (arith, power, one, low) in
+    omega (arith, decimal_longer n big small, decimal_long (n / 10) k (omega arith) (omega (arith, power, low, one)) (omega (arith, power, high, one)))
 
--- a digit that stands alone is all
 pub decimal_first : (d : List ℕ) (at n : ℕ) → n < 10 → at < length d → set d at (48 + n) ≡ put_at d at (decimal n)
 decimal_first d at n h fits = rw (decimal_one n h) (put_byte d at (48 + n) fits)
+
+-- one digit more, behind those of n / 10
+pub decimal_next : (d e : List ℕ) (at n : ℕ) → 10 ≤ n → Small n → at + length (decimal n) ≤ length d → e ≡ put_at d at (decimal (n / 10))
+    → set e (at + length (decimal (n / 10))) (48 + n % 10) ≡ put_at d at (decimal n)
+decimal_next d e at n h small fits written =
+    let longer : length (decimal n) ≡ length (decimal (n / 10)) + 1 = decimal_longer n h small in
+    let kept : length e ≡ length d = ap length written ∙ put_length d at (decimal (n / 10)) (omega arith) in
+    rw (put_byte e (at + length (decimal (n / 10))) _ (omega arith), written, decimal_more n h small)
+    (put_put d at (decimal (n / 10)) (omega arith) _)

@@ -104,17 +104,12 @@ pub fn put(buf: &mut [u8], at: usize, s: &[u8]) -> usize
 
 const BASE: u32 = 10;
 
+// 0 has one digit.
 pub fn decimal_length(n: u32) -> usize
     ensures value { result ≡ length (decimal n) }
     ensures lower_bound { (1 ≤ result) × (result ≤ 10) }
 {
-    let mut len = 1;
-    let mut rest = n;
-    while BASE <= rest {
-        rest /= BASE;
-        len += 1;
-    }
-    len
+    n.max(1).ilog10() as usize + 1
 }
 
 fn digit(d: u32) -> u8
@@ -124,21 +119,18 @@ fn digit(d: u32) -> u8
     b'0' + d as u8
 }
 
-// Division gives the last digit first, so the digits are written from the last to the first. Returns where they end in
-// buf.
+// Division gives the last digit first, so the ones before it are written by a call of its own. Returns where the digits
+// end in buf.
 pub fn put_decimal(buf: &mut [u8], at: usize, n: u32) -> usize
     requires { at + length (decimal n) ≤ length buf.old }
     ensures buf_after { buf.new ≡ put_at buf.old at (decimal n) }
     ensures value { result ≡ at + length (decimal n) }
 {
-    let len = decimal_length(n);
-    let mut left = len;
-    let mut rest = n;
-    while BASE <= rest {
-        left -= 1;
-        buf[at + left] = digit(rest % BASE);
-        rest /= BASE;
+    if n < BASE {
+        buf[at] = digit(n);
+        return at + 1;
     }
-    buf[at] = digit(rest);
-    at + len
+    let last = put_decimal(buf, at, n / BASE);
+    buf[last] = digit(n % BASE);
+    last + 1
 }
