@@ -1,8 +1,7 @@
 // What one node of an expression decides, given the types of its children: the rules of T's tc_expr, without its walk.
-#![tactic(auto)]
+#![tactic(auto, using(types::proofs::Readers::known_room, crate::proofs::Operations::read_kind))]
 
-ghost use Rattle.std.specs.Prelude.{◌≡◌, [], ◌∷◌, ◌<◌, Err};
-ghost use Rattle.meaning.specs.Base.{is_in};
+ghost use Rattle.std.specs.Prelude.{◌≡◌, ◌<◌, Err};
 ghost use Rattle.meaning.specs.Decode.{unary_of, binary_of};
 ghost use Rattle.meaning.specs.Operators.{unary_rule, binary_rule};
 ghost use Rattle.types.specs.Table.{tab, capacity, denote, Made};
@@ -55,9 +54,12 @@ pub fn binary(table: &[u16], op: u32, left: usize, right: usize) -> Decision
     requires known { (Known table.now left) × (Known table.now right) }
     ensures { OfTwo table.now (λ n. binary_rule n (binary_of op)) left right result }
 {
-    let l = kind_of(table, left);
-    let r = kind_of(table, right);
-    match answer_of(op, l as u32, r as u32) {
+    let answer = answer_of(
+        op,
+        kind_of(table, left) as u32,
+        kind_of(table, right) as u32,
+    );
+    match answer {
         Answer::Type(ty) => Ok(ty),
         Answer::Whole if left == right => Ok(types::BOOL),
         Answer::Whole => refused(Code::Equality, left, right),
@@ -116,13 +118,11 @@ pub fn dict_step(so_far: Pair, next: Pair) -> Option<Pair>
 fn expect(wanted: usize, i: usize, code: Code, res: usize) -> Decision
     ensures { Expected wanted i (code_number code) res result }
 {
-    if i == wanted {
-        return Ok(res);
+    if i == wanted || i == types::UNKNOWN {
+        Ok(res)
+    } else {
+        refused(code, i, 0)
     }
-    if i == types::UNKNOWN {
-        return Ok(res);
-    }
-    refused(code, i, 0)
 }
 
 // The one argument of `input`.
@@ -147,26 +147,15 @@ pub fn callable(a: usize, code: Code) -> Decision
     expect(types::FUNCTION, a, code, a)
 }
 
-// Unknown, String, List, Dict, Tuple.
-fn has_length(kind: usize) -> bool
-    ensures { result ≡ is_in kind (0 ∷ 3 ∷ 8 ∷ 9 ∷ 10 ∷ []) }
-{
-    match kind {
-        types::UNKNOWN | types::STRING | types::LIST | types::DICT | types::TUPLE => true,
-        _ => false,
-    }
-}
-
 // The first argument of `len`.
 pub fn len(table: &[u16], a: usize) -> Decision
     requires { a < capacity table.now }
     ensures { OfOne table.now sized_rule a result }
 {
-    let kind = kind_of(table, a);
-    if has_length(kind) {
-        return Ok(types::INT);
+    match kind_of(table, a) {
+        types::UNKNOWN | types::STRING | types::LIST | types::DICT | types::TUPLE => Ok(types::INT),
+        _ => refused(Code::Len, a, 0),
     }
-    refused(Code::Len, a, 0)
 }
 
 // ---- Index
@@ -175,24 +164,18 @@ pub fn len(table: &[u16], a: usize) -> Decision
 fn key(wanted: usize, i: usize, value: usize) -> Decision
     ensures { Keyed wanted i value result }
 {
-    if i == wanted {
-        return Ok(value);
+    if i == wanted || i == types::UNKNOWN || wanted == types::UNKNOWN {
+        Ok(value)
+    } else {
+        refused(Code::DictKey, wanted, i)
     }
-    if i == types::UNKNOWN {
-        return Ok(value);
-    }
-    if wanted == types::UNKNOWN {
-        return Ok(value);
-    }
-    refused(Code::DictKey, wanted, i)
 }
 
 pub fn index(table: &[u16], object: usize, index: usize) -> Decision
     requires { Known table.now object }
     ensures { Indexed table.now object index result }
 {
-    let kind = kind_of(table, object);
-    match kind {
+    match kind_of(table, object) {
         types::UNKNOWN => Ok(types::UNKNOWN),
         types::STRING => expect(types::INT, index, Code::StringIndex, types::STRING),
         types::LIST => expect(types::INT, index, Code::ListIndex, part_of(table, object)),
@@ -224,9 +207,10 @@ fn second_code(filters: bool) -> Code
     ensures { code_number result ≡ second_code filters }
 {
     if filters {
-        return Code::FilterSecond;
+        Code::FilterSecond
+    } else {
+        Code::MapSecond
     }
-    Code::MapSecond
 }
 
 // The FilterIter of an element type, or the MapIter of Unknown.
@@ -239,15 +223,16 @@ fn iterator(table: &mut [u16], counts: Counts, filters: bool, element: usize) ->
         0 }
 {
     if filters {
-        return form(table, counts, types::FILTER_ITER, element, types::NO_PART);
+        form(table, counts, types::FILTER_ITER, element, types::NO_PART)
+    } else {
+        form(
+            table,
+            counts,
+            types::MAP_ITER,
+            types::UNKNOWN,
+            types::NO_PART,
+        )
     }
-    form(
-        table,
-        counts,
-        types::MAP_ITER,
-        types::UNKNOWN,
-        types::NO_PART,
-    )
 }
 
 // A decision, and the counts of the table that has its type.

@@ -1,15 +1,6 @@
 use mathlib.Core.Path.{refl}
-use Rattle.rules.proofs.Operations.{read_kind, unary_gives, unary_refuses}
-use native.Mathlib.Omega.{arith}
+use Rattle.rules.proofs.Operations.{unary_gives, unary_refuses}
 use Rattle.rules.proofs.unary.Goals as goal
-
-pub overflow_cast-kind_of : goal.overflow_cast-kind_of
-overflow_cast-kind_of c =
-    omega (arith, read_kind c.requires.known c.kind_of.ensures)
-
-pub unary_answer_of-requires : goal.unary_answer_of-requires
-unary_answer_of-requires c =
-    (c.requires.op_bound, read_kind c.requires.known c.kind_of.ensures)
 
 pub returns-in-Ok : goal.returns-in-Ok
 returns-in-Ok c =
