@@ -10,10 +10,6 @@ use Rattle.meaning.proofs.SheetTypes.{Ordered}
 use Rattle.types.specs.Table.{Tab, tab, most_numbers, Wf, denote}
 use Rattle.sheet.specs.declared.writer.Marks.{Marks}
 
--- no type has more elements than there are numbers, so a sheet's types have no more than this
-abbrev pub most_written : ℕ
-most_written = most_types * most_numbers
-
 -- ---- the marks
 
 -- the number in the sheet of type i of the table, or 1
