@@ -1,6 +1,6 @@
 -- The marks of the writer's walk: the number that each type of the table has in the sheet, or 1 for none; and the table's numbers in the
 -- sheet's order, so many as are met.
-use Rattle.std.specs.Prelude.{◌≡◌, ℕ, ◌+◌, ◌*◌, ◌≤◌, ◌<◌, eqb, length, get_or, set, take}
+use Rattle.std.specs.Prelude.{◌≡◌, ℕ, ◌+◌, ◌≤◌, ◌<◌, eqb, length, get_or, set, take}
 use mathlib.Core.List.{List, [], ◌∷◌, map, Memᴰ}
 use Rattle.meaning.specs.Base.{test◌then◌else◌}
 use Rattle.meaning.specs.Limits.{most_types}

@@ -11,7 +11,6 @@ use Rattle.sheet.specs.declared.layout.Areas.{Areas}
 use Rattle.sheet.specs.declared.writer.Marks.{Marks}
 use Rattle.sheet.specs.declared.list.ListedName.{ListedName}
 use Rattle.sheet.specs.Listing.{start_at, length_at, type_at, entry_of, Listing}
-use Rattle.sheet.specs.Counting.{most_written}
 use Rattle.sheet.specs.Marks.{Marked, tab_of, types_in, met_each}
 
 -- ---- the names alone
