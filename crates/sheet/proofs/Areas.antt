@@ -23,7 +23,8 @@ use Rattle.types.proofs.Readers.{in_room, has_part}
 use Rattle.sheet.specs.declared.writer.Marks.{Marks}
 use Rattle.sheet.specs.declared.list.ListedName.{ListedName}
 use Rattle.sheet.specs.Listing.{start_at, length_at, type_at}
-use Rattle.sheet.specs.Marks.{most_written, type_met, tab_of, types_in, Marked}
+use Rattle.sheet.specs.Counting.{most_written}
+use Rattle.sheet.specs.Marks.{type_met, tab_of, types_in, Marked}
 use Rattle.sheet.specs.Writing.{listed_size, listed_records, listed_texts, ElementsIn, NumberOf, Put, Met, record_bytes, element_bytes, types_bytes, elements_bytes, names_bytes, Named, NamesFit, NamesPut, TextsFit}
 use Rattle.sheet.proofs.Meeting.{parts_stand}
 use Rattle.sheet.proofs.Marking.{types_length, type_at_lem}

@@ -8,7 +8,7 @@ use borrow.Author.Tests.{leb-true, leb-false, le-leb}
 use lib.Dec.{leb}
 use Rattle.std.specs.Prelude.{Some, None}
 use Rattle.sheet.specs.declared.list.ListedName.{ListedName}
-use Rattle.sheet.specs.declared.reader.ReadSheet.{ReadSheet}
+use Rattle.sheet.specs.declared.layout.Areas.{Areas}
 use lib.ListN.{length, take, drop, length-append, length-take}
 use lib.Seq.{take-append_seam, get_or-take}
 use Rattle.meaning.specs.Base.{◌and◌, test◌then◌else◌, same_text, word, words, count}
@@ -20,9 +20,10 @@ use Rattle.meaning.proofs.Choices.{both, not_so, same_text_lem, text_same}
 use Rattle.meaning.proofs.SheetWords.{four_bytes}
 use Rattle.meaning.proofs.SheetForm.{sheet_is, is_sheet_lem, sheet_size, sheet_length}
 use Rattle.meaning.specs.Limits.{largest_sheet, most_names, most_types, most_elements}
-use Rattle.types.specs.Table.{Tab}
+use Rattle.types.specs.declared.Counts.{Counts}
+use Rattle.types.specs.Table.{Tab, tab}
 use Rattle.sheet.specs.Listing.{no_name, start_at, length_at, entry_of, listed_from, listed, Listing, Wrote}
-use Rattle.sheet.specs.Reading.{Bounds, TypesRead, NamesRead, TextsInside, TextsTold, Compared, tab_read, Reads}
+use Rattle.sheet.specs.Reading.{Headed, TypesRead, NamesRead, TextsInside, TextsTold, Compared, Reads}
 use Rattle.sheet.proofs.Names.{names_step, none_left}
 use Rattle.sheet.proofs.Whole.{listed_first}
 use Rattle.sheet.proofs.Naming.{entries_are, entries_listing, texts_of}
@@ -108,9 +109,15 @@ listed_many source t cells n = names_listed source t cells 0 n
 pub read_not : {bs cs : List ℕ} {cells : List ListedName} → is_sheet bs ≡ false → Reads bs None cs cells
 read_not f = record { stands_is = sym f; listing = tt; listed_is = tt }
 
-module _ {bs xs : List ℕ} {cells : List ListedName} {t : Tab} {n : ℕ} (b : Bounds bs) (ty : TypesRead bs xs t) (nr : NamesRead bs (take (word bs 4) xs) cells (word bs 20)) (en : n ≡ word bs 20) (long : length cells ≡ most_names) where
+module _ {bs xs : List ℕ} {cells : List ListedName} {t : Tab} {a : Areas} (d : Headed bs a) (ty : TypesRead bs xs t) (nr : NamesRead bs xs cells a.names) (long : length cells ≡ most_names) where
+  abbrev n : ℕ
+  n = a.names
+
+  all_read : NamesRead bs xs cells (word bs 20)
+  all_read = subst (NamesRead bs xs cells) d.names_is nr
+
   pub read_listing : Listing bs t cells n
-  read_listing = subst (Listing bs t cells) (sym en) (entries_listing ty nr b)
+  read_listing = subst (Listing bs t cells) (sym d.names_is) (entries_listing ty all_read d.bounds)
 
   many : n ≤ length cells
   many = omega (arith, read_listing.few)
@@ -123,7 +130,7 @@ module _ {bs xs : List ℕ} {cells : List ListedName} {t : Tab} {n : ℕ} (b : B
   }
 
   read_entries : listed bs t cells n ≡ entries_in bs
-  read_entries = ap (listed bs t cells) en ∙ entries_are ty nr
+  read_entries = ap (listed bs t cells) d.names_is ∙ entries_are ty all_read
 
   read_firsts : map (entry_of bs t) (take n cells) ≡ entries_in bs
   read_firsts = sym (listed_first bs t cells n many) ∙ read_entries
@@ -148,11 +155,12 @@ module _ {bs xs : List ℕ} {cells : List ListedName} {t : Tab} {n : ℕ} (b : B
         let es = entries_in bs in
         let y : (bs ≡ sheet_of es) × (length (sheet_of es) ≤ largest_sheet) = subst (λ l. (bs ≡ sheet_of l) × (length (sheet_of l) ≤ largest_sheet)) read_entries (c.yes e) in
         let own = own_counts es y.1 in
-        let u : length (types_of es []) ≤ most_types = omega (arith, own.0, ap (λ (l : List ℕ). word l 4) y.0, b.types) in
-        let v : length (elements_of (types_of es [])) ≤ most_elements = omega (arith, own.1, ap (λ (l : List ℕ). word l 12) y.0, b.elements) in
+        let u : length (types_of es []) ≤ most_types = omega (arith, own.0, ap (λ (l : List ℕ). word l 4) y.0, d.bounds.types) in
+        let v : length (elements_of (types_of es [])) ≤ most_elements = omega (arith, own.1, ap (λ (l : List ℕ). word l 12) y.0, d.bounds.elements) in
         let m : length es ≤ most_names = omega (arith, ap length read_entries, listed_many bs t cells n, read_listing.few) in
         is_sheet_lem bs es record { written = y.0; limits = within es stand m u v }
 
-pub read_all : {bs xs cs : List ℕ} {cells : List ListedName} {s : ReadSheet} (b : Bounds bs) → TypesRead bs xs (tab_read cs s) → NamesRead bs (take (word bs 4) xs) cells (word bs 20)
-    → s.names ≡ word bs 20 → length cells ≡ most_names → {q r : Bool} → TextsTold bs (take s.names cells) q → q ≡ true → Compared bs (listed bs (tab_read cs s) cells s.names) r → r ≡ true → Reads bs (Some s) cs cells
-read_all b ty nr en l x f c e = record { stands_is = sym (rewrites_so b ty nr en l x f c e); listing = read_listing b ty nr en l; listed_is = read_entries b ty nr en l }
+pub read_all : {bs xs cs : List ℕ} {cells : List ListedName} {m : Counts} {a : Areas} → Headed bs a → TypesRead bs xs (tab cs m.types m.elements) → NamesRead bs xs cells a.names
+    → length cells ≡ most_names → {q r : Bool} → TextsTold bs (take a.names cells) q → q ≡ true → Compared bs (listed bs (tab cs m.types m.elements) cells a.names) r → r ≡ true
+    → Reads bs (Some (record { counts = m; names = a.names })) cs cells
+read_all d ty nr l x f c e = record { stands_is = sym (rewrites_so d ty nr l x f c e); listing = read_listing d ty nr l; listed_is = read_entries d ty nr l }

@@ -15,7 +15,8 @@ use Rattle.types.specs.Table.{Tab, most_numbers, capacity, denote, Wf}
 use Rattle.types.specs.Reading.{KindOf, PartsOf}
 use Rattle.types.proofs.Parts.{plain_kind_of, structured, parts_few}
 use Rattle.sheet.specs.declared.writer.Marks.{Marks}
-use Rattle.sheet.specs.Marks.{most_written, number_at, type_met, tab_of, types_in, Marked}
+use Rattle.sheet.specs.Counting.{most_written}
+use Rattle.sheet.specs.Marks.{number_at, type_met, tab_of, types_in, Marked}
 use Rattle.sheet.specs.Writing.{ElementsIn, NumberOf}
 use Rattle.sheet.proofs.Marking.{types_length, type_at_lem}
 

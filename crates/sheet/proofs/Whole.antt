@@ -26,10 +26,12 @@ use Rattle.words.specs.Words.{put_at}
 use Rattle.words.proofs.Laws.{put_overlaid}
 use Rattle.types.specs.Table.{Tab, tab, most_numbers, denote, Wf}
 use Rattle.types.specs.declared.Counts.{Counts}
+use Rattle.sheet.specs.declared.layout.Areas.{Areas}
 use Rattle.sheet.specs.declared.writer.Marks.{Marks}
 use Rattle.sheet.specs.declared.list.ListedName.{ListedName}
 use Rattle.sheet.specs.Listing.{no_name, start_at, length_at, type_at, entry_of, entry_at, listed_from, listed, Listing, Wrote}
-use Rattle.sheet.specs.Marks.{most_written, number_at, tab_of, types_in, Marked, met_each}
+use Rattle.sheet.specs.Counting.{most_written}
+use Rattle.sheet.specs.Marks.{number_at, tab_of, types_in, Marked, met_each}
 use Rattle.sheet.specs.Writing.{listed_types, listed_size, listed_records, listed_texts, Meeting, MetAll, Short, Put, types_bytes, elements_bytes, names_bytes, Named, NamesFit, NamesPut, TextsFit, header_bytes, Filling}
 use Rattle.sheet.proofs.Marking.{own_tab, types_length}
 use Rattle.sheet.proofs.Areas.{put_then, put_as}
@@ -124,7 +126,7 @@ header_long : (T E N S : ℕ) → length (header_bytes T E N S) ≡ 40
 unfolding header_bytes words
 header_long T E N S = refl
 
-module _ {source cs : List ℕ} {ms : Marks} {ns : List ListedName} {E S : ℕ} {out : List ℕ} (f : Filling source cs ms ns E S out) where
+module _ {source cs : List ℕ} {ms : Marks} {ns : List ListedName} {a : Areas} {S : ℕ} {out : List ℕ} (f : Filling source cs ms ns a S out) where
   abbrev t : Tab
   t = tab_of cs ms
 
@@ -133,9 +135,6 @@ module _ {source cs : List ℕ} {ms : Marks} {ns : List ListedName} {E S : ℕ} 
 
   abbrev es : List Entry
   es = map (entry_of source t) ns
-
-  abbrev n : ℕ
-  n = length ns
 
   pub short : Short ns
   short = record { few = f.listing.few; short = f.listing.short }
@@ -147,57 +146,58 @@ module _ {source cs : List ℕ} {ms : Marks} {ns : List ListedName} {E S : ℕ} 
     member = λ k h g. subst (Memᴰ (denote t (type_at ns k))) (sym f.types_are) ((types_met es [] tt).known (denote t (type_at ns k)) (member_listed source t ns k h) g);
   }
 
-  pub names_fit : {o : List ℕ} → length o ≡ length out → NamesFit ns o (40 + 12 * ms.met + 4 * E)
+  pub names_fit : {o : List ℕ} → length o ≡ length out → NamesFit ns o (40 + 12 * a.types + 4 * a.elements)
   names_fit l = record {
     short = short;
     known = λ k h. omega (arith, f.listing.known k h, f.marked.wf.room, f.marked.wf.most);
     room = omega (arith, f.room);
   }
 
-  pub texts_fit : {o : List ℕ} → length o ≡ length out → TextsFit source ns o (40 + 12 * ms.met + 4 * E + 12 * n)
+  pub texts_fit : {o : List ℕ} → length o ≡ length out → TextsFit source ns o (40 + 12 * a.types + 4 * a.elements + 12 * a.names)
   texts_fit l = record { inside = f.listing.inside; room = omega (arith, f.room, f.size_is) }
 
-  sheet_is : sheet_of es ≡ header_bytes ms.met E n S ++ types_bytes t ms ++ elements_bytes t ms ++ names_bytes t ms ns ++ listed_texts source ns
+  sheet_is : sheet_of es ≡ header_bytes a.types a.elements a.names S ++ types_bytes t ms ++ elements_bytes t ms ++ names_bytes t ms ns ++ listed_texts source ns
   unfolding sheet_of header_bytes
   sheet_is =
-      let lu = types_length f.marked in
+      let lu : length us ≡ a.types = types_length f.marked ∙ sym f.type_count in
+      let ln : length es ≡ a.names = length-map ns (entry_of source t) ∙ sym f.name_count in
       rw (
         ← f.types_are,
         records_listed source t us 0 ns f.listing.inside,
         texts_listed source t ns,
         ← size_listed source t ns f.listing.inside,
         ← f.size_is,
-        length-map ns (entry_of source t),
+        ln,
         lu,
-        ← f.elements_are,
+        ← f.element_count,
       )
 
   pub filled : {o₁ o₂ o₃ o₄ o₅ : List ℕ}
-      → Put out o₁ 0 (header_bytes ms.met E n S)
+      → Put out o₁ 0 (header_bytes a.types a.elements a.names S)
       → Put o₁ o₂ 40 (types_bytes t ms)
-      → Put o₂ o₃ (40 + 12 * ms.met) (elements_bytes t ms)
-      → NamesPut ms ns o₃ o₄ (40 + 12 * ms.met + 4 * E)
-      → Put o₄ o₅ (40 + 12 * ms.met + 4 * E + 12 * n) (listed_texts source ns)
+      → Put o₂ o₃ (40 + 12 * a.types) (elements_bytes t ms)
+      → NamesPut ms ns o₃ o₄ (40 + 12 * a.types + 4 * a.elements)
+      → Put o₄ o₅ (40 + 12 * a.types + 4 * a.elements + 12 * a.names) (listed_texts source ns)
       → Put out o₅ 0 (sheet_of es)
-  filled a b c d e =
-      let A = header_bytes ms.met E n S in
+  filled p q r d e =
+      let A = header_bytes a.types a.elements a.names S in
       let B = types_bytes t ms in
       let C = elements_bytes t ms in
       let D = names_bytes t ms ns in
-      let la = header_long ms.met E n S in
-      let lb : length B ≡ 12 * ms.met = omega (arith, laid_length (type_records us 0 us), types_many us 0 us, types_length f.marked) in
-      let lc : length C ≡ 4 * E = omega (arith, words_length (map (number us) (elements_of us)), length-map (elements_of us) (number us), f.elements_are) in
-      let ld : length D ≡ 12 * n = omega (arith, laid_length (listed_records us t ns 0), ap length (records_listed source t us 0 ns f.listing.inside), names_many us 0 es, length-map ns (entry_of source t)) in
-      let names : Put _ _ (40 + 12 * ms.met + 4 * E) D = record { is = d.is t named; long = d.long } in
-      let ab = put_then (omega arith) a (omega arith) b in
+      let la = header_long a.types a.elements a.names S in
+      let lb : length B ≡ 12 * a.types = omega (arith, laid_length (type_records us 0 us), types_many us 0 us, types_length f.marked) in
+      let lc : length C ≡ 4 * a.elements = omega (arith, words_length (map (number us) (elements_of us)), length-map (elements_of us) (number us), f.element_count) in
+      let ld : length D ≡ 12 * a.names = omega (arith, laid_length (listed_records us t ns 0), ap length (records_listed source t us 0 ns f.listing.inside), names_many us 0 es, length-map ns (entry_of source t)) in
+      let names : Put _ _ (40 + 12 * a.types + 4 * a.elements) D = record { is = d.is t named; long = d.long } in
+      let ab = put_then (omega arith) p (omega arith) q in
       let lab = length-append A B in
-      let abc = put_then (omega arith) ab (omega arith) c in
+      let abc = put_then (omega arith) ab (omega arith) r in
       let labc = length-append (A ++ B) C in
       let abcd = put_then (omega arith) abc (omega arith) names in
       let labcd = length-append (A ++ B ++ C) D in
       put_as sheet_is (put_then (omega arith) abcd (omega arith) e)
 
-  pub total_is : length (sheet_of es) ≡ 40 + 12 * ms.met + 4 * E + 12 * n + S
+  pub total_is : length (sheet_of es) ≡ 40 + 12 * a.types + 4 * a.elements + 12 * a.names + S
   total_is =
       let e = f.types_are in
       omega (
@@ -206,7 +206,7 @@ module _ {source cs : List ℕ} {ms : Marks} {ns : List ListedName} {E S : ℕ} 
         ap length e,
         ap (λ (xs : List Ty). length (elements_of xs)) e,
         types_length f.marked,
-        f.elements_are,
+        f.element_count,
         f.size_is,
         size_listed source t ns f.listing.inside,
         length-map ns (entry_of source t),
@@ -269,53 +269,50 @@ module _ {source cs : List ℕ} {cells : List ListedName} {ms : Marks} {N M n : 
   pub few_types : ms.met ≤ most_types
   few_types = w.marked.few
 
-  module _ {E S : ℕ} (e_e : (E ≡ length (elements_of (types_in (tab_of cs ms) ms))) × (E ≤ most_written)) (e_s : S ≡ listed_size ns₀) where
-    pub filling : {out : List ℕ} → 40 + 12 * ms.met + 4 * E + 12 * length ns₀ + S ≤ length out → Filling source cs ms ns₀ E S out
-    filling h =
-        let own = sym (own_tab w.marked) in
-        record {
-          listing = subst (λ u. Listing source u ns₀ (length ns₀)) own w.listing;
-          marked = own_marked;
-          types_are = subst (λ u. types_in u ms ≡ types_of (map (entry_of source u) ns₀) []) own w.types_are;
-          elements_are = e_e.0;
-          few = e_e.1;
-          size_is = e_s;
-          small = omega (arith, e_s, size_small walked_short);
-          room = omega arith;
-        }
+  pub filling : {a : Areas} {S : ℕ} {out : List ℕ} → a.types ≡ ms.met → a.elements ≡ length (elements_of (types_in (tab_of cs ms) ms)) → a.names ≡ length ns₀ → S ≡ listed_size ns₀
+      → 40 + 12 * a.types + 4 * a.elements + 12 * a.names + S ≤ length out → Filling source cs ms ns₀ a S out
+  filling e_t e_e e_n e_s h =
+      let own = sym (own_tab w.marked) in
+      record {
+        listing = subst (λ u. Listing source u ns₀ (length ns₀)) own w.listing;
+        marked = own_marked;
+        types_are = subst (λ u. types_in u ms ≡ types_of (map (entry_of source u) ns₀) []) own w.types_are;
+        type_count = e_t;
+        element_count = e_e;
+        name_count = e_n;
+        size_is = e_s;
+        small = omega (arith, e_s, size_small walked_short);
+        room = h;
+      }
 
-    sheet_long : length (sheet_of (map (entry_of source (tab cs N M)) ns₀)) ≡ 40 + 12 * ms.met + 4 * E + 12 * length ns₀ + S
+  module _ {E S : ℕ} (e_e : (E ≡ length (elements_of (types_in (tab_of cs ms) ms))) × (E ≤ most_written)) (e_s : S ≡ listed_size ns₀) where
+    sheet_long : length (sheet_of (listed source (tab cs N M) cells n)) ≡ 40 + 12 * ms.met + 4 * E + 12 * length ns₀ + S
     sheet_long =
         let total = 40 + 12 * ms.met + 4 * E + 12 * length ns₀ + S in
         let room : List ℕ = replicate total 0 in
         let long : length room ≡ total = length-replicate {A = ℕ} total 0 in
-        let f = filling {out = room} (omega arith) in
-        subst (λ u. length (sheet_of (map (entry_of source u) ns₀)) ≡ total) (own_tab w.marked) (total_is f)
+        let a : Areas = record { types = ms.met; elements = E; names = length ns₀; few_types = w.marked.few; few_elements = e_e.1; few_names = w.listing.few } in
+        let f = filling {a = a} {out = room} refl e_e.0 refl e_s (omega arith) in
+        ap (λ (es : List Entry). length (sheet_of es)) w.same ∙ subst (λ u. length (sheet_of (map (entry_of source u) ns₀)) ≡ total) (own_tab w.marked) (total_is f)
 
-    abbrev es₀ : List Entry
-    es₀ = listed source (tab cs N M) cells n
+    module _ {total : ℕ} (e : total ≡ 40 + 12 * ms.met + 4 * E + 12 * length ns₀ + S) where
+      pub wrote_not : (out : List ℕ) → length out < total → Wrote (listed source (tab cs N M) cells n) None out out
+      unfolding written test◌then◌else◌
+      wrote_not out h =
+          let no : leb (length (sheet_of (listed source (tab cs N M) cells n))) (length out) ≡ false = lt-leb (length (sheet_of (listed source (tab cs N M) cells n))) (length out) (omega (arith, sheet_long)) in
+          record {
+            fits_is = sym no;
+            length_is = rw no;
+            out_is = rw no (sym (overlaid_none out));
+          }
 
-    long_as : length (sheet_of es₀) ≡ 40 + 12 * ms.met + 4 * E + 12 * n + S
-    long_as = omega (arith, ap (λ (es : List Entry). length (sheet_of es)) w.same, sheet_long, w.many)
-
-    pub wrote_not : (out : List ℕ) → length out < 40 + 12 * ms.met + 4 * E + 12 * n + S → Wrote es₀ None out out
-    unfolding written test◌then◌else◌
-    wrote_not out h =
-        let no : leb (length (sheet_of es₀)) (length out) ≡ false = lt-leb (length (sheet_of es₀)) (length out) (omega (arith, long_as)) in
-        record {
-          fits_is = sym no;
-          length_is = rw no;
-          out_is = rw no (sym (overlaid_none out));
-        }
-
-    pub wrote_all : (out new : List ℕ) → (length out < 40 + 12 * ms.met + 4 * E + 12 * n + S → ⊥) → Put out new 0 (sheet_of (map (entry_of source (tab_of cs ms)) ns₀))
-        → Wrote es₀ (Some (40 + 12 * ms.met + 4 * E + 12 * n + S)) out new
-    unfolding written test◌then◌else◌
-    wrote_all out new h p =
-        let yes_fits : leb (length (sheet_of es₀)) (length out) ≡ true = le-leb (length (sheet_of es₀)) (length out) (omega (arith, long_as)) in
-        let put : new ≡ put_at out 0 (sheet_of es₀) = rw w.same (subst (λ u. new ≡ put_at out 0 (sheet_of (map (entry_of source u) ns₀))) (own_tab w.marked) p.is) in
-        record {
-          fits_is = sym yes_fits;
-          length_is = rw yes_fits (sym long_as);
-          out_is = rw yes_fits (put ∙ put_overlaid out (sheet_of es₀));
-        }
+      pub wrote_all : (out new : List ℕ) → (length out < total → ⊥) → Put out new 0 (sheet_of (map (entry_of source (tab_of cs ms)) ns₀)) → Wrote (listed source (tab cs N M) cells n) (Some total) out new
+      unfolding written test◌then◌else◌
+      wrote_all out new h p =
+          let yes_fits : leb (length (sheet_of (listed source (tab cs N M) cells n))) (length out) ≡ true = le-leb (length (sheet_of (listed source (tab cs N M) cells n))) (length out) (omega (arith, sheet_long)) in
+          let put : new ≡ put_at out 0 (sheet_of (listed source (tab cs N M) cells n)) = rw w.same (subst (λ u. new ≡ put_at out 0 (sheet_of (map (entry_of source u) ns₀))) (own_tab w.marked) p.is) in
+          record {
+            fits_is = sym yes_fits;
+            length_is = rw yes_fits (e ∙ sym sheet_long);
+            out_is = rw yes_fits (put ∙ put_overlaid out (sheet_of (listed source (tab cs N M) cells n)));
+          }

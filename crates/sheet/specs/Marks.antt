@@ -1,6 +1,6 @@
 -- The marks of the writer's walk: the number that each type of the table has in the sheet, or 1 for none; and the table's numbers in the
 -- sheet's order, so many as are met.
-use Rattle.std.specs.Prelude.{◌≡◌, ℕ, ◌+◌, ◌*◌, ◌≤◌, ◌<◌, eqb, length, get_or, set, take}
+use Rattle.std.specs.Prelude.{◌≡◌, ℕ, ◌+◌, ◌≤◌, ◌<◌, eqb, length, get_or, set, take}
 use mathlib.Core.List.{List, [], ◌∷◌, map, Memᴰ}
 use Rattle.meaning.specs.Base.{test◌then◌else◌}
 use Rattle.meaning.specs.Limits.{most_types}
@@ -9,10 +9,6 @@ use Rattle.meaning.specs.Sheet.{met, position}
 use Rattle.meaning.proofs.SheetTypes.{Ordered}
 use Rattle.types.specs.Table.{Tab, tab, most_numbers, Wf, denote}
 use Rattle.sheet.specs.declared.writer.Marks.{Marks}
-
--- no type has more elements than there are numbers, so a sheet's types have no more than this
-abbrev pub most_written : ℕ
-most_written = most_types * most_numbers
 
 -- ---- the marks
 

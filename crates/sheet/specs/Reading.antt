@@ -7,6 +7,7 @@ use Rattle.meaning.specs.Sheet.{Entry, Triple, sheet_of, texts_stand}
 use Rattle.meaning.specs.Read.{triple, numbered, type_from, types_from, entries_in, is_sheet}
 use Rattle.types.specs.Table.{Tab, tab, most_numbers, capacity, denote, Wf, Grown}
 use Rattle.sheet.specs.declared.list.ListedName.{ListedName}
+use Rattle.sheet.specs.declared.layout.Areas.{Areas}
 use Rattle.sheet.specs.declared.reader.ReadSheet.{ReadSheet}
 use Rattle.sheet.specs.Listing.{start_at, length_at, type_at, SameName, entry_of, listed, Listing}
 
@@ -44,6 +45,13 @@ pub record Bounds (bs : List ℕ) : Type 0 where
   pub names : word bs 20 ≤ most_names
   pub long : texts_at bs ≤ length bs
 
+-- a is what the header of bs says
+pub record Headed (bs : List ℕ) (a : Areas) : Type 0 where
+  pub bounds : Bounds bs
+  pub types_is : a.types ≡ word bs 4
+  pub elements_is : a.elements ≡ word bs 12
+  pub names_is : a.names ≡ word bs 20
+
 -- r tells that P holds, or that bs is no sheet
 pub record Told (P : Type 0) (bs : List ℕ) (r : Bool) : Type 0 where
   pub yes : r ≡ true → P
@@ -60,21 +68,18 @@ pub record Below (t : Tab) (xs : List ℕ) : Type 0 where
   pub wf : Wf t
   pub each : (j : ℕ) → j < length xs → get_or xs j 0 < t.n
 
-pub record Gathering (bs : List ℕ) (at k q : ℕ) (st : List ℕ) : Type 0 where
-  pub few : k ≤ most_types
+pub record Gathering (bs : List ℕ) (at q : ℕ) : Type 0 where
   pub many : q ≤ most_types
   pub long : at + 4 * q ≤ length bs
   pub short : length bs ≤ largest_sheet
-  pub size : length st ≡ most_types
 
 pub record Gathered (bs : List ℕ) (at : ℕ) (xs : List ℕ) (q : ℕ) (st : List ℕ) : Type 0 where
   pub are : take q st ≡ map (number_in xs) (words_at bs at q)
   pub size : length st ≡ most_types
 
 -- a type of q elements at a place is asked for
-pub record Tupling (bs : List ℕ) (at : ℕ) (xs : List ℕ) (k q : ℕ) (t : Tab) : Type 0 where
-  pub below : Below t (take k xs)
-  pub few : k ≤ most_types
+pub record Tupling (bs : List ℕ) (at : ℕ) (xs : List ℕ) (q : ℕ) (t : Tab) : Type 0 where
+  pub below : Below t xs
   pub room : t.n < capacity t.cells
   pub many : q ≤ most_types
   pub space : t.m + q ≤ capacity t.cells
@@ -85,9 +90,8 @@ abbrev pub tuple_at : List ℕ → ℕ → List ℕ → ℕ → Tab → Ty
 tuple_at bs at xs q t = tuple (tys (map (numbered (map (denote t) xs)) (words_at bs at q)))
 
 -- a type of any other kind is asked for
-pub record Forming (xs : List ℕ) (k kind : ℕ) (t : Tab) : Type 0 where
-  pub below : Below t (take k xs)
-  pub few : k ≤ most_types
+pub record Forming (xs : List ℕ) (kind : ℕ) (t : Tab) : Type 0 where
+  pub below : Below t xs
   pub room : t.n < capacity t.cells
   pub other : kind ≡ 10 → ⊥
 
@@ -98,8 +102,7 @@ types_left bs k = drop k (triples_at bs 40 (word bs 4))
 pub record Typing (bs xs : List ℕ) (k used : ℕ) (t : Tab) : Type 0 where
   pub bounds : Bounds bs
   pub here : k < word bs 4
-  pub size : length xs ≡ most_types
-  pub below : Below t (take k xs)
+  pub below : Below t xs
   pub wide : most_numbers ≤ capacity t.cells
   pub room : t.n ≤ 8 + k
   pub space : t.m ≤ used
@@ -113,12 +116,11 @@ pub record Typed (bs xs : List ℕ) (k used : ℕ) (t u : Tab) (after r : ℕ) :
   pub within : after ≤ word bs 12
   pub sum : after + tuple_sum (types_left bs (k + 1)) ≡ tuple_sum (types_left bs 0)
   pub below : r < u.n
-  pub means : denote u r ≡ type_from (elements_in bs) (map (denote t) (take k xs)) (triple (drop (40 + 12 * k) bs))
+  pub means : denote u r ≡ type_from (elements_in bs) (map (denote t) xs) (triple (drop (40 + 12 * k) bs))
 
 pub record TypesRead (bs xs : List ℕ) (t : Tab) : Type 0 where
-  pub size : length xs ≡ most_types
-  pub below : Below t (take (word bs 4) xs)
-  pub are : map (denote t) (take (word bs 4) xs) ≡ types_from (elements_in bs) [] (triples_at bs 40 (word bs 4))
+  pub below : Below t xs
+  pub are : map (denote t) xs ≡ types_from (elements_in bs) [] (triples_at bs 40 (word bs 4))
 
 -- ---- the names
 
@@ -135,12 +137,8 @@ pub record NamesRead (bs xs : List ℕ) (cells : List ListedName) (n : ℕ) : Ty
 
 -- name k was read, and the cells before are kept
 pub record NameStep (bs xs : List ℕ) (cells new : List ListedName) (k : ℕ) : Type 0 where
-  pub name : NameRead bs (take (word bs 4) xs) new k
+  pub name : NameRead bs xs new k
   pub before : (j : ℕ) → j < k → SameName cells new j
-
-pub record Naming (bs : List ℕ) (k : ℕ) (cells : List ListedName) : Type 0 where
-  pub bounds : Bounds bs
-  pub here : k < word bs 20
 
 -- ---- the whole
 

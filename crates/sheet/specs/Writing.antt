@@ -7,10 +7,11 @@ use Rattle.meaning.specs.Types.{Ty, kind}
 use Rattle.meaning.specs.Sheet.{Triple, laid, number, elements_in, elements_of, type_record, type_records, types_of}
 use Rattle.words.specs.Words.{put_at}
 use Rattle.types.specs.Table.{Tab, most_numbers, Wf, denote}
+use Rattle.sheet.specs.declared.layout.Areas.{Areas}
 use Rattle.sheet.specs.declared.writer.Marks.{Marks}
 use Rattle.sheet.specs.declared.list.ListedName.{ListedName}
 use Rattle.sheet.specs.Listing.{start_at, length_at, type_at, entry_of, Listing}
-use Rattle.sheet.specs.Marks.{most_written, Marked, tab_of, types_in, met_each}
+use Rattle.sheet.specs.Marks.{Marked, tab_of, types_in, met_each}
 
 -- ---- the names alone
 
@@ -114,12 +115,13 @@ header_bytes types elements names size =
     ∷ (40 + 12 * types + 4 * elements + 12 * names) ∷ (40 + 12 * types + 4 * elements + 12 * names + size) ∷ [])
 
 -- everything is known that is to be written, and it fits
-pub record Filling (source cs : List ℕ) (ms : Marks) (ns : List ListedName) (elements size : ℕ) (out : List ℕ) : Type 0 where
+pub record Filling (source cs : List ℕ) (ms : Marks) (ns : List ListedName) (a : Areas) (size : ℕ) (out : List ℕ) : Type 0 where
   pub listing : Listing source (tab_of cs ms) ns (length ns)
   pub marked : Marked (tab_of cs ms) ms
   pub types_are : types_in (tab_of cs ms) ms ≡ types_of (map (entry_of source (tab_of cs ms)) ns) []
-  pub elements_are : elements ≡ length (elements_of (types_in (tab_of cs ms) ms))
-  pub few : elements ≤ most_written
+  pub type_count : a.types ≡ ms.met
+  pub element_count : a.elements ≡ length (elements_of (types_in (tab_of cs ms) ms))
+  pub name_count : a.names ≡ length ns
   pub size_is : size ≡ listed_size ns
   pub small : size ≤ most_text
-  pub room : 40 + 12 * ms.met + 4 * elements + 12 * length ns + size ≤ length out
+  pub room : 40 + 12 * a.types + 4 * a.elements + 12 * a.names + size ≤ length out

@@ -2,6 +2,7 @@
 #![tactic(auto)]
 
 pub mod header;
+mod layout;
 pub mod list;
 mod reader;
 pub mod records;

@@ -5,11 +5,12 @@ ghost use Rattle.meaning.specs.Limits.{most_types};
 ghost use Rattle.meaning.specs.Read.{type_from, is_sheet};
 ghost use Rattle.types.specs.Table.{most_numbers, capacity, Fresh, tab, denote, Wf, Made};
 ghost use Rattle.sheet.specs.Listing.{Listing, listed};
-ghost use Rattle.sheet.specs.Reading.{Bounds, Told, number_in, Gathering, Gathered, Tupling, tuple_at, Forming};
+ghost use Rattle.sheet.specs.Reading.{Headed, Told, number_in, Gathering, Gathered, Tupling, tuple_at, Forming};
 ghost use Rattle.sheet.specs.Reading.{Typing, Typed as TypeRead, TypesRead};
-ghost use Rattle.sheet.specs.Reading.{NameStep, NamesRead, Naming, TextsInside, TextsTold, Compared, Reads};
+ghost use Rattle.sheet.specs.Reading.{NameStep, NamesRead, TextsInside, TextsTold, Compared, Reads};
 
 use crate::header;
+use crate::layout::Areas;
 use crate::list::{ListedName, NameList, put_name};
 use crate::records::{ELEMENT, NAME_RECORD, SECOND_WORD, THIRD_WORD, TYPE_RECORD};
 use crate::writer::write;
@@ -18,14 +19,7 @@ use types::{
     CELLS, Counts, DICT, FILTER_ITER, FRESH, Formed, LIST, NO_PART, STRUCTURED, TUPLE, UNKNOWN,
     form, start, tuple_of,
 };
-use words::{get_word, same, text, text_stands, wide16, wide32};
-
-// The bytes at which the words of the first type record start.
-const FIRST_KIND: usize = header::LENGTH;
-
-const FIRST_P: usize = header::LENGTH + SECOND_WORD;
-
-const FIRST_Q: usize = header::LENGTH + THIRD_WORD;
+use words::{get_word, same, text, text_stands};
 
 // A table with room for whatever a sheet may hold.
 pub const TABLE_CELLS: usize = CELLS * (STRUCTURED + MOST_TYPES);
@@ -53,158 +47,154 @@ fn word_at(sheet: &[u8], at: usize) -> usize
     ensures value { result ≡ word sheet.now at }
     ensures upper_bound { result < 4294967296 }
 {
-    wide32(get_word(sheet, at))
+    get_word(sheet, at) as usize
 }
 
-// Whether the counts keep the limits and the areas lie within.
-fn bounded(sheet: &[u8]) -> bool
-    ensures { Told (Bounds sheet.now) sheet.now result }
+// What the header says, if the counts keep the limits and the areas lie within.
+fn areas_of(sheet: &[u8]) -> Option<Areas>
+    ensures { MatchOption result (is_sheet sheet.now ≡ false) (λ a. Headed sheet.now a) }
 {
-    if sheet.len() < header::LENGTH {
-        return false;
-    }
-    if LARGEST_SHEET < sheet.len() {
-        return false;
+    if sheet.len() < header::LENGTH || LARGEST_SHEET < sheet.len() {
+        return None;
     }
     let types = word_at(sheet, header::TYPE_COUNT);
-    if MOST_TYPES < types {
-        return false;
-    }
     let elements = word_at(sheet, header::ELEMENT_COUNT);
-    if MOST_ELEMENTS < elements {
-        return false;
-    }
     let names = word_at(sheet, header::NAME_COUNT);
-    if MOST_NAMES < names {
-        return false;
+    if MOST_TYPES < types || MOST_ELEMENTS < elements || MOST_NAMES < names {
+        return None;
     }
-    header::LENGTH + TYPE_RECORD * types + ELEMENT * elements + NAME_RECORD * names <= sheet.len()
+    let areas = Areas {
+        types,
+        elements,
+        names,
+    };
+    if sheet.len() < areas.texts_at() {
+        return None;
+    }
+    Some(areas)
 }
 
-// The table's number of the sheet's number n: the first k types of the sheet have a number.
-fn number_in(numbers: &Numbers, k: usize, n: usize) -> usize
-    requires { k ≤ most_types }
-    ensures value { result ≡ number_in (take k numbers.now) n }
+// The table's number of the sheet's number n, by the numbers of the types before.
+fn number_in(numbers: &[u16], n: usize) -> usize
+    ensures value { result ≡ number_in numbers.now n }
     ensures upper_bound { result < 65536 }
 {
     if n < STRUCTURED {
         return n;
     }
-    if n - STRUCTURED < k {
-        return wide16(numbers[n - STRUCTURED]);
+    if n - STRUCTURED < numbers.len() {
+        return usize::from(numbers[n - STRUCTURED]);
     }
     UNKNOWN
 }
 
 // The table's numbers of the q words at a place.
-fn gather(sheet: &[u8], at: usize, numbers: &Numbers, k: usize, q: usize, stack: &mut Numbers)
-    requires { Gathering sheet.now at k q stack.old }
-    ensures { Gathered sheet.now at (take k numbers.now) q stack.new }
+fn gather(sheet: &[u8], at: usize, numbers: &[u16], q: usize, stack: &mut Numbers)
+    requires { Gathering sheet.now at q }
+    ensures { Gathered sheet.now at numbers.now q stack.new }
 {
     for j in 0..q {
-        stack[j] = number_in(numbers, k, word_at(sheet, at + ELEMENT * j)) as u16;
+        stack[j] = number_in(numbers, word_at(sheet, at + ELEMENT * j)) as u16;
     }
 }
 
 fn form_tuple(
     sheet: &[u8],
     at: usize,
-    numbers: &Numbers,
-    k: usize,
+    numbers: &[u16],
     q: usize,
     table: &mut [u16],
     counts: Counts,
 ) -> Formed
-    requires { Tupling sheet.now at numbers.now k q (tab table.old counts.types counts.elements) }
+    requires { Tupling sheet.now at numbers.now q (tab table.old counts.types counts.elements) }
     ensures { Made (tab table.old counts.types counts.elements)
         (tab table.new result.counts.types result.counts.elements)
         result.number
-        (tuple_at sheet.now at (take k numbers.now) q
-        (tab table.old counts.types counts.elements))
+        (tuple_at sheet.now at numbers.now q (tab table.old counts.types counts.elements))
         q }
 {
     let mut stack = [FRESH; MOST_TYPES];
-    gather(sheet, at, numbers, k, q, &mut stack);
+    gather(sheet, at, numbers, q, &mut stack);
     tuple_of(table, counts, &stack, 0, q)
 }
 
-fn second_in(numbers: &Numbers, k: usize, kind: usize, q: usize) -> usize
-    requires { k ≤ most_types }
-    ensures { result ≡ (test eqb kind 9 then number_in (take k numbers.now) q else 0) }
+fn second_in(numbers: &[u16], kind: usize, q: usize) -> usize
+    ensures { result ≡ (test eqb kind 9 then number_in numbers.now q else 0) }
 {
     if kind == DICT {
-        return number_in(numbers, k, q);
+        return number_in(numbers, q);
     }
     NO_PART
 }
 
 // A kind that is none is read as Unknown.
 fn form_other(
-    numbers: &Numbers,
-    k: usize,
+    numbers: &[u16],
     kind: usize,
     p: usize,
     q: usize,
     table: &mut [u16],
     counts: Counts,
 ) -> Formed
-    requires { Forming numbers.now k kind (tab table.old counts.types counts.elements) }
+    requires { Forming numbers.now kind (tab table.old counts.types counts.elements) }
     ensures { Made (tab table.old counts.types counts.elements)
         (tab table.new result.counts.types result.counts.elements)
         result.number
         (type_from [] (map (denote (tab table.old counts.types counts.elements))
-        (take k numbers.now)) (kind, p, q))
+        numbers.now) (kind, p, q))
         0 }
 {
-    if kind < LIST {
+    if kind < LIST || FILTER_ITER < kind {
         return Formed {
             number: UNKNOWN,
             counts,
         };
     }
-    if FILTER_ITER < kind {
-        return Formed {
-            number: UNKNOWN,
-            counts,
-        };
-    }
-    let a = number_in(numbers, k, p);
-    let b = second_in(numbers, k, kind, q);
+    let a = number_in(numbers, p);
+    let b = second_in(numbers, kind, q);
     form(table, counts, kind, a, b)
 }
 
-// The type of record k. A Tuple's elements must be among those of the sheet, and all Tuples together may not have more
-// of them.
+// The type of record k, by the numbers of the types before. A Tuple's elements must be among those of the sheet, and
+// all Tuples together may not have more of them.
 fn read_type(
     sheet: &[u8],
+    areas: Areas,
     k: usize,
     used: usize,
-    numbers: &Numbers,
+    numbers: &[u16],
     table: &mut [u16],
     counts: Counts,
 ) -> Option<Typed>
-    requires { Typing sheet.now numbers.now k used (tab table.old counts.types counts.elements) }
+    requires headed { Headed sheet.now areas }
+    requires typing { Typing sheet.now numbers.now k used (tab table.old counts.types counts.elements) }
     ensures { MatchOption result (is_sheet sheet.now ≡ false) (λ r.
         TypeRead sheet.now numbers.now k used (tab table.old counts.types counts.elements)
         (tab table.new r.counts.types r.counts.elements) r.used r.number) }
 {
-    let kind = word_at(sheet, FIRST_KIND + TYPE_RECORD * k);
-    let p = word_at(sheet, FIRST_P + TYPE_RECORD * k);
-    let q = word_at(sheet, FIRST_Q + TYPE_RECORD * k);
+    let at = header::LENGTH + TYPE_RECORD * k;
+    let kind = word_at(sheet, at);
+    let p = word_at(sheet, at + SECOND_WORD);
+    let q = word_at(sheet, at + THIRD_WORD);
     if kind != TUPLE {
-        let f = form_other(numbers, k, kind, p, q, table, counts);
+        let f = form_other(numbers, kind, p, q, table, counts);
         return Some(Typed {
             number: f.number,
             used,
             counts: f.counts,
         });
     }
-    let elements = word_at(sheet, header::ELEMENT_COUNT);
-    if elements < p + q || elements < used + q {
+    if areas.elements < p + q || areas.elements < used + q {
         return None;
     }
-    let at = header::LENGTH + TYPE_RECORD * word_at(sheet, header::TYPE_COUNT) + ELEMENT * p;
-    let f = form_tuple(sheet, at, numbers, k, q, table, counts);
+    let f = form_tuple(
+        sheet,
+        areas.elements_at() + ELEMENT * p,
+        numbers,
+        q,
+        table,
+        counts,
+    );
     Some(Typed {
         number: f.number,
         used: used + q,
@@ -213,20 +203,25 @@ fn read_type(
 }
 
 // The types of all records; the table holds the plain types alone before.
-fn read_types(sheet: &[u8], table: &mut [u16], numbers: &mut Numbers) -> Option<Counts>
-    requires bounds { Bounds sheet.now }
+fn read_types(
+    sheet: &[u8],
+    areas: Areas,
+    table: &mut [u16],
+    numbers: &mut Numbers,
+) -> Option<Counts>
+    requires headed { Headed sheet.now areas }
     requires wf { Wf (tab table.old 8 0) }
-    requires most_numbers_bound { (most_numbers ≤ capacity table.old) × (length numbers.old ≡ most_types) }
+    requires most_numbers_bound { most_numbers ≤ capacity table.old }
     ensures { MatchOption result (is_sheet sheet.now ≡ false) (λ r.
-        TypesRead sheet.now numbers.new (tab table.new r.types r.elements)) }
+        TypesRead sheet.now (take areas.types numbers.new) (tab table.new r.types r.elements)) }
 {
     let mut used = 0;
     let mut counts = Counts {
         types: STRUCTURED,
         elements: 0,
     };
-    for k in 0..word_at(sheet, header::TYPE_COUNT) {
-        let r = read_type(sheet, k, used, numbers, table, counts)?;
+    for k in 0..areas.types {
+        let r = read_type(sheet, areas, k, used, &numbers[..k], table, counts)?;
         numbers[k] = r.number as u16;
         used = r.used;
         counts = r.counts;
@@ -235,37 +230,28 @@ fn read_types(sheet: &[u8], table: &mut [u16], numbers: &mut Numbers) -> Option<
 }
 
 // Name k: its text must lie in the bytes and be short enough.
-fn read_name(sheet: &[u8], k: usize, numbers: &Numbers, names: &mut NameList) -> bool
-    requires { Naming sheet.now k names.old }
-    ensures { Told (NameStep sheet.now numbers.now
-        names.old names.new k) sheet.now result }
+fn read_name(sheet: &[u8], areas: Areas, k: usize, numbers: &[u16], names: &mut NameList) -> bool
+    requires headed { Headed sheet.now areas }
+    requires here { k < areas.names }
+    ensures { Told (NameStep sheet.now numbers.now names.old names.new k) sheet.now result }
 {
-    let types = word_at(sheet, header::TYPE_COUNT);
-    let from = header::LENGTH
-        + TYPE_RECORD * types
-        + ELEMENT * word_at(sheet, header::ELEMENT_COUNT);
-    let texts = from + NAME_RECORD * word_at(sheet, header::NAME_COUNT);
-    let at = from + NAME_RECORD * k;
-    let start = word_at(sheet, at);
+    let at = areas.names_at() + NAME_RECORD * k;
+    let start = areas.texts_at() + word_at(sheet, at);
     let len = word_at(sheet, at + SECOND_WORD);
-    let ty = number_in(numbers, types, word_at(sheet, at + THIRD_WORD));
-    if LONGEST_NAME < len {
+    let ty = number_in(numbers, word_at(sheet, at + THIRD_WORD));
+    if LONGEST_NAME < len || sheet.len() < start + len {
         return false;
     }
-    if sheet.len() < texts + start + len {
-        return false;
-    }
-    put_name(names, k, (texts + start) as u32, len as u32, ty as u32);
+    put_name(names, k, start as u32, len as u32, ty as u32);
     true
 }
 
-fn read_names(sheet: &[u8], numbers: &Numbers, names: &mut NameList) -> bool
-    requires { Bounds sheet.now }
-    ensures { Told (NamesRead sheet.now (take (word sheet.now 4) numbers.now)
-        names.new (word sheet.now 20)) sheet.now result }
+fn read_names(sheet: &[u8], areas: Areas, numbers: &[u16], names: &mut NameList) -> bool
+    requires { Headed sheet.now areas }
+    ensures { Told (NamesRead sheet.now numbers.now names.new areas.names) sheet.now result }
 {
-    for k in 0..word_at(sheet, header::NAME_COUNT) {
-        if !read_name(sheet, k, numbers, names) {
+    for k in 0..areas.names {
+        if !read_name(sheet, areas, k, numbers, names) {
             return false;
         }
     }
@@ -314,24 +300,21 @@ pub fn read(sheet: &[u8], table: &mut [u16], names: &mut NameList) -> Option<Rea
     requires { (capacity table.old ≡ most_numbers) × Fresh table.old }
     ensures { Reads sheet.now result table.new names.new }
 {
-    if !bounded(sheet) {
-        return None;
-    }
+    let areas = areas_of(sheet)?;
     begin_table(table);
     let mut numbers = [FRESH; MOST_TYPES];
-    let counts = read_types(sheet, table, &mut numbers)?;
-    if !read_names(sheet, &numbers, names) {
+    let counts = read_types(sheet, areas, table, &mut numbers)?;
+    if !read_names(sheet, areas, &numbers[..areas.types], names) {
         return None;
     }
-    let count = word_at(sheet, header::NAME_COUNT);
-    if !texts_stand(sheet, &names[..count]) {
+    if !texts_stand(sheet, &names[..areas.names]) {
         return None;
     }
-    if !rewrites(sheet, table, counts, names, count) {
+    if !rewrites(sheet, table, counts, names, areas.names) {
         return None;
     }
     Some(ReadSheet {
         counts,
-        names: count,
+        names: areas.names,
     })
 }

@@ -5,13 +5,15 @@ ghost use Rattle.meaning.specs.Limits.{most_names, most_text, most_types};
 ghost use Rattle.meaning.specs.Sheet.{elements_in, sheet_of};
 ghost use Rattle.types.specs.Table.{most_numbers, capacity, tab, denote};
 ghost use Rattle.sheet.specs.Listing.{Listing, entry_of, listed, Wrote};
-ghost use Rattle.sheet.specs.Marks.{most_written, type_met, Completing, completed, Marked, tab_of};
+ghost use Rattle.sheet.specs.Counting.{most_written};
+ghost use Rattle.sheet.specs.Marks.{type_met, Completing, completed, Marked, tab_of};
 ghost use Rattle.sheet.specs.Opening.{New, OpenRoom, Visiting, Visited, Stepping, Stepped};
 ghost use Rattle.sheet.specs.Writing.{elements_met, Meeting, MetAll, ElementsIn, Short, listed_size, NumberOf};
 ghost use Rattle.sheet.specs.Writing.{Put, Met, record_bytes, element_bytes, types_bytes, elements_bytes, NamesFit};
 ghost use Rattle.sheet.specs.Writing.{NamesPut, TextsFit, listed_texts, header_bytes, Filling};
 
 use crate::header;
+use crate::layout::Areas;
 use crate::list::{ListedName, NameList};
 use crate::records::{ELEMENT, NAME_RECORD, SECOND_WORD, THIRD_WORD, TYPE_RECORD};
 use limits::MOST_TYPES;
@@ -304,18 +306,26 @@ fn write_texts(source: &[u8], names: &[ListedName], out: &mut [u8], from: usize)
 
 // ---- the whole
 
-fn write_header(out: &mut [u8], types: usize, elements: usize, names: usize, size: usize)
-    requires { (types ≤ most_types) × (elements ≤ most_written) × (names ≤ most_names) × (size ≤ most_text)
-        × (40 ≤ length out.old) }
-    ensures { Put out.old out.new 0 (header_bytes types elements names size) }
+fn write_header(out: &mut [u8], areas: Areas, size: usize)
+    requires { (size ≤ most_text) × (40 ≤ length out.old) }
+    ensures { Put out.old out.new 0 (header_bytes areas.types areas.elements areas.names size) }
 {
-    let a = header::LENGTH + TYPE_RECORD * types;
-    let b = a + ELEMENT * elements;
-    let c = b + NAME_RECORD * names;
-    put_three(out, header::VERSION, header::OURS, types, header::LENGTH);
-    put_three(out, header::ELEMENT_COUNT, elements, a, names);
-    put_three(out, header::NAMES, b, size, c);
-    put_word(out, header::TOTAL, (c + size) as u32);
+    put_three(
+        out,
+        header::VERSION,
+        header::OURS,
+        areas.types,
+        header::LENGTH,
+    );
+    put_three(
+        out,
+        header::ELEMENT_COUNT,
+        areas.elements,
+        areas.elements_at(),
+        areas.names,
+    );
+    put_three(out, header::NAMES, areas.names_at(), size, areas.texts_at());
+    put_word(out, header::TOTAL, (areas.texts_at() + size) as u32);
 }
 
 fn fill(
@@ -323,24 +333,19 @@ fn fill(
     table: &[u16],
     marks: &Marks,
     names: &[ListedName],
-    elements: usize,
+    areas: Areas,
     size: usize,
     out: &mut [u8],
 )
-    requires { Filling source.now table.now marks.now names.now elements size out.old }
+    requires { Filling source.now table.now marks.now names.now areas size out.old }
     ensures { Put out.old out.new 0
         (sheet_of (map (entry_of source.now (tab_of table.now marks.now)) names.now)) }
 {
-    let types = marks.met;
-    let count = names.len();
-    let a = header::LENGTH + TYPE_RECORD * types;
-    let b = a + ELEMENT * elements;
-    let c = b + NAME_RECORD * count;
-    write_header(out, types, elements, count, size);
+    write_header(out, areas, size);
     write_types(table, marks, out);
-    write_elements(table, marks, out, a);
-    write_names(marks, names, out, b);
-    write_texts(source, names, out, c);
+    write_elements(table, marks, out, areas.elements_at());
+    write_names(marks, names, out, areas.names_at());
+    write_texts(source, names, out, areas.texts_at());
 }
 
 // Writes the sheet of the names to the front of `out` if it fits, and gives its length: if not, no byte changes.
@@ -364,16 +369,16 @@ pub fn write(
     };
     let names = &names[..count];
     meet_all(table, names, &mut marks);
-    let elements = elements_of(table, &marks);
+    let areas = Areas {
+        types: marks.met,
+        elements: elements_of(table, &marks),
+        names: names.len(),
+    };
     let size = size_of(names);
-    let total = header::LENGTH
-        + TYPE_RECORD * marks.met
-        + ELEMENT * elements
-        + NAME_RECORD * count
-        + size;
+    let total = areas.texts_at() + size;
     if out.len() < total {
         return None;
     }
-    fill(source, table, &marks, names, elements, size, out);
+    fill(source, table, &marks, names, areas, size, out);
     Some(total)
 }

@@ -4,7 +4,7 @@ use Rattle.sheet.proofs.reader.gather.Goals as goal
 
 pub loop-j-init : goal.loop-j-init
 loop-j-init c =
-    gather_first c.requires
+    gather_first c.requires (omega arith)
 
 pub loop-j-preserved : goal.loop-j-preserved
 loop-j-preserved c =

@@ -1,11 +1,15 @@
-use Rattle.sheet.proofs.Typing.{loop_first, loop_small, loop_next, loop_end}
+use Rattle.sheet.proofs.Typing.{loop_first, loop_typing, loop_small, loop_next, loop_end}
 use mathlib.Core.Path.{refl, ◌∙◌}
 use native.Mathlib.Omega.{arith}
 use Rattle.sheet.proofs.reader.read_types.Goals as goal
 
 pub loop-k-init : goal.loop-k-init
 loop-k-init c =
-    (loop_first c.requires.bounds c.requires.wf c.requires.most_numbers_bound.0 c.requires.most_numbers_bound.1 refl, refl)
+    (loop_first c.requires.headed.bounds c.requires.wf c.requires.most_numbers_bound (omega arith) c.requires.headed.types_is, refl)
+
+pub read_type-requires-clause-typing : goal.read_type-requires-clause-typing
+read_type-requires-clause-typing c =
+    loop_typing c.loop-k.invariant.0 (omega arith)
 
 pub overflow_cast-numbers : goal.overflow_cast-numbers
 overflow_cast-numbers c =

@@ -1,9 +1,8 @@
 use Rattle.sheet.proofs.Typing.{TypesLoop}
 use Rattle.types.specs.Table.{tab}
-use Rattle.meaning.specs.Base.{word}
 use mathlib.Core.Path.{◌≡◌}
 use lib.ListN.{length}
 use Rattle.sheet.proofs.reader.read_types.Given as goal
 
 abbrev pub invariant-loop-k : goal.invariant-loop-k
-invariant-loop-k l = TypesLoop l.sheet l.numbers (word l.sheet 4) l.k l.used (tab l.table l.counts.types l.counts.elements) × (length l.table ≡ length l.initial.table)
+invariant-loop-k l = TypesLoop l.sheet l.numbers l.areas.types l.k l.used (tab l.table l.counts.types l.counts.elements) × (length l.table ≡ length l.initial.table)
