@@ -13,6 +13,7 @@ ghost use Rattle.image.specs.Parts.{name_means, record_of};
 ghost use Rattle.rules.specs.Outcome.{taken};
 ghost use Rattle.types.specs.Table.{most_numbers, tab};
 ghost use Rattle.types.specs.Reading.{Known, type_at};
+ghost use Rattle.codes.specs.Codes.{code_number};
 ghost use Rattle.message.specs.Told.{told, Tells, laid_out, format_of};
 ghost use Rattle.words.specs.Words.{put_at};
 ghost use Rattle.message.specs.Texts.{opening, closing, comma, clipped, size_at, Sized, AllKnown};
@@ -20,11 +21,10 @@ ghost use Rattle.message.specs.Pieces.{Small, CountsPiece, Says, Ready, IsReady,
 
 mod formats;
 
+use codes::Code;
 use formats::format_of;
 use image::{NameAt, areas, name_at, roles};
 use limits::MOST_NODES;
-use operators::codes as operator_codes;
-use rules::codes;
 use types;
 use types::{Counts, kind_of, part_at, parts_of};
 use words::{decimal_length, put, put_decimal, text as part_of_text};
@@ -327,20 +327,20 @@ impl Message<'_> {
     }
 }
 
-// By T's format string of the code: nothing for a number that is no code of a message.
+// By T's format string of the code.
 fn tell(
     image: &[u8],
     table: &[u16],
-    code: u32,
+    code: Code,
     pieces: &[Piece],
     types: usize,
     out: &mut [u8],
 ) -> usize
     requires ready { Ready image.now table.now types pieces.now }
-    requires many { gaps (format_of code) ≡ length pieces.now }
-    ensures value { result ≡ length (laid_out image.now table.now pieces.now (format_of code) out.old) }
+    requires many { gaps (format_of (code_number code)) ≡ length pieces.now }
+    ensures value { result ≡ length (laid_out image.now table.now pieces.now (format_of (code_number code)) out.old) }
     ensures out_after { out.new ≡ overlaid
-        (laid_out image.now table.now pieces.now (format_of code) out.old) out.old }
+        (laid_out image.now table.now pieces.now (format_of (code_number code)) out.old) out.old }
 {
     let message = Message {
         image,
@@ -358,27 +358,27 @@ pub fn write(
     image: &[u8],
     table: &[u16],
     counts: Counts,
-    code: u32,
+    code: Code,
     a: usize,
     b: usize,
     out: &mut [u8],
 ) -> usize
     requires headed { Headed image.now }
     requires image_value { broken_name image.now ≡ none }
-    requires tells { Tells (tab table.now counts.types counts.elements) code a b }
+    requires tells { Tells (tab table.now counts.types counts.elements) (code_number code) a b }
     ensures value { result ≡ length (told image.now
-        (tab table.now counts.types counts.elements) code a b (length out.old)) }
+        (tab table.now counts.types counts.elements) (code_number code) a b (length out.old)) }
     ensures out_after { out.new ≡ overlaid (told image.now
-        (tab table.now counts.types counts.elements) code a b (length out.old))
+        (tab table.now counts.types counts.elements) (code_number code) a b (length out.old))
         out.old }
 {
     match code {
-        codes::INCOMPATIBLE_BRANCHES => tell(image, table, code, &[spelled(image, a)], 0, out),
-        codes::UNPACK_LENGTH => {
+        Code::IncompatibleBranches => tell(image, table, code, &[spelled(image, a)], 0, out),
+        Code::UnpackLength => {
             let lengths = [Piece::OfNumber(a as u32), Piece::OfNumber(b as u32)];
             tell(image, table, code, &lengths, 0, out)
         }
-        codes::BUILTIN_ARITY => {
+        Code::BuiltinArity => {
             let given = Piece::OfNumber(b as u32);
             tell(
                 image,
@@ -389,7 +389,7 @@ pub fn write(
                 out,
             )
         }
-        codes::FUNCTION_ARITY => {
+        Code::FunctionArity => {
             let given = Piece::OfNumber(b as u32);
             tell(
                 image,
@@ -400,20 +400,34 @@ pub fn write(
                 out,
             )
         }
-        codes::NOT_ITERABLE
-        | codes::UNPACK_NON_ITERABLE
-        | operator_codes::INT_OR_FLOAT..=operator_codes::EXPECTED_BOOL
-        | codes::INPUT..=codes::LIST_INDEX
-        | codes::TUPLE_INDEX..=codes::NOT_SUBSCRIPTABLE => {
-            tell(image, table, code, &[Piece::OfType(a)], a + 1, out)
-        }
-        codes::INCONSISTENT_RETURN
-        | codes::CANNOT_ASSIGN
-        | operator_codes::PLUS..=operator_codes::NUMERIC_PAIR
-        | codes::DICT_KEY => {
+        Code::NotIterable
+        | Code::UnpackNonIterable
+        | Code::IntOrFloat
+        | Code::ExpectedBool
+        | Code::Input
+        | Code::Len
+        | Code::Range
+        | Code::MapFirst
+        | Code::MapSecond
+        | Code::FilterFirst
+        | Code::FilterSecond
+        | Code::ListIndex
+        | Code::TupleIndex
+        | Code::StringIndex
+        | Code::NotSubscriptable => { tell(image, table, code, &[Piece::OfType(a)], a + 1, out) }
+        Code::InconsistentReturn
+        | Code::CannotAssign
+        | Code::Plus
+        | Code::Times
+        | Code::Compare
+        | Code::Equality
+        | Code::NumericPair
+        | Code::DictKey => {
             let types = [Piece::OfType(a), Piece::OfType(b)];
             tell(image, table, code, &types, a.max(b) + 1, out)
         }
-        _ => tell(image, table, code, &[], 0, out),
+        Code::Break | Code::Continue | Code::InvalidTarget | Code::Condition => {
+            tell(image, table, code, &[], 0, out)
+        }
     }
 }

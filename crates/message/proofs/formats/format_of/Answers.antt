@@ -1,132 +1,127 @@
 use Rattle.meaning.specs.Base.{bytes, choose, test◌then◌else◌}
 use Rattle.meaning.specs.Message.{template}
-use Rattle.message.proofs.Codes.{Avoids, no_format}
 use Rattle.message.proofs.formats.format_of.Goals as goal
 
-pub returns-in-20 : goal.returns-in-20
+pub returns-in-Break : goal.returns-in-Break
 unfolding template choose test◌then◌else◌ bytes
-returns-in-20 c = rw c.in-20.is
+returns-in-Break c = rw c.in-Break.is
 
-pub returns-in-21 : goal.returns-in-21
+pub returns-in-Continue : goal.returns-in-Continue
 unfolding template choose test◌then◌else◌ bytes
-returns-in-21 c = rw c.in-21.is
+returns-in-Continue c = rw c.in-Continue.is
 
-pub returns-in-22 : goal.returns-in-22
+pub returns-in-InconsistentReturn : goal.returns-in-InconsistentReturn
 unfolding template choose test◌then◌else◌ bytes
-returns-in-22 c = rw c.in-22.is
+returns-in-InconsistentReturn c = rw c.in-InconsistentReturn.is
 
-pub returns-in-23 : goal.returns-in-23
+pub returns-in-IncompatibleBranches : goal.returns-in-IncompatibleBranches
 unfolding template choose test◌then◌else◌ bytes
-returns-in-23 c = rw c.in-23.is
+returns-in-IncompatibleBranches c = rw c.in-IncompatibleBranches.is
 
-pub returns-in-24 : goal.returns-in-24
+pub returns-in-NotIterable : goal.returns-in-NotIterable
 unfolding template choose test◌then◌else◌ bytes
-returns-in-24 c = rw c.in-24.is
+returns-in-NotIterable c = rw c.in-NotIterable.is
 
-pub returns-in-25 : goal.returns-in-25
+pub returns-in-CannotAssign : goal.returns-in-CannotAssign
 unfolding template choose test◌then◌else◌ bytes
-returns-in-25 c = rw c.in-25.is
+returns-in-CannotAssign c = rw c.in-CannotAssign.is
 
-pub returns-in-26 : goal.returns-in-26
+pub returns-in-UnpackLength : goal.returns-in-UnpackLength
 unfolding template choose test◌then◌else◌ bytes
-returns-in-26 c = rw c.in-26.is
+returns-in-UnpackLength c = rw c.in-UnpackLength.is
 
-pub returns-in-27 : goal.returns-in-27
+pub returns-in-UnpackNonIterable : goal.returns-in-UnpackNonIterable
 unfolding template choose test◌then◌else◌ bytes
-returns-in-27 c = rw c.in-27.is
+returns-in-UnpackNonIterable c = rw c.in-UnpackNonIterable.is
 
-pub returns-in-28 : goal.returns-in-28
+pub returns-in-InvalidTarget : goal.returns-in-InvalidTarget
 unfolding template choose test◌then◌else◌ bytes
-returns-in-28 c = rw c.in-28.is
+returns-in-InvalidTarget c = rw c.in-InvalidTarget.is
 
-pub returns-in-29 : goal.returns-in-29
+pub returns-in-Plus : goal.returns-in-Plus
 unfolding template choose test◌then◌else◌ bytes
-returns-in-29 c = rw c.in-29.is
+returns-in-Plus c = rw c.in-Plus.is
 
-pub returns-in-30 : goal.returns-in-30
+pub returns-in-Times : goal.returns-in-Times
 unfolding template choose test◌then◌else◌ bytes
-returns-in-30 c = rw c.in-30.is
+returns-in-Times c = rw c.in-Times.is
 
-pub returns-in-31 : goal.returns-in-31
+pub returns-in-Compare : goal.returns-in-Compare
 unfolding template choose test◌then◌else◌ bytes
-returns-in-31 c = rw c.in-31.is
+returns-in-Compare c = rw c.in-Compare.is
 
-pub returns-in-32 : goal.returns-in-32
+pub returns-in-Equality : goal.returns-in-Equality
 unfolding template choose test◌then◌else◌ bytes
-returns-in-32 c = rw c.in-32.is
+returns-in-Equality c = rw c.in-Equality.is
 
-pub returns-in-33 : goal.returns-in-33
+pub returns-in-NumericPair : goal.returns-in-NumericPair
 unfolding template choose test◌then◌else◌ bytes
-returns-in-33 c = rw c.in-33.is
+returns-in-NumericPair c = rw c.in-NumericPair.is
 
-pub returns-in-34 : goal.returns-in-34
+pub returns-in-IntOrFloat : goal.returns-in-IntOrFloat
 unfolding template choose test◌then◌else◌ bytes
-returns-in-34 c = rw c.in-34.is
+returns-in-IntOrFloat c = rw c.in-IntOrFloat.is
 
-pub returns-in-35 : goal.returns-in-35
+pub returns-in-ExpectedBool : goal.returns-in-ExpectedBool
 unfolding template choose test◌then◌else◌ bytes
-returns-in-35 c = rw c.in-35.is
+returns-in-ExpectedBool c = rw c.in-ExpectedBool.is
 
-pub returns-in-36 : goal.returns-in-36
+pub returns-in-Condition : goal.returns-in-Condition
 unfolding template choose test◌then◌else◌ bytes
-returns-in-36 c = rw c.in-36.is
+returns-in-Condition c = rw c.in-Condition.is
 
-pub returns-in-37 : goal.returns-in-37
+pub returns-in-BuiltinArity : goal.returns-in-BuiltinArity
 unfolding template choose test◌then◌else◌ bytes
-returns-in-37 c = rw c.in-37.is
+returns-in-BuiltinArity c = rw c.in-BuiltinArity.is
 
-pub returns-in-38 : goal.returns-in-38
+pub returns-in-FunctionArity : goal.returns-in-FunctionArity
 unfolding template choose test◌then◌else◌ bytes
-returns-in-38 c = rw c.in-38.is
+returns-in-FunctionArity c = rw c.in-FunctionArity.is
 
-pub returns-in-39 : goal.returns-in-39
+pub returns-in-Input : goal.returns-in-Input
 unfolding template choose test◌then◌else◌ bytes
-returns-in-39 c = rw c.in-39.is
+returns-in-Input c = rw c.in-Input.is
 
-pub returns-in-40 : goal.returns-in-40
+pub returns-in-Len : goal.returns-in-Len
 unfolding template choose test◌then◌else◌ bytes
-returns-in-40 c = rw c.in-40.is
+returns-in-Len c = rw c.in-Len.is
 
-pub returns-in-41 : goal.returns-in-41
+pub returns-in-Range : goal.returns-in-Range
 unfolding template choose test◌then◌else◌ bytes
-returns-in-41 c = rw c.in-41.is
+returns-in-Range c = rw c.in-Range.is
 
-pub returns-in-42 : goal.returns-in-42
+pub returns-in-MapFirst : goal.returns-in-MapFirst
 unfolding template choose test◌then◌else◌ bytes
-returns-in-42 c = rw c.in-42.is
+returns-in-MapFirst c = rw c.in-MapFirst.is
 
-pub returns-in-43 : goal.returns-in-43
+pub returns-in-MapSecond : goal.returns-in-MapSecond
 unfolding template choose test◌then◌else◌ bytes
-returns-in-43 c = rw c.in-43.is
+returns-in-MapSecond c = rw c.in-MapSecond.is
 
-pub returns-in-44 : goal.returns-in-44
+pub returns-in-FilterFirst : goal.returns-in-FilterFirst
 unfolding template choose test◌then◌else◌ bytes
-returns-in-44 c = rw c.in-44.is
+returns-in-FilterFirst c = rw c.in-FilterFirst.is
 
-pub returns-in-45 : goal.returns-in-45
+pub returns-in-FilterSecond : goal.returns-in-FilterSecond
 unfolding template choose test◌then◌else◌ bytes
-returns-in-45 c = rw c.in-45.is
+returns-in-FilterSecond c = rw c.in-FilterSecond.is
 
-pub returns-in-46 : goal.returns-in-46
+pub returns-in-ListIndex : goal.returns-in-ListIndex
 unfolding template choose test◌then◌else◌ bytes
-returns-in-46 c = rw c.in-46.is
+returns-in-ListIndex c = rw c.in-ListIndex.is
 
-pub returns-in-47 : goal.returns-in-47
+pub returns-in-DictKey : goal.returns-in-DictKey
 unfolding template choose test◌then◌else◌ bytes
-returns-in-47 c = rw c.in-47.is
+returns-in-DictKey c = rw c.in-DictKey.is
 
-pub returns-in-48 : goal.returns-in-48
+pub returns-in-TupleIndex : goal.returns-in-TupleIndex
 unfolding template choose test◌then◌else◌ bytes
-returns-in-48 c = rw c.in-48.is
+returns-in-TupleIndex c = rw c.in-TupleIndex.is
 
-pub returns-in-49 : goal.returns-in-49
+pub returns-in-StringIndex : goal.returns-in-StringIndex
 unfolding template choose test◌then◌else◌ bytes
-returns-in-49 c = rw c.in-49.is
+returns-in-StringIndex c = rw c.in-StringIndex.is
 
-pub returns-in-50 : goal.returns-in-50
+pub returns-in-NotSubscriptable : goal.returns-in-NotSubscriptable
 unfolding template choose test◌then◌else◌ bytes
-returns-in-50 c = rw c.in-50.is
-
-pub returns-in_default : goal.returns-in_default
-unfolding Avoids bytes
-returns-in_default c = rw (no_format c.args.code c.in_default.in_default-own.rest)
+returns-in-NotSubscriptable c = rw c.in-NotSubscriptable.is
