@@ -21,8 +21,8 @@ use Rattle.expr.proofs.Rows.{inner, inner_as, kind_of, no_binary, shallow}
 use Rattle.expr.proofs.Streaming.{first_names, function_at, iterable_at, stream_able, stream_child, stream_child_2, stream_done, stream_judges, stream_refused, stream_refused_2, stream_wrong}
 use Rattle.expr.proofs.Telling.{done_as, done_refused}
 use Rattle.expr.proofs.Valuing.{valuing_at, valuing_end, valuing_first, valuing_next, valuing_ready, valuing_refused, valuing_room}
-use Rattle.expr.proofs.+tc_expr.Goals as goal
-use Rattle.expr.proofs.+tc_expr.Goals.{tc_expr-in-22-1, tc_expr-in_default+else-node-lt20+then-node-lt32}
+use Rattle.expr.proofs.+expression.Goals as goal
+use Rattle.expr.proofs.+expression.Goals.{expression-in-22-1, expression-in_default+else-node-lt20+then-node-lt32}
 
 pub arguments-returns-in-Each : goal.arguments-returns-in-Each
 arguments-returns-in-Each t c =
@@ -128,12 +128,12 @@ pub child-returns-in-21 : goal.child-returns-in-21
 child-returns-in-21 t c =
     (variable_done c.requires.0 c.requires.1 c.next-read.ensures.node c.in-21.is refl refl refl c.lookup.ensures, kept_none (λ e. cc))
 
-pub tc_expr-returns-in-20 : goal.tc_expr-returns-in-20
-tc_expr-returns-in-20 t c =
+pub expression-returns-in-20 : goal.expression-returns-in-20
+expression-returns-in-20 t c =
     (literal_done c.requires.0 c.requires.1 c.next-read.ensures.node c.in-20.is refl c.literal.ensures, kept_none (λ e. cc))
 
-pub tc_expr-returns-in-21 : goal.tc_expr-returns-in-21
-tc_expr-returns-in-21 t c =
+pub expression-returns-in-21 : goal.expression-returns-in-21
+expression-returns-in-21 t c =
     (variable_done c.requires.0 c.requires.1 c.next-read.ensures.node c.in-21.is refl refl refl c.lookup.ensures, kept_none (λ e. cc))
 
 pub dict-loop-init : goal.dict-loop-init
@@ -394,69 +394,69 @@ stream-returns t c =
     let g = judged_by_number (stream_judges c.args.filters c.requires.0 c.requires.1.0 c.requires.1.1.1 (rw c.in_ok-function.was at c.child.ensures.0) refl) (rw c.first_code.ensures at c.callable-judged.ensures) c.settle.ensures in
     (stream_done c.args.filters c.requires.0 c.requires.1.0 c.requires.1.1.1 (rw c.in_ok-function.was at c.child.ensures.0) refl g.0 (same_tab (settles_counts _ c.settle.ensures) _) (stops c.over.ensures) (code_well _ c.in_ok-settle.was) (rw c.in_ok-iterable.was at c.child-2.ensures.0) refl c.streamed.ensures.0, kept_trans c.child.ensures.1 (kept_trans g.1 (kept_trans c.child-2.ensures.1 c.streamed.ensures.1)))
 
-pub tc_expr-lookup-requires : goal.tc_expr-lookup-requires
-tc_expr-lookup-requires t c =
+pub expression-lookup-requires : goal.expression-lookup-requires
+expression-lookup-requires t c =
     variable_there c.requires.0 c.requires.1 c.next-read.ensures.node c.in-21.is refl
 
-pub tc_expr-overflow_sub-depth : goal.tc_expr-overflow_sub-depth
-tc_expr-overflow_sub-depth t c =
+pub expression-overflow_sub-depth : goal.expression-overflow_sub-depth
+expression-overflow_sub-depth t c =
     omega (arith, shallow c.requires.0.sound c.requires.1)
 
-pub tc_expr-binary-requires : goal.tc_expr-binary-requires
-tc_expr-binary-requires t c =
+pub expression-binary-requires : goal.expression-binary-requires
+expression-binary-requires t c =
     (omega (arith, c.decreases, shallow c.requires.0.sound c.requires.1), (c.requires.0, (inner c.requires.0.sound c.requires.1 refl, kind_as c.next-read.ensures.node c.in-23.is)))
 
-pub tc_expr-returns-in-23 : goal.tc_expr-returns-in-23
-tc_expr-returns-in-23 t c =
+pub expression-returns-in-23 : goal.expression-returns-in-23
+expression-returns-in-23 t c =
     (expr_done c.requires.0 c.requires.1 c.next-read.ensures.node c.binary.ensures.0, c.binary.ensures.1)
 
-pub tc_expr-overflow_sub-depth-in-24 : goal.tc_expr-overflow_sub-depth-in-24
-tc_expr-overflow_sub-depth-in-24 t c =
+pub expression-overflow_sub-depth-in-24 : goal.expression-overflow_sub-depth-in-24
+expression-overflow_sub-depth-in-24 t c =
     omega (arith, shallow c.requires.0.sound c.requires.1)
 
-pub tc_expr-call-requires : goal.tc_expr-call-requires
-tc_expr-call-requires t c =
+pub expression-call-requires : goal.expression-call-requires
+expression-call-requires t c =
     (omega (arith, c.decreases, shallow c.requires.0.sound c.requires.1), (c.requires.0, (inner c.requires.0.sound c.requires.1 refl, kind_as c.next-read.ensures.node c.in-24.is)))
 
-pub tc_expr-returns-in-24 : goal.tc_expr-returns-in-24
-tc_expr-returns-in-24 t c =
+pub expression-returns-in-24 : goal.expression-returns-in-24
+expression-returns-in-24 t c =
     (expr_done c.requires.0 c.requires.1 c.next-read.ensures.node c.call.ensures.0, c.call.ensures.1)
 
-pub tc_expr-overflow_sub-depth-in-26 : goal.tc_expr-overflow_sub-depth-in-26
-tc_expr-overflow_sub-depth-in-26 t c =
+pub expression-overflow_sub-depth-in-26 : goal.expression-overflow_sub-depth-in-26
+expression-overflow_sub-depth-in-26 t c =
     omega (arith, shallow c.requires.0.sound c.requires.1)
 
-pub tc_expr-list-requires : goal.tc_expr-list-requires
-tc_expr-list-requires t c =
+pub expression-list-requires : goal.expression-list-requires
+expression-list-requires t c =
     (omega (arith, c.decreases, shallow c.requires.0.sound c.requires.1), (c.requires.0, (inner c.requires.0.sound c.requires.1 refl, kind_as c.next-read.ensures.node c.in-26.is)))
 
-pub tc_expr-returns-in-26 : goal.tc_expr-returns-in-26
-tc_expr-returns-in-26 t c =
+pub expression-returns-in-26 : goal.expression-returns-in-26
+expression-returns-in-26 t c =
     (expr_done c.requires.0 c.requires.1 c.next-read.ensures.node c.list.ensures.0, c.list.ensures.1)
 
-pub tc_expr-overflow_sub-depth-in-27 : goal.tc_expr-overflow_sub-depth-in-27
-tc_expr-overflow_sub-depth-in-27 t c =
+pub expression-overflow_sub-depth-in-27 : goal.expression-overflow_sub-depth-in-27
+expression-overflow_sub-depth-in-27 t c =
     omega (arith, shallow c.requires.0.sound c.requires.1)
 
-pub tc_expr-dict-requires : goal.tc_expr-dict-requires
-tc_expr-dict-requires t c =
+pub expression-dict-requires : goal.expression-dict-requires
+expression-dict-requires t c =
     (omega (arith, c.decreases, shallow c.requires.0.sound c.requires.1), (c.requires.0, (inner c.requires.0.sound c.requires.1 refl, kind_as c.next-read.ensures.node c.in-27.is)))
 
-pub tc_expr-returns-in-27 : goal.tc_expr-returns-in-27
-tc_expr-returns-in-27 t c =
+pub expression-returns-in-27 : goal.expression-returns-in-27
+expression-returns-in-27 t c =
     (expr_done c.requires.0 c.requires.1 c.next-read.ensures.node c.dict.ensures.0, c.dict.ensures.1)
 
-pub tc_expr-overflow_sub-depth-in-22 : goal.tc_expr-overflow_sub-depth-in-22
-tc_expr-overflow_sub-depth-in-22 t c =
+pub expression-overflow_sub-depth-in-22 : goal.expression-overflow_sub-depth-in-22
+expression-overflow_sub-depth-in-22 t c =
     omega (arith, shallow c.requires.0.sound c.requires.1)
 
-pub tc_expr-operands-requires : goal.tc_expr-operands-requires
-tc_expr-operands-requires t c =
+pub expression-operands-requires : goal.expression-operands-requires
+expression-operands-requires t c =
     let k = c.next-read.result.node.kind in
     let operand : ((k ≡ 22) ⊎ (k ≡ 25)) ⊎ ((28 ≤ k) × (k ≤ 31)) =
     elim c.in-22-1.branch [
-      | tc_expr-in-22-1 w ↦ inl w.in-22-1.keys7
-      | tc_expr-in_default+else-node-lt20+then-node-lt32 w ↦ inr (above_27 (omega arith) w.in_default-1.rest.0.0.0.0.0.0.1 w.in_default-1.rest.0.0.0.0.0.1 (λ e. w.in_default-1.rest.1 (inl e)) w.in_default-1.rest.0.0.0.0.1 w.in_default-1.rest.0.0.0.1 (λ e. w.in_default-1.rest.1 (inr e)) w.in_default-1.rest.0.0.1 w.in_default-1.rest.0.1, omega arith)
+      | expression-in-22-1 w ↦ inl w.in-22-1.keys7
+      | expression-in_default+else-node-lt20+then-node-lt32 w ↦ inr (above_27 (omega arith) w.in_default-1.rest.0.0.0.0.0.0.1 w.in_default-1.rest.0.0.0.0.0.1 (λ e. w.in_default-1.rest.1 (inl e)) w.in_default-1.rest.0.0.0.0.1 w.in_default-1.rest.0.0.0.1 (λ e. w.in_default-1.rest.1 (inr e)) w.in_default-1.rest.0.0.1 w.in_default-1.rest.0.1, omega arith)
     ] in (
       omega (arith, c.decreases, shallow c.requires.0.sound c.requires.1),
       (
@@ -468,16 +468,16 @@ tc_expr-operands-requires t c =
       ),
     )
 
-pub tc_expr-returns-in-22 : goal.tc_expr-returns-in-22
-tc_expr-returns-in-22 t c =
+pub expression-returns-in-22 : goal.expression-returns-in-22
+expression-returns-in-22 t c =
     (expr_done c.requires.0 c.requires.1 c.next-read.ensures.node c.operands.ensures.0, c.operands.ensures.1)
 
-pub tc_expr-returns-in_default : goal.tc_expr-returns-in_default
-tc_expr-returns-in_default t c =
+pub expression-returns-in_default : goal.expression-returns-in_default
+expression-returns-in_default t c =
     (lambda_done c.requires.0 c.requires.1 c.next-read.ensures.node (inl (omega arith)) refl refl, kept_none (λ e. cc))
 
-pub tc_expr-returns-in_default-2 : goal.tc_expr-returns-in_default-2
-tc_expr-returns-in_default-2 t c =
+pub expression-returns-in_default-2 : goal.expression-returns-in_default-2
+expression-returns-in_default-2 t c =
     (lambda_done c.requires.0 c.requires.1 c.next-read.ensures.node (inr (omega arith)) refl refl, kept_none (λ e. cc))
 
 pub values-loop-i-init : goal.values-loop-i-init
