@@ -4,25 +4,24 @@ use native.Mathlib.Numerals.{add-one}
 use native.Mathlib.Omega.{arith}
 use Prim.Native.Nat.{◌-◌}
 use Rattle.std.proofs.Common.{◌≡◌, ◌⊎◌, ◌≤◌}
-use Rattle.rules.proofs.Outcomes.{known}
 use Rattle.image.proofs.Moving.{stops}
 use Rattle.state.proofs.Noting.{code_well, is_noted, kept_none, kept_ok, kept_trans, refused_kept, same_tab, settles_counts}
 use Rattle.nodes.proofs.Deciding.{judged, judged_by_number, kind_as, operated}
 use Rattle.expr.proofs.Arguing.{as_each, as_filter, as_first, as_input, as_len, as_map, as_range, call_coded, call_done, call_ready, call_refused, call_row, each_done, each_refused, first_at, first_done, first_judges, first_ready, first_refused, input_done, input_none, input_refused, len_done, len_refused}
 use Rattle.expr.proofs.Arms.{above_27, expr_done, lambda_done, literal_done, variable_done, variable_there}
 use Rattle.expr.proofs.Bounding.{bounding_end, bounding_first, bounding_judges, bounding_next, bounding_refused, bounding_wrong}
-use Rattle.expr.proofs.Calling.{call_operand, call_some, callee_there, children_before, children_ready, children_row, dict_whole, list_whole, name_there, node_done, not_binary, operand_any, operands_decidable, operands_done, operands_refused}
+use Rattle.expr.proofs.Calling.{call_operand, call_some, callee_there, children_ready, children_row, dict_done, list_done, name_there, not_binary, operand_any, operands_decidable, operands_done, operands_refused}
 use Rattle.expr.proofs.Leaving.{ready_moved}
-use Rattle.expr.proofs.Listing.{listing_asks, listing_end, listing_first, listing_last, listing_next, listing_refused, listing_stop}
+use Rattle.expr.proofs.Listing.{listing_asks, listing_end, listing_opened, listing_last, listing_next, listing_refused, listing_stop}
 use Rattle.expr.proofs.Looping.{loop_at, loop_child}
 use Rattle.expr.proofs.Operation.{binary_done, binary_operable, binary_ready, binary_ready_2, binary_refused, binary_refused_2, operand_at, operand_at_2}
-use Rattle.expr.proofs.Pairing.{pairing_asks, pairing_at, pairing_at_2, pairing_child, pairing_child_2, pairing_end, pairing_first, pairing_last, pairing_next, pairing_refused, pairing_refused_2, pairing_stop}
-use Rattle.expr.proofs.Rows.{inner, inner_as, kind_of, no_binary, shallow}
+use Rattle.expr.proofs.Pairing.{pairing_asks, pairing_at, pairing_at_2, pairing_child, pairing_child_2, pairing_end, pairing_opened, pairing_last, pairing_next, pairing_refused, pairing_refused_2, pairing_stop}
+use Rattle.expr.proofs.Rows.{behind, inner, no_binary, opened, shallow}
 use Rattle.expr.proofs.Streaming.{first_names, function_at, iterable_at, stream_able, stream_child, stream_child_2, stream_done, stream_judges, stream_refused, stream_refused_2, stream_wrong}
 use Rattle.expr.proofs.Telling.{done_as, done_refused}
 use Rattle.expr.proofs.Valuing.{valuing_at, valuing_end, valuing_first, valuing_next, valuing_ready, valuing_refused, valuing_room}
-use Rattle.expr.proofs.+tc_expr.Goals as goal
-use Rattle.expr.proofs.+tc_expr.Goals.{tc_expr-in-22-1, tc_expr-in_default+else-node-lt20+then-node-lt32}
+use Rattle.expr.proofs.+expression.Goals as goal
+use Rattle.expr.proofs.+expression.Goals.{expression-in-22-1, expression-in_default+else-node-lt20+then-node-lt32}
 
 pub arguments-returns-in-Each : goal.arguments-returns-in-Each
 arguments-returns-in-Each t c =
@@ -54,65 +53,61 @@ arguments-returns-in-Filter t c =
 
 pub binary-child-requires : goal.binary-child-requires
 binary-child-requires t c =
-    (omega (arith, c.decreases), (ready_moved c.next-read.ensures.nodes (binary_ready c.requires.0 (inner_as c.next-read.ensures.node c.requires.1.0) (kind_of c.next-read.ensures.node c.requires.1.1) (c.next-read.ensures.at ∙ add-one _)), operand_at c.requires.0 (inner_as c.next-read.ensures.node c.requires.1.0) (kind_of c.next-read.ensures.node c.requires.1.1) (c.next-read.ensures.at ∙ add-one _)))
+    (omega (arith, c.decreases), (ready_moved c.next-read.ensures.nodes (binary_ready c.requires.0 (opened c.next-read.ensures c.requires.1)), operand_at c.requires.0 (opened c.next-read.ensures c.requires.1)))
 
 pub binary-returns-in_err-a : goal.binary-returns-in_err-a
 binary-returns-in_err-a t c =
-    let d = rw c.in_err-a.was at c.child.ensures in rw (is_noted _ c.from_residual.ensures.0) (binary_refused c.requires.0 (inner_as c.next-read.ensures.node c.requires.1.0) (kind_of c.next-read.ensures.node c.requires.1.1) (c.next-read.ensures.at ∙ add-one _) d.0 (d.1.coded refl), d.1)
+    let d = rw c.in_err-a.was at c.child.ensures in rw (is_noted _ c.from_residual.ensures.0) (binary_refused c.requires.0 (opened c.next-read.ensures c.requires.1) d.0 (d.1.coded refl), d.1)
 
 pub binary-over-requires-clause-on : goal.binary-over-requires-clause-on
 binary-over-requires-clause-on t c =
-    record { nodes = c.next-read.ensures.nodes; within = (operand_at c.requires.0 (inner_as c.next-read.ensures.node c.requires.1.0) (kind_of c.next-read.ensures.node c.requires.1.1) (c.next-read.ensures.at ∙ add-one _)).there }
+    record { nodes = c.next-read.ensures.nodes; within = (operand_at c.requires.0 (opened c.next-read.ensures c.requires.1)).there }
 
 pub binary-child-requires-2 : goal.binary-child-requires-2
 binary-child-requires-2 t c =
-    (omega (arith, c.decreases), (ready_moved c.over.ensures.nodes (binary_ready_2 c.requires.0 (inner_as c.next-read.ensures.node c.requires.1.0) (kind_of c.next-read.ensures.node c.requires.1.1) (c.next-read.ensures.at ∙ add-one _) (rw c.in_ok-a.was at c.child.ensures.0) (stops c.over.ensures)), operand_at_2 c.requires.0 (inner_as c.next-read.ensures.node c.requires.1.0) (kind_of c.next-read.ensures.node c.requires.1.1) (c.next-read.ensures.at ∙ add-one _) (rw c.in_ok-a.was at c.child.ensures.0) (stops c.over.ensures)))
+    (omega (arith, c.decreases), (ready_moved c.over.ensures.nodes (binary_ready_2 c.requires.0 (opened c.next-read.ensures c.requires.1) (rw c.in_ok-a.was at c.child.ensures.0) (stops c.over.ensures)), operand_at_2 c.requires.0 (opened c.next-read.ensures c.requires.1) (rw c.in_ok-a.was at c.child.ensures.0) (stops c.over.ensures)))
 
 pub binary-returns-in_err-b : goal.binary-returns-in_err-b
 binary-returns-in_err-b t c =
-    let d = rw c.in_err-b.was at c.child-2.ensures in rw (is_noted _ c.from_residual-in_err-b.ensures.0) (binary_refused_2 c.requires.0 (inner_as c.next-read.ensures.node c.requires.1.0) (kind_of c.next-read.ensures.node c.requires.1.1) (c.next-read.ensures.at ∙ add-one _) (rw c.in_ok-a.was at c.child.ensures.0) (stops c.over.ensures) refl d.0 (d.1.coded refl), kept_trans c.child.ensures.1 d.1)
+    let d = rw c.in_err-b.was at c.child-2.ensures in rw (is_noted _ c.from_residual-in_err-b.ensures.0) (binary_refused_2 c.requires.0 (opened c.next-read.ensures c.requires.1) (rw c.in_ok-a.was at c.child.ensures.0) (stops c.over.ensures) refl d.0 (d.1.coded refl), kept_trans c.child.ensures.1 d.1)
 
 pub binary-binary-requires-clause-op_bound : goal.binary-binary-requires-clause-op_bound
 binary-binary-requires-clause-op_bound t c =
-    (binary_operable c.requires.0 (inner_as c.next-read.ensures.node c.requires.1.0) (kind_of c.next-read.ensures.node c.requires.1.1) (c.next-read.ensures.at ∙ add-one _) (rw c.in_ok-a.was at c.child.ensures.0) (stops c.over.ensures) refl (rw c.in_ok-b.was at c.child-2.ensures.0) refl).operator
-
-pub binary-binary-requires-clause-known : goal.binary-binary-requires-clause-known
-binary-binary-requires-clause-known t c =
-    let x = binary_operable c.requires.0 (inner_as c.next-read.ensures.node c.requires.1.0) (kind_of c.next-read.ensures.node c.requires.1.1) (c.next-read.ensures.at ∙ add-one _) (rw c.in_ok-a.was at c.child.ensures.0) (stops c.over.ensures) refl (rw c.in_ok-b.was at c.child-2.ensures.0) refl in (known x.wf x.first, known x.wf x.second)
+    (binary_operable c.requires.0 (opened c.next-read.ensures c.requires.1) (rw c.in_ok-a.was at c.child.ensures.0) (stops c.over.ensures) refl (rw c.in_ok-b.was at c.child-2.ensures.0) refl).operator
 
 pub binary-returns : goal.binary-returns
 binary-returns t c =
-    let g = operated (binary_operable c.requires.0 (inner_as c.next-read.ensures.node c.requires.1.0) (kind_of c.next-read.ensures.node c.requires.1.1) (c.next-read.ensures.at ∙ add-one _) (rw c.in_ok-a.was at c.child.ensures.0) (stops c.over.ensures) refl (rw c.in_ok-b.was at c.child-2.ensures.0) refl) c.binary.ensures c.settle.ensures in
-    (binary_done c.requires.0 (inner_as c.next-read.ensures.node c.requires.1.0) (kind_of c.next-read.ensures.node c.requires.1.1) (c.next-read.ensures.at ∙ add-one _) (rw c.in_ok-a.was at c.child.ensures.0) (stops c.over.ensures) refl (rw c.in_ok-b.was at c.child-2.ensures.0) refl g.0, kept_trans c.child.ensures.1 (kept_trans c.child-2.ensures.1 g.1))
+    let g = operated (binary_operable c.requires.0 (opened c.next-read.ensures c.requires.1) (rw c.in_ok-a.was at c.child.ensures.0) (stops c.over.ensures) refl (rw c.in_ok-b.was at c.child-2.ensures.0) refl) c.binary.ensures c.settle.ensures in
+    (binary_done c.requires.0 (opened c.next-read.ensures c.requires.1) (rw c.in_ok-a.was at c.child.ensures.0) (stops c.over.ensures) refl (rw c.in_ok-b.was at c.child-2.ensures.0) refl g.0, kept_trans c.child.ensures.1 (kept_trans c.child-2.ensures.1 g.1))
 
 pub call-over-passed-requires-clause-on : goal.call-over-passed-requires-clause-on
 call-over-passed-requires-clause-on t c =
-    record { nodes = c.next-read.ensures.nodes; within = rw (c.next-read.ensures.at ∙ add-one _) (callee_there c.requires.0.sound (inner_as c.next-read.ensures.node c.requires.1.0) (kind_of c.next-read.ensures.node c.requires.1.1)) }
+    record { nodes = c.next-read.ensures.nodes; within = rw (opened c.next-read.ensures c.requires.1).first (callee_there c.requires.0.sound (opened c.next-read.ensures c.requires.1)) }
 
 pub call-operands-requires : goal.call-operands-requires
 call-operands-requires t c =
-    (omega (arith, c.decreases), (c.requires.0, (c.requires.1.0, (call_operand c.requires.0.sound (inner_as c.next-read.ensures.node c.requires.1.0) (kind_of c.next-read.ensures.node c.requires.1.1) (rw (c.next-read.ensures.at ∙ add-one _) at c.over-passed.ensures.node) c.if-function-ne-VARIABLE.true, λ e. omega (arith, e, c.requires.1.1)))))
+    (omega (arith, c.decreases), (c.requires.0, (c.requires.1.0, (call_operand c.requires.0.sound (opened c.next-read.ensures c.requires.1) (behind (opened c.next-read.ensures c.requires.1) c.over-passed.ensures) c.if-function-ne-VARIABLE.true, λ e. omega (arith, e, c.requires.1.1)))))
 
 pub call-overflow_sub-count : goal.call-overflow_sub-count
 call-overflow_sub-count t c =
-    omega (arith, call_some c.requires.0.sound (inner_as c.next-read.ensures.node c.requires.1.0) (kind_of c.next-read.ensures.node c.requires.1.1))
+    omega (arith, call_some c.requires.0.sound (opened c.next-read.ensures c.requires.1))
 
 pub call-plan_of-requires-clause-x_bound : goal.call-plan_of-requires-clause-x_bound
 call-plan_of-requires-clause-x_bound t c =
-    name_there c.requires.0.sound (inner_as c.next-read.ensures.node c.requires.1.0) (kind_of c.next-read.ensures.node c.requires.1.1) (rw (c.next-read.ensures.at ∙ add-one _) at c.over-passed.ensures.node) c.if-function-ne-VARIABLE.false
+    name_there c.requires.0.sound (opened c.next-read.ensures c.requires.1) (behind (opened c.next-read.ensures c.requires.1) c.over-passed.ensures) c.if-function-ne-VARIABLE.false
 
 pub call-arguments-requires : goal.call-arguments-requires
 call-arguments-requires t c =
-    (omega (arith, c.decreases), (ready_moved c.over-passed.ensures.nodes (call_ready c.requires.0 (inner_as c.next-read.ensures.node c.requires.1.0) (kind_of c.next-read.ensures.node c.requires.1.1) (rw (c.next-read.ensures.at ∙ add-one _) at c.over-passed.ensures.node) c.if-function-ne-VARIABLE.false (c.over-passed.ensures.at ∙ sym (ap (λ y. y.stop) c.over-passed.ensures.node)) refl), (call_row c.requires.0 (inner_as c.next-read.ensures.node c.requires.1.0) (kind_of c.next-read.ensures.node c.requires.1.1) (rw (c.next-read.ensures.at ∙ add-one _) at c.over-passed.ensures.node) c.if-function-ne-VARIABLE.false (c.over-passed.ensures.at ∙ sym (ap (λ y. y.stop) c.over-passed.ensures.node)) refl, (c.requires.1.0.there, c.plan_of.ensures.enough _ c.in-Ok.is))))
+    (omega (arith, c.decreases), (ready_moved c.over-passed.ensures.nodes (call_ready c.requires.0 (opened c.next-read.ensures c.requires.1) (behind (opened c.next-read.ensures c.requires.1) c.over-passed.ensures) c.if-function-ne-VARIABLE.false refl), (call_row c.requires.0 (opened c.next-read.ensures c.requires.1) (behind (opened c.next-read.ensures c.requires.1) c.over-passed.ensures) c.if-function-ne-VARIABLE.false refl, (c.requires.1.0.there, c.plan_of.ensures.enough _ c.in-Ok.is))))
 
 pub call-returns-in-Ok : goal.call-returns-in-Ok
 call-returns-in-Ok t c =
-    (call_done c.requires.0 (inner_as c.next-read.ensures.node c.requires.1.0) (kind_of c.next-read.ensures.node c.requires.1.1) (rw (c.next-read.ensures.at ∙ add-one _) at c.over-passed.ensures.node) c.if-function-ne-VARIABLE.false (c.over-passed.ensures.at ∙ sym (ap (λ y. y.stop) c.over-passed.ensures.node)) refl refl refl c.plan_of.ensures c.in-Ok.is c.arguments.ensures.0, c.arguments.ensures.1)
+    (call_done c.requires.0 (opened c.next-read.ensures c.requires.1) (behind (opened c.next-read.ensures c.requires.1) c.over-passed.ensures) c.if-function-ne-VARIABLE.false refl refl refl c.plan_of.ensures c.in-Ok.is c.arguments.ensures.0, c.arguments.ensures.1)
 
 pub call-returns-in-Err : goal.call-returns-in-Err
 call-returns-in-Err t c =
     let z = call_coded c.plan_of.ensures c.in-Err.is in (
-      done_refused z (call_refused c.requires.0 (inner_as c.next-read.ensures.node c.requires.1.0) (kind_of c.next-read.ensures.node c.requires.1.1) (rw (c.next-read.ensures.at ∙ add-one _) at c.over-passed.ensures.node) c.if-function-ne-VARIABLE.false {number = 0} refl refl (name_there c.requires.0.sound (inner_as c.next-read.ensures.node c.requires.1.0) (kind_of c.next-read.ensures.node c.requires.1.1) (rw (c.next-read.ensures.at ∙ add-one _) at c.over-passed.ensures.node) c.if-function-ne-VARIABLE.false) c.plan_of.ensures c.in-Err.is) c.refuse.ensures,
+      done_refused z (call_refused c.requires.0 (opened c.next-read.ensures c.requires.1) (behind (opened c.next-read.ensures c.requires.1) c.over-passed.ensures) c.if-function-ne-VARIABLE.false {number = 0} refl refl c.plan_of.ensures c.in-Err.is) c.refuse.ensures,
       refused_kept z c.refuse.ensures,
     )
 
@@ -128,21 +123,17 @@ pub child-returns-in-21 : goal.child-returns-in-21
 child-returns-in-21 t c =
     (variable_done c.requires.0 c.requires.1 c.next-read.ensures.node c.in-21.is refl refl refl c.lookup.ensures, kept_none (λ e. cc))
 
-pub tc_expr-returns-in-20 : goal.tc_expr-returns-in-20
-tc_expr-returns-in-20 t c =
+pub expression-returns-in-20 : goal.expression-returns-in-20
+expression-returns-in-20 t c =
     (literal_done c.requires.0 c.requires.1 c.next-read.ensures.node c.in-20.is refl c.literal.ensures, kept_none (λ e. cc))
 
-pub tc_expr-returns-in-21 : goal.tc_expr-returns-in-21
-tc_expr-returns-in-21 t c =
+pub expression-returns-in-21 : goal.expression-returns-in-21
+expression-returns-in-21 t c =
     (variable_done c.requires.0 c.requires.1 c.next-read.ensures.node c.in-21.is refl refl refl c.lookup.ensures, kept_none (λ e. cc))
 
 pub dict-loop-init : goal.dict-loop-init
-dict-loop-init t c = (
-  pairing_first {j = c.args.here.at} (omega (arith, c.next-read.ensures.at))
-      (ready_moved c.next-read.ensures.nodes (children_before c.requires.0 (inner_as c.next-read.ensures.node c.requires.1.0) (c.next-read.ensures.at ∙ add-one _) (sym (ap (λ y. y.children) c.next-read.ensures.node)))) (children_row c.requires.0 (inner_as c.next-read.ensures.node c.requires.1.0) (c.next-read.ensures.at ∙ add-one _) (sym (ap (λ y. y.children) c.next-read.ensures.node))) (omega arith),
-  kept_none (λ e. e),
-  c.next-read.ensures.nodes,
-)
+dict-loop-init t c =
+    (pairing_opened c.requires.0 (opened c.next-read.ensures c.requires.1) c.next-read.ensures.nodes (sym (ap (λ y. y.children) c.next-read.ensures.node)) (omega arith), kept_none (λ e. e), c.next-read.ensures.nodes)
 
 pub dict-child-requires : goal.dict-child-requires
 dict-child-requires t c =
@@ -151,7 +142,7 @@ dict-child-requires t c =
 pub dict-returns-in_err-key : goal.dict-returns-in_err-key
 dict-returns-in_err-key t c =
     let d = rw c.in_err-key.was at c.child.ensures in rw (is_noted _ c.from_residual.ensures.0)
-    (node_done c.requires.0 (inner_as c.next-read.ensures.node c.requires.1.0) (c.next-read.ensures.at ∙ add-one _) (sym (ap (λ y. y.children) c.next-read.ensures.node)) (dict_whole c.requires.0.sound (inner_as c.next-read.ensures.node c.requires.1.0) _ (c.next-read.ensures.at ∙ add-one _) (sym (ap (λ y. y.children) c.next-read.ensures.node)) (kind_of c.next-read.ensures.node c.requires.1.1)) (pairing_refused c.loop.invariant.0 (omega (arith, ap (λ y. y.children) c.next-read.ensures.node)) d.0 (d.1.coded refl)), kept_trans c.loop.invariant.1 d.1)
+    (dict_done c.requires.0 (sym (ap (λ y. y.children) c.next-read.ensures.node)) (opened c.next-read.ensures c.requires.1) (pairing_refused c.loop.invariant.0 (omega (arith, ap (λ y. y.children) c.next-read.ensures.node)) d.0 (d.1.coded refl)), kept_trans c.loop.invariant.1 d.1)
 
 pub dict-over-requires-clause-on : goal.dict-over-requires-clause-on
 dict-over-requires-clause-on t c =
@@ -164,7 +155,7 @@ dict-child-requires-in-loop t c =
 pub dict-returns-in_err-value : goal.dict-returns-in_err-value
 dict-returns-in_err-value t c =
     let d = rw c.in_err-value.was at c.child-in-loop.ensures in rw (is_noted _ c.from_residual-in_err-value.ensures.0)
-    (node_done c.requires.0 (inner_as c.next-read.ensures.node c.requires.1.0) (c.next-read.ensures.at ∙ add-one _) (sym (ap (λ y. y.children) c.next-read.ensures.node)) (dict_whole c.requires.0.sound (inner_as c.next-read.ensures.node c.requires.1.0) _ (c.next-read.ensures.at ∙ add-one _) (sym (ap (λ y. y.children) c.next-read.ensures.node)) (kind_of c.next-read.ensures.node c.requires.1.1)) (pairing_refused_2 c.loop.invariant.0 (omega (arith, ap (λ y. y.children) c.next-read.ensures.node)) (rw c.in_ok-key.was at c.child.ensures.0) (stops c.over.ensures) refl d.0 (d.1.coded refl)), kept_trans c.loop.invariant.1 (kept_trans c.child.ensures.1 d.1))
+    (dict_done c.requires.0 (sym (ap (λ y. y.children) c.next-read.ensures.node)) (opened c.next-read.ensures c.requires.1) (pairing_refused_2 c.loop.invariant.0 (omega (arith, ap (λ y. y.children) c.next-read.ensures.node)) (rw c.in_ok-key.was at c.child.ensures.0) (stops c.over.ensures) refl d.0 (d.1.coded refl)), kept_trans c.loop.invariant.1 (kept_trans c.child.ensures.1 d.1))
 
 pub dict-dict_of-requires-clause-asks : goal.dict-dict_of-requires-clause-asks
 dict-dict_of-requires-clause-asks t c =
@@ -177,7 +168,7 @@ dict-dict_of-requires-clause-asks_2 t c =
 pub dict-returns-in_default : goal.dict-returns-in_default
 dict-returns-in_default t c =
     let k = kept_trans c.loop.invariant.1 (kept_trans c.child.ensures.1 c.child-in-loop.ensures.1) in
-    (node_done c.requires.0 (inner_as c.next-read.ensures.node c.requires.1.0) (c.next-read.ensures.at ∙ add-one _) (sym (ap (λ y. y.children) c.next-read.ensures.node)) (dict_whole c.requires.0.sound (inner_as c.next-read.ensures.node c.requires.1.0) _ (c.next-read.ensures.at ∙ add-one _) (sym (ap (λ y. y.children) c.next-read.ensures.node)) (kind_of c.next-read.ensures.node c.requires.1.1)) (pairing_stop c.loop.invariant.0 (omega (arith, ap (λ y. y.children) c.next-read.ensures.node)) (rw c.in_ok-key.was at c.child.ensures.0) (stops c.over.ensures) refl (rw c.in_ok-value.was at c.child-in-loop.ensures.0) refl c.dict_step.ensures c.in_default.is refl c.dict_of.ensures), record { ret = k.ret; top = k.top; coded = λ e. cc })
+    (dict_done c.requires.0 (sym (ap (λ y. y.children) c.next-read.ensures.node)) (opened c.next-read.ensures c.requires.1) (pairing_stop c.loop.invariant.0 (omega (arith, ap (λ y. y.children) c.next-read.ensures.node)) (rw c.in_ok-key.was at c.child.ensures.0) (stops c.over.ensures) refl (rw c.in_ok-value.was at c.child-in-loop.ensures.0) refl c.dict_step.ensures c.in_default.is refl c.dict_of.ensures), record { ret = k.ret; top = k.top; coded = λ e. cc })
 
 pub dict-over-requires-in-loop-clause-on : goal.dict-over-requires-in-loop-clause-on
 dict-over-requires-in-loop-clause-on t c =
@@ -201,7 +192,7 @@ dict-dict_of-requires-2-clause-asks_2 t c =
 pub dict-returns : goal.dict-returns
 dict-returns t c =
     let k = c.loop.invariant.1 in
-    (node_done c.requires.0 (inner_as c.next-read.ensures.node c.requires.1.0) (c.next-read.ensures.at ∙ add-one _) (sym (ap (λ y. y.children) c.next-read.ensures.node)) (dict_whole c.requires.0.sound (inner_as c.next-read.ensures.node c.requires.1.0) _ (c.next-read.ensures.at ∙ add-one _) (sym (ap (λ y. y.children) c.next-read.ensures.node)) (kind_of c.next-read.ensures.node c.requires.1.1)) (pairing_end c.loop.invariant.0 (omega (arith, ap (λ y. y.children) c.next-read.ensures.node)) refl c.dict_of-2.ensures), record { ret = k.ret; top = k.top; coded = λ e. cc })
+    (dict_done c.requires.0 (sym (ap (λ y. y.children) c.next-read.ensures.node)) (opened c.next-read.ensures c.requires.1) (pairing_end c.loop.invariant.0 (omega (arith, ap (λ y. y.children) c.next-read.ensures.node)) refl c.dict_of-2.ensures), record { ret = k.ret; top = k.top; coded = λ e. cc })
 
 pub each_then-returns-in_err-values : goal.each_then-returns-in_err-values
 each_then-returns-in_err-values t c =
@@ -248,22 +239,14 @@ pub len-returns-in_err-ty : goal.len-returns-in_err-ty
 len-returns-in_err-ty t c =
     let d = rw c.in_err-ty.was at c.child.ensures in rw (is_noted _ c.from_residual.ensures.0) (len_refused c.requires.0 c.requires.1.0 c.requires.1.1.1 d.0 _ (d.1.coded refl), d.1)
 
-pub len-len-requires : goal.len-len-requires
-len-len-requires t c =
-    let j = first_judges c.requires.0 c.requires.1.0 c.requires.1.1.1 (rw c.in_ok-ty.was at c.child.ensures.0) refl c.requires.1.1.0 in omega (arith, j.below, j.wf.room)
-
 pub len-returns : goal.len-returns
 len-returns t c =
     let g = judged (first_judges c.requires.0 c.requires.1.0 c.requires.1.1.1 (rw c.in_ok-ty.was at c.child.ensures.0) refl c.requires.1.1.0) c.len.ensures c.settle.ensures in
     (len_done c.requires.0 c.requires.1.0 c.requires.1.1.1 (rw c.in_ok-ty.was at c.child.ensures.0) _ c.requires.1.1.0 refl g.0, kept_trans c.child.ensures.1 g.1)
 
 pub list-loop-init : goal.list-loop-init
-list-loop-init t c = (
-  listing_first {j = c.args.here.at} (omega (arith, c.next-read.ensures.at))
-      (ready_moved c.next-read.ensures.nodes (children_before c.requires.0 (inner_as c.next-read.ensures.node c.requires.1.0) (c.next-read.ensures.at ∙ add-one _) refl)) (children_row c.requires.0 (inner_as c.next-read.ensures.node c.requires.1.0) (c.next-read.ensures.at ∙ add-one _) refl) (omega arith),
-  kept_none (λ e. e),
-  c.next-read.ensures.nodes,
-)
+list-loop-init t c =
+    (listing_opened c.requires.0 (opened c.next-read.ensures c.requires.1) c.next-read.ensures.nodes refl (omega arith), kept_none (λ e. e), c.next-read.ensures.nodes)
 
 pub list-child-requires : goal.list-child-requires
 list-child-requires t c =
@@ -272,7 +255,7 @@ list-child-requires t c =
 pub list-returns-in_err-ty : goal.list-returns-in_err-ty
 list-returns-in_err-ty t c =
     let d = rw c.in_err-ty.was at c.child.ensures in rw (is_noted _ c.from_residual.ensures.0)
-    (node_done c.requires.0 (inner_as c.next-read.ensures.node c.requires.1.0) (c.next-read.ensures.at ∙ add-one _) refl (list_whole c.requires.0.sound (inner_as c.next-read.ensures.node c.requires.1.0) _ (c.next-read.ensures.at ∙ add-one _) refl (kind_of c.next-read.ensures.node c.requires.1.1)) (listing_refused c.loop.invariant.0 (omega arith) d.0 (d.1.coded refl)), kept_trans c.loop.invariant.1 d.1)
+    (list_done c.requires.0 refl (opened c.next-read.ensures c.requires.1) (listing_refused c.loop.invariant.0 (omega arith) d.0 (d.1.coded refl)), kept_trans c.loop.invariant.1 d.1)
 
 pub list-list_of-requires : goal.list-list_of-requires
 list-list_of-requires t c =
@@ -281,7 +264,7 @@ list-list_of-requires t c =
 pub list-returns-in_default : goal.list-returns-in_default
 list-returns-in_default t c =
     let k = kept_trans c.loop.invariant.1 c.child.ensures.1 in
-    (node_done c.requires.0 (inner_as c.next-read.ensures.node c.requires.1.0) (c.next-read.ensures.at ∙ add-one _) refl (list_whole c.requires.0.sound (inner_as c.next-read.ensures.node c.requires.1.0) _ (c.next-read.ensures.at ∙ add-one _) refl (kind_of c.next-read.ensures.node c.requires.1.1)) (listing_stop c.loop.invariant.0 (omega arith) (rw c.in_ok-ty.was at c.child.ensures.0) refl c.list_step.ensures c.in_default.is refl c.list_of.ensures), record { ret = k.ret; top = k.top; coded = λ e. cc })
+    (list_done c.requires.0 refl (opened c.next-read.ensures c.requires.1) (listing_stop c.loop.invariant.0 (omega arith) (rw c.in_ok-ty.was at c.child.ensures.0) refl c.list_step.ensures c.in_default.is refl c.list_of.ensures), record { ret = k.ret; top = k.top; coded = λ e. cc })
 
 pub list-over-requires-clause-on : goal.list-over-requires-clause-on
 list-over-requires-clause-on t c =
@@ -301,7 +284,7 @@ list-list_of-requires-2 t c =
 pub list-returns : goal.list-returns
 list-returns t c =
     let k = c.loop.invariant.1 in
-    (node_done c.requires.0 (inner_as c.next-read.ensures.node c.requires.1.0) (c.next-read.ensures.at ∙ add-one _) refl (list_whole c.requires.0.sound (inner_as c.next-read.ensures.node c.requires.1.0) _ (c.next-read.ensures.at ∙ add-one _) refl (kind_of c.next-read.ensures.node c.requires.1.1)) (listing_end c.loop.invariant.0 (omega arith) refl c.list_of-2.ensures), record { ret = k.ret; top = k.top; coded = λ e. cc })
+    (list_done c.requires.0 refl (opened c.next-read.ensures c.requires.1) (listing_end c.loop.invariant.0 (omega arith) refl c.list_of-2.ensures), record { ret = k.ret; top = k.top; coded = λ e. cc })
 
 pub operands-values-requires : goal.operands-values-requires
 operands-values-requires t c =
@@ -394,69 +377,69 @@ stream-returns t c =
     let g = judged_by_number (stream_judges c.args.filters c.requires.0 c.requires.1.0 c.requires.1.1.1 (rw c.in_ok-function.was at c.child.ensures.0) refl) (rw c.first_code.ensures at c.callable-judged.ensures) c.settle.ensures in
     (stream_done c.args.filters c.requires.0 c.requires.1.0 c.requires.1.1.1 (rw c.in_ok-function.was at c.child.ensures.0) refl g.0 (same_tab (settles_counts _ c.settle.ensures) _) (stops c.over.ensures) (code_well _ c.in_ok-settle.was) (rw c.in_ok-iterable.was at c.child-2.ensures.0) refl c.streamed.ensures.0, kept_trans c.child.ensures.1 (kept_trans g.1 (kept_trans c.child-2.ensures.1 c.streamed.ensures.1)))
 
-pub tc_expr-lookup-requires : goal.tc_expr-lookup-requires
-tc_expr-lookup-requires t c =
+pub expression-lookup-requires : goal.expression-lookup-requires
+expression-lookup-requires t c =
     variable_there c.requires.0 c.requires.1 c.next-read.ensures.node c.in-21.is refl
 
-pub tc_expr-overflow_sub-depth : goal.tc_expr-overflow_sub-depth
-tc_expr-overflow_sub-depth t c =
+pub expression-overflow_sub-depth : goal.expression-overflow_sub-depth
+expression-overflow_sub-depth t c =
     omega (arith, shallow c.requires.0.sound c.requires.1)
 
-pub tc_expr-binary-requires : goal.tc_expr-binary-requires
-tc_expr-binary-requires t c =
+pub expression-binary-requires : goal.expression-binary-requires
+expression-binary-requires t c =
     (omega (arith, c.decreases, shallow c.requires.0.sound c.requires.1), (c.requires.0, (inner c.requires.0.sound c.requires.1 refl, kind_as c.next-read.ensures.node c.in-23.is)))
 
-pub tc_expr-returns-in-23 : goal.tc_expr-returns-in-23
-tc_expr-returns-in-23 t c =
+pub expression-returns-in-23 : goal.expression-returns-in-23
+expression-returns-in-23 t c =
     (expr_done c.requires.0 c.requires.1 c.next-read.ensures.node c.binary.ensures.0, c.binary.ensures.1)
 
-pub tc_expr-overflow_sub-depth-in-24 : goal.tc_expr-overflow_sub-depth-in-24
-tc_expr-overflow_sub-depth-in-24 t c =
+pub expression-overflow_sub-depth-in-24 : goal.expression-overflow_sub-depth-in-24
+expression-overflow_sub-depth-in-24 t c =
     omega (arith, shallow c.requires.0.sound c.requires.1)
 
-pub tc_expr-call-requires : goal.tc_expr-call-requires
-tc_expr-call-requires t c =
+pub expression-call-requires : goal.expression-call-requires
+expression-call-requires t c =
     (omega (arith, c.decreases, shallow c.requires.0.sound c.requires.1), (c.requires.0, (inner c.requires.0.sound c.requires.1 refl, kind_as c.next-read.ensures.node c.in-24.is)))
 
-pub tc_expr-returns-in-24 : goal.tc_expr-returns-in-24
-tc_expr-returns-in-24 t c =
+pub expression-returns-in-24 : goal.expression-returns-in-24
+expression-returns-in-24 t c =
     (expr_done c.requires.0 c.requires.1 c.next-read.ensures.node c.call.ensures.0, c.call.ensures.1)
 
-pub tc_expr-overflow_sub-depth-in-26 : goal.tc_expr-overflow_sub-depth-in-26
-tc_expr-overflow_sub-depth-in-26 t c =
+pub expression-overflow_sub-depth-in-26 : goal.expression-overflow_sub-depth-in-26
+expression-overflow_sub-depth-in-26 t c =
     omega (arith, shallow c.requires.0.sound c.requires.1)
 
-pub tc_expr-list-requires : goal.tc_expr-list-requires
-tc_expr-list-requires t c =
+pub expression-list-requires : goal.expression-list-requires
+expression-list-requires t c =
     (omega (arith, c.decreases, shallow c.requires.0.sound c.requires.1), (c.requires.0, (inner c.requires.0.sound c.requires.1 refl, kind_as c.next-read.ensures.node c.in-26.is)))
 
-pub tc_expr-returns-in-26 : goal.tc_expr-returns-in-26
-tc_expr-returns-in-26 t c =
+pub expression-returns-in-26 : goal.expression-returns-in-26
+expression-returns-in-26 t c =
     (expr_done c.requires.0 c.requires.1 c.next-read.ensures.node c.list.ensures.0, c.list.ensures.1)
 
-pub tc_expr-overflow_sub-depth-in-27 : goal.tc_expr-overflow_sub-depth-in-27
-tc_expr-overflow_sub-depth-in-27 t c =
+pub expression-overflow_sub-depth-in-27 : goal.expression-overflow_sub-depth-in-27
+expression-overflow_sub-depth-in-27 t c =
     omega (arith, shallow c.requires.0.sound c.requires.1)
 
-pub tc_expr-dict-requires : goal.tc_expr-dict-requires
-tc_expr-dict-requires t c =
+pub expression-dict-requires : goal.expression-dict-requires
+expression-dict-requires t c =
     (omega (arith, c.decreases, shallow c.requires.0.sound c.requires.1), (c.requires.0, (inner c.requires.0.sound c.requires.1 refl, kind_as c.next-read.ensures.node c.in-27.is)))
 
-pub tc_expr-returns-in-27 : goal.tc_expr-returns-in-27
-tc_expr-returns-in-27 t c =
+pub expression-returns-in-27 : goal.expression-returns-in-27
+expression-returns-in-27 t c =
     (expr_done c.requires.0 c.requires.1 c.next-read.ensures.node c.dict.ensures.0, c.dict.ensures.1)
 
-pub tc_expr-overflow_sub-depth-in-22 : goal.tc_expr-overflow_sub-depth-in-22
-tc_expr-overflow_sub-depth-in-22 t c =
+pub expression-overflow_sub-depth-in-22 : goal.expression-overflow_sub-depth-in-22
+expression-overflow_sub-depth-in-22 t c =
     omega (arith, shallow c.requires.0.sound c.requires.1)
 
-pub tc_expr-operands-requires : goal.tc_expr-operands-requires
-tc_expr-operands-requires t c =
+pub expression-operands-requires : goal.expression-operands-requires
+expression-operands-requires t c =
     let k = c.next-read.result.node.kind in
     let operand : ((k ≡ 22) ⊎ (k ≡ 25)) ⊎ ((28 ≤ k) × (k ≤ 31)) =
     elim c.in-22-1.branch [
-      | tc_expr-in-22-1 w ↦ inl w.in-22-1.keys7
-      | tc_expr-in_default+else-node-lt20+then-node-lt32 w ↦ inr (above_27 (omega arith) w.in_default-1.rest.0.0.0.0.0.0.1 w.in_default-1.rest.0.0.0.0.0.1 (λ e. w.in_default-1.rest.1 (inl e)) w.in_default-1.rest.0.0.0.0.1 w.in_default-1.rest.0.0.0.1 (λ e. w.in_default-1.rest.1 (inr e)) w.in_default-1.rest.0.0.1 w.in_default-1.rest.0.1, omega arith)
+      | expression-in-22-1 w ↦ inl w.in-22-1.keys7
+      | expression-in_default+else-node-lt20+then-node-lt32 w ↦ inr (above_27 (omega arith) w.in_default-1.rest.0.0.0.0.0.0.1 w.in_default-1.rest.0.0.0.0.0.1 (λ e. w.in_default-1.rest.1 (inl e)) w.in_default-1.rest.0.0.0.0.1 w.in_default-1.rest.0.0.0.1 (λ e. w.in_default-1.rest.1 (inr e)) w.in_default-1.rest.0.0.1 w.in_default-1.rest.0.1, omega arith)
     ] in (
       omega (arith, c.decreases, shallow c.requires.0.sound c.requires.1),
       (
@@ -468,16 +451,16 @@ tc_expr-operands-requires t c =
       ),
     )
 
-pub tc_expr-returns-in-22 : goal.tc_expr-returns-in-22
-tc_expr-returns-in-22 t c =
+pub expression-returns-in-22 : goal.expression-returns-in-22
+expression-returns-in-22 t c =
     (expr_done c.requires.0 c.requires.1 c.next-read.ensures.node c.operands.ensures.0, c.operands.ensures.1)
 
-pub tc_expr-returns-in_default : goal.tc_expr-returns-in_default
-tc_expr-returns-in_default t c =
+pub expression-returns-in_default : goal.expression-returns-in_default
+expression-returns-in_default t c =
     (lambda_done c.requires.0 c.requires.1 c.next-read.ensures.node (inl (omega arith)) refl refl, kept_none (λ e. cc))
 
-pub tc_expr-returns-in_default-2 : goal.tc_expr-returns-in_default-2
-tc_expr-returns-in_default-2 t c =
+pub expression-returns-in_default-2 : goal.expression-returns-in_default-2
+expression-returns-in_default-2 t c =
     (lambda_done c.requires.0 c.requires.1 c.next-read.ensures.node (inr (omega arith)) refl refl, kept_none (λ e. cc))
 
 pub values-loop-i-init : goal.values-loop-i-init
