@@ -20,6 +20,8 @@ use Rattle.rules.specs.Outcome.{types_named}
 use Rattle.rules.specs.Leaves.{prompt_rule, sized_rule}
 use Rattle.rules.proofs.Calls.{input_one, input_other, len_first}
 use Rattle.std.specs.Prelude.{Ok, Err}
+use Rattle.codes.specs.declared.Code.{Code}
+use Rattle.codes.specs.Codes.{code_number}
 use Rattle.calls.specs.Planning.{Plan, rule_of, Planned}
 use Rattle.calls.specs.declared.Rule.{Rule}
 use Rattle.calls.specs.declared.Rule.TheVariants.{Each, First, Input, Len, Range, Map, Filter}
@@ -42,7 +44,7 @@ named_38 = refl
 no_types : (c : ℕ) → 37 ≤ c → c ≤ 38 → types_named c ≡ 0
 no_types c a b = elim (ℕ_discrete c 37) [ yes e ↦ rw e named_37 | no e ↦ let f : c ≡ 38 = omega arith in rw f named_38 ]
 
-pub call_coded : {ws : List Name} {x count code : ℕ} {p : Plan} → Planned ws x count p → p ≡ Err code → code ≡ 0 → ⊥
+pub call_coded : {ws : List Name} {x count : ℕ} {code : Code} {p : Plan} → Planned ws x count p → p ≡ Err code → code_number code ≡ 0 → ⊥
 call_coded {code = code} p y z = omega (arith, (p.codes code y).0)
 
 -- ---- the call at node i of a name
@@ -50,14 +52,14 @@ call_coded {code = code} p y z = omega (arith, (p.codes code y).0)
 module _ {bs : List ℕ} {nodes : ℕ} {fs : Rows} {top : ℕ} {t : Tab} {st : List ℕ} {sp i d first from : ℕ} {node callee : Node}
     (r : Ready bs nodes fs top t st sp i (stop_of (nodes_of bs) i)) (o : Opened bs i d node 24 first)
     (c : Behind bs i callee from) (v : callee.kind ≡ 21) where
-  pub call_refused : {x count code number : ℕ} {p : Plan} → x ≡ callee.arg → count ≡ node.children - 1
+  pub call_refused : {x count : ℕ} {code : Code} {number : ℕ} {p : Plan} → x ≡ callee.arg → count ≡ node.children - 1
       → Planned (names_of bs) x count p → p ≡ Err code
       → Done (names_of bs) (check_form (names_of bs) (frames_of t fs top) i (form_at (nodes_of bs) (λ j. expr_at (nodes_of bs) d j) i)) t t st st sp i
-      (stop_of (nodes_of bs) i) (node_count bs) code i number x count
+      (stop_of (nodes_of bs) i) (node_count bs) (code_number code) i number x count
   call_refused {x} {count} {code} e m p y =
       let h : x < name_count bs = rw e (name_there r.sound o c v) in
-      let none = no_types code (p.codes code y).0 (p.codes code y).1 in
-      let z : code ≡ 0 → ⊥ = call_coded p y in
+      let none = no_types (code_number code) (p.codes code y).0 (p.codes code y).1 in
+      let z : code_number code ≡ 0 → ⊥ = call_coded p y in
       let size = sizes r.sound.headed in
       let few : count < 4294967296 = omega (arith, m, row_long r.sound node.children (row_of r.sound o.inner), row_ends r.sound o.inner, ends_within r.sound o.inner.there, size.nodes) in
       record {

@@ -8,15 +8,17 @@ ghost use Rattle.meaning.specs.Types.{plain};
 ghost use Rattle.meaning.specs.Rules.{each_then, first_then, input_rule, len_rule, range_rule};
 ghost use Rattle.calls.specs.Planning.{rule_of, Enough};
 ghost use Rattle.state.specs.Lent.{lent};
+ghost use Rattle.codes.specs.Codes.{code_number};
 ghost use Rattle.expr.specs.Contract.{first_code, stream_of};
 ghost use Rattle.expr.specs.Clauses.{Any, Checkable, OfKind, Ruled, InRow, Called};
 ghost use Rattle.expr.specs.Clauses.{Checks, ChecksForm, ChecksAll, Calls};
 
 use calls::{Rule, plan_of};
+use codes::Code;
 use frames::{Frames, lookup};
 use image::{Cursor, kinds};
 use nodes::{decide, dict_of, list_of, literal, streamed};
-use rules::{Pair, bound, callable, codes, dict_step, list_step, prompt};
+use rules::{Pair, bound, callable, dict_step, list_step, prompt};
 use state::{Outcome, Typed, Walk};
 use types;
 
@@ -432,13 +434,13 @@ fn range(
 
 // The code that refuses the first argument: 42 for `map`, 44 for `filter`.
 #[tactic(auto, unfolding(crate::specs::Contract::first_code))]
-fn first_code(filters: bool) -> u32
-    ensures { result ≡ first_code filters }
+fn first_code(filters: bool) -> Code
+    ensures { code_number result ≡ first_code filters }
 {
     if filters {
-        codes::FILTER_FIRST
+        Code::FilterFirst
     } else {
-        codes::MAP_FIRST
+        Code::MapFirst
     }
 }
 

@@ -52,14 +52,6 @@ module _ (k a n m o : ℕ) (ts : List Ty) where
 decides_as : {ws : List Name} {t : Tab} {r s : Checked} {place : ℕ} {d : Decision} → r ≡ s → Decides ws t s place d → Decides ws t r place d
 decides_as e d = rw e d
 
-pub index_place_object : (c m n : ℕ) → c ≡ 50 → m ≡ index_place c m n
-unfolding index_place test◌then◌else◌
-index_place_object c m n e = rw (eq-eqb c 50 e)
-
-pub index_place_index : (c m n : ℕ) → (c ≡ 50 → ⊥) → n ≡ index_place c m n
-unfolding index_place test◌then◌else◌
-index_place_index c m n d = rw (ne_eqb c 50 d)
-
 index_place_below : (c m n M : ℕ) → m < M → n < M → index_place c m n < M
 unfolding index_place test◌then◌else◌
 index_place_below c m n M h l = elim (ℕ_discrete c 50) [ yes e ↦ rw (eq-eqb c 50 e) h | no d ↦ rw (ne_eqb c 50 d) l ]
