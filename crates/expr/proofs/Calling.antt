@@ -1,9 +1,9 @@
 -- Nodes: what is asked for their children, and what they give after them.
 use mathlib.Core.Path.{◌≡◌, refl, ◌∙◌}
-use mathlib.Core.Logic.{◌⊎◌, ⊎_elim}
 use mathlib.Core.List.{List, [], map}
 use Prim.Native.Nat.{ℕ, zero, suc, ◌-◌, ◌≤◌, ◌<◌}
 use native.Mathlib.Omega.{arith}
+use native.Mathlib.Decide.{ℕ_discrete, dec_lt}
 use lib.ListN.{length, take, drop}
 use Rattle.meaning.specs.Types.{unknown}
 use Rattle.meaning.specs.Tree.{place}
@@ -97,13 +97,19 @@ module _ {bs : List ℕ} {nodes : ℕ} {fs : Rows} {top : ℕ} {t : Tab} {st : L
   operands_done z g =
       done_as (whole ∙ (v.told _ []).well z ∙ rw m) (done_given i (omega arith) operands_fine node.children (omega (arith, m)) g)
 
-pub not_binary : {k : ℕ} → ((k ≡ 22) ⊎ (k ≡ 25)) ⊎ ((28 ≤ k) × (k ≤ 31)) → k ≡ 23 → ⊥
-not_binary w z = ⊎_elim (λ u. ⊎_elim (λ e. absurd (omega arith)) (λ e. absurd (omega arith)) u) (λ u. absurd (omega (arith, u.0))) w
-
 pub own_place : (ds : List Node) (d j : ℕ) → place (expr_at ds d j) ≡ j
 unfolding place expr_at
 own_place ds zero j = refl
 own_place ds (suc d) j = refl
+
+-- the kinds that go by `operands`: neither Binary, Call, List nor Dict
+pub record OfOperands (k : ℕ) : Type 0 where
+  pub low : 22 ≤ k
+  pub high : k ≤ 31
+  pub binary : k ≡ 23 → ⊥
+  pub call : k ≡ 24 → ⊥
+  pub list : k ≡ 26 → ⊥
+  pub dict : k ≡ 27 → ⊥
 
 module _ {bs : List ℕ} {i d : ℕ} {node : Node} (s : Sound bs) (o : Inner bs i d node) where
   inside : i < length (nodes_of bs)
@@ -127,10 +133,14 @@ module _ {bs : List ℕ} {i d : ℕ} {node : Node} (s : Sound bs) (o : Inner bs 
     rule = λ Γ. operands_high (sound_nested s) (names_of bs) Γ (λ j. expr_at (nodes_of bs) d j) (own_place (nodes_of bs) d) i inside (rw o.read at a) (rw o.read at b);
   }
 
-  -- the kinds that go by `operands`
-  pub operand_any : ((node.kind ≡ 22) ⊎ (node.kind ≡ 25)) ⊎ ((28 ≤ node.kind) × (node.kind ≤ 31)) → Operand bs i d
-  operand_any k =
-      ⊎_elim (λ w. ⊎_elim (λ e. operand_low (omega arith) (omega arith)) (λ e. operand_attribute e) w) (λ w. operand_high w.0 w.1) k
+  pub operand_any : OfOperands node.kind → Operand bs i d
+  operand_any k = elim (dec_lt node.kind 24) [
+    | yes l ↦ operand_low k.low (omega arith)
+    | no n ↦ elim (ℕ_discrete node.kind 25) [
+      | yes e ↦ operand_attribute e
+      | no d ↦ operand_high (omega arith) k.high
+    ]
+  ]
 
 -- ---- List and Dict
 

@@ -10,7 +10,7 @@ ghost use Rattle.calls.specs.Planning.{rule_of, Enough};
 ghost use Rattle.state.specs.Lent.{lent};
 ghost use Rattle.codes.specs.Codes.{code_number};
 ghost use Rattle.expr.specs.Contract.{first_code, stream_of};
-ghost use Rattle.expr.specs.Clauses.{Any, Checkable, OfKind, Ruled, InRow, Called};
+ghost use Rattle.expr.specs.Clauses.{Any, Checkable, Compound, OfKind, Ruled, InRow, Called};
 ghost use Rattle.expr.specs.Clauses.{Checks, ChecksForm, ChecksAll, Calls};
 
 use calls::{Rule, plan_of};
@@ -58,7 +58,7 @@ pub fn tc_expr(
     expression(&Scope { image, frames, top }, here, table, w, sp, depth)
 }
 
-// The same in its scope.
+// The same in its scope. Most nodes are Literals and Variables: these are decided without a further call.
 #[cycle(expression)]
 fn expression(
     scope: &Scope,
@@ -79,6 +79,28 @@ fn expression(
     match node.kind {
         kinds::LITERAL => Ok(literal(node.arg)),
         kinds::VARIABLE => Ok(lookup(scope.frames, scope.top, node.arg as usize).ty),
+        kind => compound(scope, here, table, w, sp, depth, kind),
+    }
+}
+
+// Any other expression, of kind `kind`.
+#[cycle(expression)]
+fn compound(
+    scope: &Scope,
+    here: Cursor,
+    table: &mut [u16],
+    w: &mut Walk,
+    sp: usize,
+    depth: usize,
+    kind: u32,
+) -> Typed
+    requires { Compound kind scope.now.image.now here scope.now.top sp depth
+        (lent scope.now.frames.now table.old w.old) }
+    ensures { Checks scope.now.image.now here scope.now.top sp depth result
+        (lent scope.now.frames.now table.old w.old)
+        (lent scope.now.frames.now table.new w.new) }
+{
+    match kind {
         kinds::BINARY => binary(scope, here, table, w, sp, depth - 1),
         kinds::CALL => call(scope, here, table, w, sp, depth - 1),
         kinds::LIST => list(scope, here, table, w, sp, depth - 1),
@@ -87,31 +109,6 @@ fn expression(
             operands(scope, here, table, w, sp, depth - 1)
         }
         _ => Ok(types::FUNCTION),
-    }
-}
-
-// The same for a child. Most nodes are Literals and Variables: these are decided without a call.
-#[cycle(expression)]
-fn child(
-    scope: &Scope,
-    here: Cursor,
-    table: &mut [u16],
-    w: &mut Walk,
-    sp: usize,
-    depth: usize,
-) -> Typed
-    requires { Checkable scope.now.image.now here scope.now.top sp depth
-        (lent scope.now.frames.now table.old w.old) }
-    ensures { Checks scope.now.image.now here scope.now.top sp depth result
-        (lent scope.now.frames.now table.old w.old)
-        (lent scope.now.frames.now table.new w.new) }
-{
-    let read = here.next(scope.image);
-    let node = read.node;
-    match node.kind {
-        kinds::LITERAL => Ok(literal(node.arg)),
-        kinds::VARIABLE => Ok(lookup(scope.frames, scope.top, node.arg as usize).ty),
-        _ => expression(scope, here, table, w, sp, depth),
     }
 }
 
@@ -134,7 +131,7 @@ fn values(
 {
     let mut next = from;
     for i in 0..n {
-        let ty = child(scope, next, table, w, sp + i, depth)?;
+        let ty = expression(scope, next, table, w, sp + i, depth)?;
         w.stack[sp + i] = ty as u16;
         next = next.over(scope.image).cursor;
     }
@@ -183,9 +180,9 @@ fn binary(
     let read = here.next(scope.image);
     let node = read.node;
     let left = read.cursor;
-    let a = child(scope, left, table, w, sp, depth)?;
+    let a = expression(scope, left, table, w, sp, depth)?;
     let right = left.over(scope.image).cursor;
-    let b = child(scope, right, table, w, sp, depth)?;
+    let b = expression(scope, right, table, w, sp, depth)?;
     w.notes
         .settle(rules::binary(table, node.arg, a, b), here.at)
 }
@@ -210,7 +207,7 @@ fn list(
     let mut next = read.cursor;
     let mut element = types::UNKNOWN;
     for _ in 0..read.node.children {
-        let ty = child(scope, next, table, w, sp, depth)?;
+        let ty = expression(scope, next, table, w, sp, depth)?;
         let Some(joined) = list_step(element, ty) else {
             return Ok(list_of(table, &mut w.notes.counts, types::UNKNOWN));
         };
@@ -243,9 +240,9 @@ fn dict(
         value: types::UNKNOWN,
     };
     for _ in 0..read.node.children / 2 {
-        let key = child(scope, next, table, w, sp, depth)?;
+        let key = expression(scope, next, table, w, sp, depth)?;
         let second = next.over(scope.image).cursor;
-        let value = child(scope, second, table, w, sp, depth)?;
+        let value = expression(scope, second, table, w, sp, depth)?;
         let Some(joined) = dict_step(so_far, Pair { key, value }) else {
             return Ok(dict_of(table, &mut w.notes.counts, types::UNKNOWN, types::UNKNOWN));
         };
@@ -360,7 +357,7 @@ fn first_then(
         (lent scope.now.frames.now table.old w.old)
         (lent scope.now.frames.now table.new w.new) }
 {
-    child(scope, call.first, table, w, sp, depth)?;
+    expression(scope, call.first, table, w, sp, depth)?;
     Ok(ty)
 }
 
@@ -383,7 +380,7 @@ fn input(
     if call.count != 1 {
         return Ok(types::STRING);
     }
-    let ty = child(scope, call.first, table, w, sp, depth)?;
+    let ty = expression(scope, call.first, table, w, sp, depth)?;
     w.notes.settle(prompt(ty), call.at)
 }
 
@@ -403,7 +400,7 @@ fn len(
         (lent scope.now.frames.now table.old w.old)
         (lent scope.now.frames.now table.new w.new) }
 {
-    let ty = child(scope, call.first, table, w, sp, depth)?;
+    let ty = expression(scope, call.first, table, w, sp, depth)?;
     w.notes.settle(rules::len(table, ty), call.at)
 }
 
@@ -425,7 +422,7 @@ fn range(
 {
     let mut next = call.first;
     for _ in 0..call.count {
-        let ty = child(scope, next, table, w, sp, depth)?;
+        let ty = expression(scope, next, table, w, sp, depth)?;
         w.notes.settle(bound(ty), call.at)?;
         next = next.over(scope.image).cursor;
     }
@@ -462,10 +459,10 @@ fn stream(
         (lent scope.now.frames.now table.new w.new) }
 {
     let first = call.first;
-    let function = child(scope, first, table, w, sp, depth)?;
+    let function = expression(scope, first, table, w, sp, depth)?;
     let judged = callable(function, first_code(filters));
     w.notes.settle(judged, first.at)?;
     let second = first.over(scope.image).cursor;
-    let iterable = child(scope, second, table, w, sp, depth)?;
+    let iterable = expression(scope, second, table, w, sp, depth)?;
     streamed(table, &mut w.notes, filters, iterable, second.at)
 }

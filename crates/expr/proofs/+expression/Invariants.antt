@@ -17,8 +17,8 @@ decreases-binary l = 6 * l.depth + 3
 abbrev pub decreases-call : goal.decreases-call
 decreases-call l = 6 * l.depth + 5
 
-abbrev pub decreases-child : goal.decreases-child
-decreases-child l = 6 * l.depth + 1
+abbrev pub decreases-expression : goal.decreases-expression
+decreases-expression l = 6 * l.depth + 1
 
 abbrev pub decreases-dict : goal.decreases-dict
 decreases-dict l = 6 * l.depth + 3
@@ -47,8 +47,8 @@ decreases-range l = 6 * l.depth + 3
 abbrev pub decreases-stream : goal.decreases-stream
 decreases-stream l = 6 * l.depth + 3
 
-abbrev pub decreases-expression : goal.decreases-expression
-decreases-expression l = 6 * l.depth
+abbrev pub decreases-compound : goal.decreases-compound
+decreases-compound l = 6 * l.depth
 
 abbrev pub decreases-values : goal.decreases-values
 decreases-values l = 6 * l.depth + 2
