@@ -8,6 +8,7 @@ use Rattle.std.specs.Prelude.{Result, Ok, Err, IsErr}
 use Rattle.meaning.specs.Image.{Name}
 use Rattle.meaning.specs.Operators.{Checked, ok}
 use Rattle.types.specs.Table.{Tab, denote}
+use Rattle.types.specs.declared.Counts.{Counts}
 use Rattle.rules.specs.Outcome.{decision_code, decision_number, decision_first, decision_second}
 use Rattle.rules.specs.declared.Reason.{Reason}
 use Rattle.rules.specs.declared.Decision.{Decision}
@@ -16,7 +17,7 @@ use Rattle.rules.proofs.Outcomes.{names_none}
 use Rattle.state.specs.declared.Noted.{Noted}
 use Rattle.state.specs.declared.Notes.{Notes}
 use Rattle.state.specs.Giving.{Told, Given}
-use Rattle.state.specs.Notes.{types_in, elements_in, code_in, place_in, first_in, second_in, tab_in, Kept, CountsKept, Refused}
+use Rattle.state.specs.Notes.{code_in, place_in, first_in, second_in, tab_of, tab_in, Kept, Refused}
 use Rattle.state.specs.Answer.{Typed, noted, code_of, number_of, Settled, Settles}
 
 -- ---- the code of an answer
@@ -74,11 +75,8 @@ told_type z e = record {
 -- ---- what was decided at a node is the answer
 
 module _ {T : Type 0} {ns ms : Notes} {q : Result T Noted} {good : T} {code place a b : ℕ} (f : Settled ns ms q good code place a b) where
-  pub settled_counts : CountsKept ns ms
-  settled_counts = elim (ℕ_discrete code 0) [
-    | yes e ↦ rw (f.well e).1 record { types_kept = refl; elements_kept = refl }
-    | no z ↦ record { types_kept = (f.ill z).1.types_kept; elements_kept = (f.ill z).1.elements_kept }
-  ]
+  pub settled_counts : ms.counts ≡ ns.counts
+  settled_counts = elim (ℕ_discrete code 0) [ yes e ↦ rw (f.well e).1 | no z ↦ (f.ill z).1.counts ]
 
   pub settled_kept : Kept ns ms (IsErr q)
   settled_kept = elim (ℕ_discrete code 0) [
@@ -87,8 +85,8 @@ module _ {T : Type 0} {ns ms : Notes} {q : Result T Noted} {good : T} {code plac
   ]
 
 -- no type is formed: the table is the same
-pub same_tab : {ns ms : Notes} → CountsKept ns ms → (cells : List ℕ) → tab_in cells ms ≡ tab_in cells ns
-same_tab k cells = rw (k.types_kept, k.elements_kept)
+pub same_tab : {n m : Counts} → m ≡ n → (cells : List ℕ) → tab_of cells m ≡ tab_of cells n
+same_tab e cells = ap (tab_of cells) e
 
 module _ {ns ms : Notes} {q : Typed} {code place number a b : ℕ} (f : Settled ns ms q number code place a b) where
   settled_number : {n : ℕ} → (code ≡ 0 → number < n) → code_of q ms ≡ 0 → number_of q < n
@@ -123,9 +121,9 @@ pub settles_settled : {ns ms : Notes} {q : Typed} {n : ℕ} (d : Decision) → (
 settles_settled (decision.«Type» k) c s = record { well = λ z. s.well k refl; ill = λ z. absurd (z refl) }
 settles_settled (decision.Refused w) c s = record { well = λ z. absurd (c w refl z); ill = λ z. s.ill w refl }
 
-pub settles_counts : {ns ms : Notes} {q : Typed} {n : ℕ} (d : Decision) → Settles ns ms q n d → CountsKept ns ms
-settles_counts (decision.«Type» k) s = let e = (s.well k refl).1 in record { types_kept = ap types_in e; elements_kept = ap elements_in e }
-settles_counts (decision.Refused w) s = let f = (s.ill w refl).1 in record { types_kept = f.types_kept; elements_kept = f.elements_kept }
+pub settles_counts : {ns ms : Notes} {q : Typed} {n : ℕ} (d : Decision) → Settles ns ms q n d → ms.counts ≡ ns.counts
+settles_counts (decision.«Type» k) s = ap (λ n. n.counts) (s.well k refl).1
+settles_counts (decision.Refused w) s = (s.ill w refl).1.counts
 
 -- ---- an answer that is known to be well, or a refusal
 

@@ -15,8 +15,8 @@ pub record Lent : Type 0 where
   pub notes : Notes
   pub stack : List ℕ
 
-abbrev pub lent : Rows → Walk → Lent
-lent rows w = record { rows = rows; cells = w.table.now; notes = w.notes; stack = w.stack.now }
+abbrev pub lent : Rows → List ℕ → Walk → Lent
+lent rows cells w = record { rows = rows; cells = cells; notes = w.notes; stack = w.stack }
 
 -- the type table
 abbrev pub table_of : Lent → Tab

@@ -2,6 +2,7 @@
 -- refusal, and where a 25 or 23 points besides; the return type so far and the newest frame.
 use Rattle.std.specs.Prelude.{◌≡◌, List, ℕ}
 use Rattle.types.specs.Table.{Tab, tab}
+use Rattle.types.specs.declared.Counts.{Counts}
 use Rattle.frames.specs.declared.First.{First}
 use Rattle.state.specs.declared.Notes.{Notes}
 
@@ -43,9 +44,12 @@ places n m = record { here = n; since = m }
 abbrev pub places_in : Notes → Places
 places_in ns = places (place_in ns) (since_in ns)
 
--- the table of these cells, by the counts that are noted
+-- the table of these cells, by its counts; and by the counts that are noted
+abbrev pub tab_of : List ℕ → Counts → Tab
+tab_of cells n = tab cells n.types n.elements
+
 abbrev pub tab_in : List ℕ → Notes → Tab
-tab_in cells ns = tab cells (types_in ns) (elements_in ns)
+tab_in cells ns = tab_of cells ns.counts
 
 -- what a function leaves of them: if it refused, there is a code
 pub record Kept (ns ms : Notes) (refused : Type 0) : Type 0 where
@@ -53,22 +57,9 @@ pub record Kept (ns ms : Notes) (refused : Type 0) : Type 0 where
   pub top : top_in ms ≡ top_in ns
   pub coded : refused → code_in ms ≡ 0 → ⊥
 
--- n types and m elements are noted
-pub record Counted (ns ms : Notes) (n m : ℕ) : Type 0 where
-  pub types_are : types_in ms ≡ n
-  pub elements_are : elements_in ms ≡ m
-  pub ret : ret_in ms ≡ ret_in ns
-  pub top : top_in ms ≡ top_in ns
-
--- no type is formed
-pub record CountsKept (ns ms : Notes) : Type 0 where
-  pub types_kept : types_in ms ≡ types_in ns
-  pub elements_kept : elements_in ms ≡ elements_in ns
-
 -- a refusal is noted: its node and numbers
 pub record Refused (ns ms : Notes) (code place a b : ℕ) : Type 0 where
-  pub types_kept : types_in ms ≡ types_in ns
-  pub elements_kept : elements_in ms ≡ elements_in ns
+  pub counts : ms.counts ≡ ns.counts
   pub coded : code_in ms ≡ code
   pub placed : place_in ms ≡ place
   pub first : first_in ms ≡ a

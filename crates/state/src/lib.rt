@@ -1,4 +1,4 @@
-// What the walk carries from node to node: its answers, the notes, and what it is lent and may change.
+// What the walk carries from node to node: its answers, the notes, and the stack of types that wait for a rule.
 #![tactic(auto)]
 
 ghost use Rattle.state.specs.Answer.{Settles};
@@ -71,13 +71,12 @@ impl Notes {
     }
 }
 
-// ---- what the walk is lent and may change, besides the frames: the type table, and the stack of types that wait for
-// their parent's rule, at most one for each node
+// ---- what the walk carries besides: the types of children that wait for their parent's rule, at most one for each node
 
 pub type Stack = [u16; MOST_NODES];
 
-pub struct Walk<'a> {
-    pub table: &'a mut [u16],
+#[derive(Drop)]
+pub struct Walk {
     pub notes: Notes,
-    pub stack: &'a mut Stack,
+    pub stack: Stack,
 }
