@@ -64,11 +64,7 @@ pub fn builtin_of(text: &[u8]) -> Rule
 }
 
 // What becomes of a call of a name: its rule, or 37 or 38 where the count is refused.
-#[derive(Clone, Copy)]
-pub enum Plan {
-    By(Rule),
-    Refused(u32),
-}
+pub type Plan = Result<Rule, u32>;
 
 // "Role, then arity, then the rule of the text": the call of name x with so many arguments.
 pub fn plan_of(image: &[u8], x: usize, count: u32) -> Plan
@@ -77,21 +73,15 @@ pub fn plan_of(image: &[u8], x: usize, count: u32) -> Plan
     ensures { Planned (names_of image.now) x count result }
 {
     let name = name_at(image, x);
-    let role = name.role;
-    match role {
+    match name.role {
         roles::EXACTLY | roles::BETWEEN | roles::ANY => {
-            if admits(name, count) {
-                let layout = areas(image);
-                return Plan::By(builtin_of(name_text(image, layout.texts, x)));
+            if !admits(name, count) {
+                return Err(codes::BUILTIN_ARITY);
             }
-            Plan::Refused(codes::BUILTIN_ARITY)
+            let layout = areas(image);
+            Ok(builtin_of(name_text(image, layout.texts, x)))
         }
-        roles::FUNCTION => {
-            if count == name.p {
-                return Plan::By(Rule::Each(types::UNKNOWN));
-            }
-            Plan::Refused(codes::FUNCTION_ARITY)
-        }
-        _ => Plan::By(Rule::Each(types::UNKNOWN)),
+        roles::FUNCTION if count != name.p => Err(codes::FUNCTION_ARITY),
+        _ => Ok(Rule::Each(types::UNKNOWN)),
     }
 }

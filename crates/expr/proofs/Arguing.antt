@@ -19,11 +19,10 @@ use Rattle.frames.specs.Env.{Rows, frames_of}
 use Rattle.rules.specs.Outcome.{types_named}
 use Rattle.rules.specs.Leaves.{prompt_rule, sized_rule}
 use Rattle.rules.proofs.Calls.{input_one, input_other, len_first}
-use Rattle.calls.specs.Planning.{rule_of, Planned}
+use Rattle.std.specs.Prelude.{Ok, Err}
+use Rattle.calls.specs.Planning.{Plan, rule_of, Planned}
 use Rattle.calls.specs.declared.Rule.{Rule}
 use Rattle.calls.specs.declared.Rule.TheVariants.{Each, First, Input, Len, Range, Map, Filter}
-use Rattle.calls.specs.declared.Plan.{Plan}
-use Rattle.calls.specs.declared.Plan.TheVariants.{By, Refused}
 use Rattle.nodes.specs.Operands.{Judges, Ruled}
 use Rattle.expr.specs.Contract.{Ready, At, Inner, Row, Fine, Done, Values, checks, stream_of}
 use Rattle.expr.proofs.Rows.{row_of, row_at, row_ends, row_next, row_long, ends_after, ends_within, few}
@@ -43,7 +42,7 @@ named_38 = refl
 no_types : (c : ℕ) → 37 ≤ c → c ≤ 38 → types_named c ≡ 0
 no_types c a b = elim (ℕ_discrete c 37) [ yes e ↦ rw e named_37 | no e ↦ let f : c ≡ 38 = omega arith in rw f named_38 ]
 
-pub call_coded : {ws : List Name} {x count code : ℕ} {p : Plan} → Planned ws x count p → p ≡ Refused code → code ≡ 0 → ⊥
+pub call_coded : {ws : List Name} {x count code : ℕ} {p : Plan} → Planned ws x count p → p ≡ Err code → code ≡ 0 → ⊥
 call_coded {code = code} p y z = omega (arith, (p.codes code y).0)
 
 -- ---- the call at node i of a name
@@ -52,7 +51,7 @@ module _ {bs : List ℕ} {nodes : ℕ} {fs : Rows} {top : ℕ} {t : Tab} {st : L
     (r : Ready bs nodes fs top t st sp i (stop_of (nodes_of bs) i)) (o : Inner bs i d node) (k : node.kind ≡ 24)
     (c : callee ≡ node_of (nodes_of bs) (suc i)) (v : callee.kind ≡ 21) where
   pub call_refused : {x count code number : ℕ} {p : Plan} → x ≡ callee.arg → count ≡ node.children - 1 → x < name_count bs
-      → Planned (names_of bs) x count p → p ≡ Refused code
+      → Planned (names_of bs) x count p → p ≡ Err code
       → Done (names_of bs) (check_form (names_of bs) (frames_of t fs top) i (form_at (nodes_of bs) (λ j. expr_at (nodes_of bs) d j) i)) t t st st sp i
       (stop_of (nodes_of bs) i) (node_count bs) code i number x count
   call_refused {x} {count} {code} e m h p y =
@@ -93,7 +92,7 @@ module _ {bs : List ℕ} {nodes : ℕ} {fs : Rows} {top : ℕ} {t : Tab} {st : L
     pub call_row : Row bs from n d
     call_row = rw (stops, m) (row_next r.sound node.children (call_some r.sound o k) (row_of r.sound o))
 
-    pub call_done : {x count : ℕ} {p : Plan} {rule : Rule} {u : Tab} {su : List ℕ} {code' place number a b : ℕ} → x ≡ callee.arg → count ≡ n → Planned (names_of bs) x count p → p ≡ By rule
+    pub call_done : {x count : ℕ} {p : Plan} {rule : Rule} {u : Tab} {su : List ℕ} {code' place number a b : ℕ} → x ≡ callee.arg → count ≡ n → Planned (names_of bs) x count p → p ≡ Ok rule
         → Done (names_of bs) (rule_of rule i (checks bs (frames_of t fs top) d n from)) t u st su sp (from - 1) (past (nodes_of bs) n from) (node_count bs) code' place number a b
         → Done (names_of bs) (check_form (names_of bs) (frames_of t fs top) i (form_at (nodes_of bs) (λ j. expr_at (nodes_of bs) d j) i)) t u st su sp i
         (stop_of (nodes_of bs) i) (node_count bs) code' place number a b

@@ -8,18 +8,16 @@ ghost use Rattle.meaning.specs.Types.{plain};
 ghost use Rattle.meaning.specs.Rules.{each_then, first_then, input_rule, len_rule, range_rule};
 ghost use Rattle.calls.specs.Planning.{rule_of, Enough};
 ghost use Rattle.state.specs.Lent.{lent};
-ghost use Rattle.expr.specs.Contract.{stream_of};
+ghost use Rattle.expr.specs.Contract.{first_code, stream_of};
 ghost use Rattle.expr.specs.Clauses.{Any, Checkable, OfKind, Ruled, InRow, Called};
 ghost use Rattle.expr.specs.Clauses.{Checks, ChecksForm, ChecksAll, Calls};
 
-use calls::{Plan, Rule, plan_of};
+use calls::{Rule, plan_of};
 use frames::{Frames, lookup};
 use image::{Cursor, kinds};
-use nodes::{
-    applied, bounded, decide, dict_of, list_of, literal, operated, prompted, sized, streamed,
-};
-use rules::{dict_step, list_step};
-use state::{Notes, Outcome, Stack, Typed, push, refuse};
+use nodes::{decide, dict_of, list_of, literal, streamed};
+use rules::{Pair, bound, callable, codes, dict_step, list_step, prompt};
+use state::{Outcome, Typed, Walk};
 use types;
 
 // A call of a name: its node, the cursor at its first argument, and how many there are.
@@ -38,34 +36,29 @@ pub fn tc_expr(
     frames: &Frames,
     top: usize,
     table: &mut [u16],
-    notes: &mut Notes,
-    stack: &mut Stack,
+    w: &mut Walk,
     sp: usize,
     depth: usize,
 ) -> Typed
     requires { Checkable image.now here top sp depth
-        (lent frames.now table.old notes.old stack.old) }
+        (lent frames.now table.old w.old) }
     ensures { Checks image.now here top sp depth result
-        (lent frames.now table.old notes.old stack.old)
-        (lent frames.now table.new notes.new stack.new) }
+        (lent frames.now table.old w.old)
+        (lent frames.now table.new w.new) }
 {
     let read = here.next(image);
     let node = read.node;
-    let kind = node.kind;
-    match kind {
-        kinds::LITERAL => Typed::Ok(literal(node.arg)),
-        kinds::VARIABLE => {
-            let known = lookup(frames, top, node.arg as usize);
-            Typed::Ok(known.ty)
-        }
-        kinds::BINARY => binary(image, here, frames, top, table, notes, stack, sp, depth - 1),
-        kinds::CALL => call(image, here, frames, top, table, notes, stack, sp, depth - 1),
-        kinds::LIST => list(image, here, frames, top, table, notes, stack, sp, depth - 1),
-        kinds::DICT => dict(image, here, frames, top, table, notes, stack, sp, depth - 1),
+    match node.kind {
+        kinds::LITERAL => Ok(literal(node.arg)),
+        kinds::VARIABLE => Ok(lookup(frames, top, node.arg as usize).ty),
+        kinds::BINARY => binary(image, here, frames, top, table, w, sp, depth - 1),
+        kinds::CALL => call(image, here, frames, top, table, w, sp, depth - 1),
+        kinds::LIST => list(image, here, frames, top, table, w, sp, depth - 1),
+        kinds::DICT => dict(image, here, frames, top, table, w, sp, depth - 1),
         kinds::UNARY | kinds::ATTRIBUTE | kinds::TUPLE..=kinds::INDEX => {
-            operands(image, here, frames, top, table, notes, stack, sp, depth - 1)
+            operands(image, here, frames, top, table, w, sp, depth - 1)
         }
-        _ => Typed::Ok(types::FUNCTION),
+        _ => Ok(types::FUNCTION),
     }
 }
 
@@ -77,27 +70,23 @@ fn child(
     frames: &Frames,
     top: usize,
     table: &mut [u16],
-    notes: &mut Notes,
-    stack: &mut Stack,
+    w: &mut Walk,
     sp: usize,
     depth: usize,
 ) -> Typed
     requires { Checkable image.now here top sp depth
-        (lent frames.now table.old notes.old stack.old) }
+        (lent frames.now table.old w.old) }
     ensures { Checks image.now here top sp depth result
-        (lent frames.now table.old notes.old stack.old)
-        (lent frames.now table.new notes.new stack.new) }
+        (lent frames.now table.old w.old)
+        (lent frames.now table.new w.new) }
 {
     let read = here.next(image);
     let node = read.node;
-    if node.kind == kinds::LITERAL {
-        return Typed::Ok(literal(node.arg));
+    match node.kind {
+        kinds::LITERAL => Ok(literal(node.arg)),
+        kinds::VARIABLE => Ok(lookup(frames, top, node.arg as usize).ty),
+        _ => tc_expr(image, here, frames, top, table, w, sp, depth),
     }
-    if node.kind == kinds::VARIABLE {
-        let known = lookup(frames, top, node.arg as usize);
-        return Typed::Ok(known.ty);
-    }
-    tc_expr(image, here, frames, top, table, notes, stack, sp, depth)
 }
 
 // n expressions from the cursor on, their types on the stack from sp on.
@@ -108,33 +97,24 @@ fn values(
     frames: &Frames,
     top: usize,
     table: &mut [u16],
-    notes: &mut Notes,
-    stack: &mut Stack,
+    w: &mut Walk,
     sp: usize,
     depth: usize,
     n: usize,
 ) -> Outcome
     requires { InRow image.now from top sp n depth
-        (lent frames.now table.old notes.old stack.old) }
+        (lent frames.now table.old w.old) }
     ensures { ChecksAll image.now from top sp n depth result
-        (lent frames.now table.old notes.old stack.old)
-        (lent frames.now table.new notes.new stack.new) }
+        (lent frames.now table.old w.old)
+        (lent frames.now table.new w.new) }
 {
     let mut next = from;
-    let mut left = n;
-    let mut up = sp;
-    while 0 < left {
-        let r = child(image, next, frames, top, table, notes, stack, up, depth);
-        let Typed::Ok(ty) = r else {
-            return Outcome::Err;
-        };
-        push(stack, up, ty);
-        up += 1;
-        let passed = next.over(image);
-        next = passed.cursor;
-        left -= 1;
+    for i in 0..n {
+        let ty = child(image, next, frames, top, table, w, sp + i, depth)?;
+        w.stack[sp + i] = ty as u16;
+        next = next.over(image).cursor;
     }
-    Outcome::Ok
+    Ok(())
 }
 
 // A node whose children are all checked before its rule looks at them.
@@ -145,26 +125,21 @@ fn operands(
     frames: &Frames,
     top: usize,
     table: &mut [u16],
-    notes: &mut Notes,
-    stack: &mut Stack,
+    w: &mut Walk,
     sp: usize,
     depth: usize,
 ) -> Typed
     requires { Ruled image.now here top sp depth
-        (lent frames.now table.old notes.old stack.old) }
+        (lent frames.now table.old w.old) }
     ensures { ChecksForm image.now here top sp depth result
-        (lent frames.now table.old notes.old stack.old)
-        (lent frames.now table.new notes.new stack.new) }
+        (lent frames.now table.old w.old)
+        (lent frames.now table.new w.new) }
 {
     let read = here.next(image);
-    let node = read.node;
     let first = read.cursor;
-    let n = node.children as usize;
-    let r = values(image, first, frames, top, table, notes, stack, sp, depth, n);
-    let Outcome::Ok = r else {
-        return Typed::Err;
-    };
-    decide(image, here, table, notes, stack, sp)
+    let n = read.node.children as usize;
+    values(image, first, frames, top, table, w, sp, depth, n)?;
+    decide(image, here, table, &mut w.notes, &w.stack, sp)
 }
 
 // A Binary: its operands, and then its rule.
@@ -175,31 +150,24 @@ fn binary(
     frames: &Frames,
     top: usize,
     table: &mut [u16],
-    notes: &mut Notes,
-    stack: &mut Stack,
+    w: &mut Walk,
     sp: usize,
     depth: usize,
 ) -> Typed
     requires { OfKind 23 image.now here top sp depth
-        (lent frames.now table.old notes.old stack.old) }
+        (lent frames.now table.old w.old) }
     ensures { ChecksForm image.now here top sp depth result
-        (lent frames.now table.old notes.old stack.old)
-        (lent frames.now table.new notes.new stack.new) }
+        (lent frames.now table.old w.old)
+        (lent frames.now table.new w.new) }
 {
     let read = here.next(image);
     let node = read.node;
     let left = read.cursor;
-    let l = child(image, left, frames, top, table, notes, stack, sp, depth);
-    let Typed::Ok(a) = l else {
-        return l;
-    };
-    let passed = left.over(image);
-    let right = passed.cursor;
-    let r = child(image, right, frames, top, table, notes, stack, sp, depth);
-    let Typed::Ok(b) = r else {
-        return r;
-    };
-    operated(table, notes, a, b, here.at, node.arg)
+    let a = child(image, left, frames, top, table, w, sp, depth)?;
+    let right = left.over(image).cursor;
+    let b = child(image, right, frames, top, table, w, sp, depth)?;
+    w.notes
+        .settle(rules::binary(table, node.arg, a, b), here.at)
 }
 
 // A List: "List stops at the first mismatch".
@@ -210,37 +178,28 @@ fn list(
     frames: &Frames,
     top: usize,
     table: &mut [u16],
-    notes: &mut Notes,
-    stack: &mut Stack,
+    w: &mut Walk,
     sp: usize,
     depth: usize,
 ) -> Typed
     requires { OfKind 26 image.now here top sp depth
-        (lent frames.now table.old notes.old stack.old) }
+        (lent frames.now table.old w.old) }
     ensures { ChecksForm image.now here top sp depth result
-        (lent frames.now table.old notes.old stack.old)
-        (lent frames.now table.new notes.new stack.new) }
+        (lent frames.now table.old w.old)
+        (lent frames.now table.new w.new) }
 {
     let read = here.next(image);
-    let node = read.node;
     let mut next = read.cursor;
-    let mut left = node.children as usize;
     let mut element = types::UNKNOWN;
-    while 0 < left {
-        let r = child(image, next, frames, top, table, notes, stack, sp, depth);
-        let Typed::Ok(ty) = r else {
-            return r;
+    for _ in 0..read.node.children {
+        let ty = child(image, next, frames, top, table, w, sp, depth)?;
+        let Some(joined) = list_step(element, ty) else {
+            return Ok(list_of(table, &mut w.notes.counts, types::UNKNOWN));
         };
-        let step = list_step(element, ty);
-        element = step.number;
-        if step.stop {
-            return Typed::Ok(list_of(table, notes, element));
-        }
-        let passed = next.over(image);
-        next = passed.cursor;
-        left -= 1;
+        element = joined;
+        next = next.over(image).cursor;
     }
-    Typed::Ok(list_of(table, notes, element))
+    Ok(list_of(table, &mut w.notes.counts, element))
 }
 
 // A Dict: "Dict stops only when key and value are both Unknown after a pair".
@@ -251,45 +210,33 @@ fn dict(
     frames: &Frames,
     top: usize,
     table: &mut [u16],
-    notes: &mut Notes,
-    stack: &mut Stack,
+    w: &mut Walk,
     sp: usize,
     depth: usize,
 ) -> Typed
     requires { OfKind 27 image.now here top sp depth
-        (lent frames.now table.old notes.old stack.old) }
+        (lent frames.now table.old w.old) }
     ensures { ChecksForm image.now here top sp depth result
-        (lent frames.now table.old notes.old stack.old)
-        (lent frames.now table.new notes.new stack.new) }
+        (lent frames.now table.old w.old)
+        (lent frames.now table.new w.new) }
 {
     let read = here.next(image);
-    let node = read.node;
     let mut next = read.cursor;
-    let mut left = node.children as usize;
-    let mut key = types::UNKNOWN;
-    let mut value = types::UNKNOWN;
-    while 1 < left {
-        let k = child(image, next, frames, top, table, notes, stack, sp, depth);
-        let Typed::Ok(a) = k else {
-            return k;
+    let mut so_far = Pair {
+        key: types::UNKNOWN,
+        value: types::UNKNOWN,
+    };
+    for _ in 0..read.node.children / 2 {
+        let key = child(image, next, frames, top, table, w, sp, depth)?;
+        let second = next.over(image).cursor;
+        let value = child(image, second, frames, top, table, w, sp, depth)?;
+        let Some(joined) = dict_step(so_far, Pair { key, value }) else {
+            return Ok(dict_of(table, &mut w.notes.counts, types::UNKNOWN, types::UNKNOWN));
         };
-        let passed = next.over(image);
-        let second = passed.cursor;
-        let v = child(image, second, frames, top, table, notes, stack, sp, depth);
-        let Typed::Ok(b) = v else {
-            return v;
-        };
-        let pair = dict_step(key, value, a, b);
-        key = pair.key;
-        value = pair.value;
-        if pair.stop {
-            return Typed::Ok(dict_of(table, notes, key, value));
-        }
-        let after = second.over(image);
-        next = after.cursor;
-        left -= 2;
+        so_far = joined;
+        next = second.over(image).cursor;
     }
-    Typed::Ok(dict_of(table, notes, key, value))
+    Ok(dict_of(table, &mut w.notes.counts, so_far.key, so_far.value))
 }
 
 // ---- calls
@@ -302,16 +249,15 @@ fn call(
     frames: &Frames,
     top: usize,
     table: &mut [u16],
-    notes: &mut Notes,
-    stack: &mut Stack,
+    w: &mut Walk,
     sp: usize,
     depth: usize,
 ) -> Typed
     requires { OfKind 24 image.now here top sp depth
-        (lent frames.now table.old notes.old stack.old) }
+        (lent frames.now table.old w.old) }
     ensures { ChecksForm image.now here top sp depth result
-        (lent frames.now table.old notes.old stack.old)
-        (lent frames.now table.new notes.new stack.new) }
+        (lent frames.now table.old w.old)
+        (lent frames.now table.new w.new) }
 {
     let read = here.next(image);
     let node = read.node;
@@ -319,27 +265,18 @@ fn call(
     let passed = callee.over(image);
     let function = passed.node;
     if function.kind != kinds::VARIABLE {
-        return operands(image, here, frames, top, table, notes, stack, sp, depth);
+        return operands(image, here, frames, top, table, w, sp, depth);
     }
     let name = function.arg as usize;
     let count = node.children - 1;
-    let planned = plan_of(image, name, count);
-    let first = passed.cursor;
-    match planned {
-        Plan::By(rule) => {
-            let call = NameCall {
-                at: here.at,
-                first,
-                count: count as usize,
-            };
-            arguments(
-                image, call, frames, top, table, notes, stack, sp, depth, rule,
-            )
-        }
-        Plan::Refused(code) => {
-            refuse(notes, code, here.at, name, count as usize);
-            Typed::Err
-        }
+    let call = NameCall {
+        at: here.at,
+        first: passed.cursor,
+        count: count as usize,
+    };
+    match plan_of(image, name, count) {
+        Ok(rule) => arguments(image, call, frames, top, table, w, sp, depth, rule),
+        Err(code) => Err(w.notes.refuse(code, here.at, name, call.count)),
     }
 }
 
@@ -351,30 +288,25 @@ fn arguments(
     frames: &Frames,
     top: usize,
     table: &mut [u16],
-    notes: &mut Notes,
-    stack: &mut Stack,
+    w: &mut Walk,
     sp: usize,
     depth: usize,
     rule: Rule,
 ) -> Typed
     requires { Called image.now call top sp depth (Enough rule call.count)
-        (lent frames.now table.old notes.old stack.old) }
+        (lent frames.now table.old w.old) }
     ensures { Calls (rule_of rule call.at) image.now call top sp depth result
-        (lent frames.now table.old notes.old stack.old)
-        (lent frames.now table.new notes.new stack.new) }
+        (lent frames.now table.old w.old)
+        (lent frames.now table.new w.new) }
 {
     match rule {
-        Rule::Each(ty) => each_then(image, call, frames, top, table, notes, stack, sp, depth, ty),
-        Rule::First(ty) => first_then(image, call, frames, top, table, notes, stack, sp, depth, ty),
-        Rule::Input => input(image, call, frames, top, table, notes, stack, sp, depth),
-        Rule::Len => len(image, call, frames, top, table, notes, stack, sp, depth),
-        Rule::Range => range(image, call, frames, top, table, notes, stack, sp, depth),
-        Rule::Map => stream(
-            image, call, frames, top, table, notes, stack, sp, depth, false,
-        ),
-        Rule::Filter => stream(
-            image, call, frames, top, table, notes, stack, sp, depth, true,
-        ),
+        Rule::Each(ty) => each_then(image, call, frames, top, table, w, sp, depth, ty),
+        Rule::First(ty) => first_then(image, call, frames, top, table, w, sp, depth, ty),
+        Rule::Input => input(image, call, frames, top, table, w, sp, depth),
+        Rule::Len => len(image, call, frames, top, table, w, sp, depth),
+        Rule::Range => range(image, call, frames, top, table, w, sp, depth),
+        Rule::Map => stream(image, call, frames, top, table, w, sp, depth, false),
+        Rule::Filter => stream(image, call, frames, top, table, w, sp, depth, true),
     }
 }
 
@@ -386,26 +318,21 @@ fn each_then(
     frames: &Frames,
     top: usize,
     table: &mut [u16],
-    notes: &mut Notes,
-    stack: &mut Stack,
+    w: &mut Walk,
     sp: usize,
     depth: usize,
     ty: usize,
 ) -> Typed
     requires { Called image.now call top sp depth (ty < 8)
-        (lent frames.now table.old notes.old stack.old) }
+        (lent frames.now table.old w.old) }
     ensures { Calls (each_then (plain ty)) image.now call top sp depth result
-        (lent frames.now table.old notes.old stack.old)
-        (lent frames.now table.new notes.new stack.new) }
+        (lent frames.now table.old w.old)
+        (lent frames.now table.new w.new) }
 {
-    let first = call.first;
-    let r = values(
-        image, first, frames, top, table, notes, stack, sp, depth, call.count,
-    );
-    let Outcome::Ok = r else {
-        return Typed::Err;
-    };
-    Typed::Ok(ty)
+    values(
+        image, call.first, frames, top, table, w, sp, depth, call.count,
+    )?;
+    Ok(ty)
 }
 
 // The first argument is checked, and the type is `ty`.
@@ -416,24 +343,19 @@ fn first_then(
     frames: &Frames,
     top: usize,
     table: &mut [u16],
-    notes: &mut Notes,
-    stack: &mut Stack,
+    w: &mut Walk,
     sp: usize,
     depth: usize,
     ty: usize,
 ) -> Typed
     requires { Called image.now call top sp depth ((ty < 8) × (0 < call.count))
-        (lent frames.now table.old notes.old stack.old) }
+        (lent frames.now table.old w.old) }
     ensures { Calls (first_then (plain ty)) image.now call top sp depth result
-        (lent frames.now table.old notes.old stack.old)
-        (lent frames.now table.new notes.new stack.new) }
+        (lent frames.now table.old w.old)
+        (lent frames.now table.new w.new) }
 {
-    let first = call.first;
-    let r = child(image, first, frames, top, table, notes, stack, sp, depth);
-    let Typed::Ok(_) = r else {
-        return r;
-    };
-    Typed::Ok(ty)
+    child(image, call.first, frames, top, table, w, sp, depth)?;
+    Ok(ty)
 }
 
 // `input`, whose prompt is a String if there is one.
@@ -444,26 +366,21 @@ fn input(
     frames: &Frames,
     top: usize,
     table: &mut [u16],
-    notes: &mut Notes,
-    stack: &mut Stack,
+    w: &mut Walk,
     sp: usize,
     depth: usize,
 ) -> Typed
     requires { Called image.now call top sp depth Any
-        (lent frames.now table.old notes.old stack.old) }
+        (lent frames.now table.old w.old) }
     ensures { Calls (input_rule call.at) image.now call top sp depth result
-        (lent frames.now table.old notes.old stack.old)
-        (lent frames.now table.new notes.new stack.new) }
+        (lent frames.now table.old w.old)
+        (lent frames.now table.new w.new) }
 {
     if call.count != 1 {
-        return Typed::Ok(types::STRING);
+        return Ok(types::STRING);
     }
-    let first = call.first;
-    let r = child(image, first, frames, top, table, notes, stack, sp, depth);
-    let Typed::Ok(ty) = r else {
-        return r;
-    };
-    prompted(notes, ty, call.at)
+    let ty = child(image, call.first, frames, top, table, w, sp, depth)?;
+    w.notes.settle(prompt(ty), call.at)
 }
 
 // `len`.
@@ -474,23 +391,18 @@ fn len(
     frames: &Frames,
     top: usize,
     table: &mut [u16],
-    notes: &mut Notes,
-    stack: &mut Stack,
+    w: &mut Walk,
     sp: usize,
     depth: usize,
 ) -> Typed
     requires { Called image.now call top sp depth (0 < call.count)
-        (lent frames.now table.old notes.old stack.old) }
+        (lent frames.now table.old w.old) }
     ensures { Calls (len_rule call.at) image.now call top sp depth result
-        (lent frames.now table.old notes.old stack.old)
-        (lent frames.now table.new notes.new stack.new) }
+        (lent frames.now table.old w.old)
+        (lent frames.now table.new w.new) }
 {
-    let first = call.first;
-    let r = child(image, first, frames, top, table, notes, stack, sp, depth);
-    let Typed::Ok(ty) = r else {
-        return r;
-    };
-    sized(table, notes, ty, call.at)
+    let ty = child(image, call.first, frames, top, table, w, sp, depth)?;
+    w.notes.settle(rules::len(table, ty), call.at)
 }
 
 // `range`: a wrong argument ends it before the next is looked at.
@@ -501,33 +413,35 @@ fn range(
     frames: &Frames,
     top: usize,
     table: &mut [u16],
-    notes: &mut Notes,
-    stack: &mut Stack,
+    w: &mut Walk,
     sp: usize,
     depth: usize,
 ) -> Typed
     requires { Called image.now call top sp depth Any
-        (lent frames.now table.old notes.old stack.old) }
+        (lent frames.now table.old w.old) }
     ensures { Calls (range_rule call.at) image.now call top sp depth result
-        (lent frames.now table.old notes.old stack.old)
-        (lent frames.now table.new notes.new stack.new) }
+        (lent frames.now table.old w.old)
+        (lent frames.now table.new w.new) }
 {
     let mut next = call.first;
-    let mut left = call.count;
-    while 0 < left {
-        let r = child(image, next, frames, top, table, notes, stack, sp, depth);
-        let Typed::Ok(ty) = r else {
-            return r;
-        };
-        let judged = bounded(notes, ty, call.at);
-        let Typed::Ok(_) = judged else {
-            return judged;
-        };
-        let passed = next.over(image);
-        next = passed.cursor;
-        left -= 1;
+    for _ in 0..call.count {
+        let ty = child(image, next, frames, top, table, w, sp, depth)?;
+        w.notes.settle(bound(ty), call.at)?;
+        next = next.over(image).cursor;
     }
-    Typed::Ok(types::RANGE)
+    Ok(types::RANGE)
+}
+
+// The code that refuses the first argument: 42 for `map`, 44 for `filter`.
+#[tactic(auto, unfolding(crate::specs::Contract::first_code))]
+fn first_code(filters: bool) -> u32
+    ensures { result ≡ first_code filters }
+{
+    if filters {
+        codes::FILTER_FIRST
+    } else {
+        codes::MAP_FIRST
+    }
 }
 
 // `map` and `filter`: the first argument is judged before the second is looked at.
@@ -538,32 +452,22 @@ fn stream(
     frames: &Frames,
     top: usize,
     table: &mut [u16],
-    notes: &mut Notes,
-    stack: &mut Stack,
+    w: &mut Walk,
     sp: usize,
     depth: usize,
     filters: bool,
 ) -> Typed
     requires { Called image.now call top sp depth (1 < call.count)
-        (lent frames.now table.old notes.old stack.old) }
+        (lent frames.now table.old w.old) }
     ensures { Calls (stream_of filters) image.now call top sp depth result
-        (lent frames.now table.old notes.old stack.old)
-        (lent frames.now table.new notes.new stack.new) }
+        (lent frames.now table.old w.old)
+        (lent frames.now table.new w.new) }
 {
     let first = call.first;
-    let f = child(image, first, frames, top, table, notes, stack, sp, depth);
-    let Typed::Ok(function) = f else {
-        return f;
-    };
-    let judged = applied(notes, filters, function, first.at);
-    let Typed::Ok(_) = judged else {
-        return judged;
-    };
-    let passed = first.over(image);
-    let second = passed.cursor;
-    let s = child(image, second, frames, top, table, notes, stack, sp, depth);
-    let Typed::Ok(iterable) = s else {
-        return s;
-    };
-    streamed(table, notes, filters, iterable, second.at)
+    let function = child(image, first, frames, top, table, w, sp, depth)?;
+    let judged = callable(function, first_code(filters));
+    w.notes.settle(judged, first.at)?;
+    let second = first.over(image).cursor;
+    let iterable = child(image, second, frames, top, table, w, sp, depth)?;
+    streamed(table, &mut w.notes, filters, iterable, second.at)
 }

@@ -16,8 +16,7 @@ use Rattle.meaning.specs.Decode.{unary_of, binary_of, stop_of}
 use Rattle.meaning.specs.Operators.{Checked, ok, unary_rule, binary_rule}
 use Rattle.meaning.specs.Rules.{index_rule}
 use Rattle.types.specs.Table.{Tab, Wf, denote, Made}
-use Rattle.rules.specs.Outcome.{Decides, decision_code, decision_number, decision_first, decision_second}
-use Rattle.rules.specs.declared.Decision.{Decision}
+use Rattle.rules.specs.Outcome.{Decision, Decides, decision_code, decision_number, decision_first, decision_second}
 use Rattle.types.specs.Reading.{Known}
 use Rattle.rules.specs.Leaves.{OfOne, OfTwo, OfNumber, Indexed, index_place, second_rule, Streams}
 use Rattle.rules.proofs.Outcomes.{known, was_ok}

@@ -77,7 +77,7 @@ fn index_place(decision: Decision, object: usize, index: usize) -> usize
     ensures { result ≡ index_place (decision_code decision) object index }
 {
     match decision {
-        Decision::Refused(why) if why.code == codes::NOT_SUBSCRIPTABLE => object,
+        Err(why) if why.code == codes::NOT_SUBSCRIPTABLE => object,
         _ => index,
     }
 }

@@ -9,10 +9,8 @@ use Rattle.meaning.specs.Image.{Name}
 use Rattle.meaning.specs.Operators.{Checked, ok}
 use Rattle.types.specs.Table.{Tab, denote}
 use Rattle.types.specs.declared.Counts.{Counts}
-use Rattle.rules.specs.Outcome.{decision_code, decision_number, decision_first, decision_second}
+use Rattle.rules.specs.Outcome.{Decision, decision_code, decision_number, decision_first, decision_second}
 use Rattle.rules.specs.declared.Reason.{Reason}
-use Rattle.rules.specs.declared.Decision.{Decision}
-use Rattle.rules.specs.declared.Decision.TheVariants as decision
 use Rattle.rules.proofs.Outcomes.{names_none}
 use Rattle.state.specs.declared.Noted.{Noted}
 use Rattle.state.specs.declared.Notes.{Notes}
@@ -27,6 +25,11 @@ code_well ms e = rw e
 
 pub code_ill : {T : Type 0} {ns ms : Notes} {r : Result T Noted} {e : Noted} → Kept ns ms (IsErr r) → r ≡ Err e → code_of r ms ≡ 0 → ⊥
 code_ill k e z = k.coded (rw e) (rw e at z)
+
+-- what an Err is: the exit of a `?` returns one
+pub is_noted : {T : Type 0} (r : Result T Noted) → IsErr r → r ≡ Err noted
+is_noted (Ok v) e = cc
+is_noted (Err x) e = refl
 
 -- ---- what is left of the notes
 
@@ -116,14 +119,14 @@ module _ {ns ms : Notes} {q : Typed} {code place number a b : ℕ} (f : Settled 
       }
 
 -- a rule's decision, whose refusals have codes
-pub settles_settled : {ns ms : Notes} {q : Typed} {n : ℕ} (d : Decision) → ((w : Reason) → d ≡ decision.Refused w → w.code ≡ 0 → ⊥) → Settles ns ms q n d
+pub settles_settled : {ns ms : Notes} {q : Typed} {n : ℕ} (d : Decision) → ((w : Reason) → d ≡ Err w → w.code ≡ 0 → ⊥) → Settles ns ms q n d
     → Settled ns ms q (decision_number d) (decision_code d) n (decision_first d) (decision_second d)
-settles_settled (decision.«Type» k) c s = record { well = λ z. s.well k refl; ill = λ z. absurd (z refl) }
-settles_settled (decision.Refused w) c s = record { well = λ z. absurd (c w refl z); ill = λ z. s.ill w refl }
+settles_settled (Ok k) c s = record { well = λ z. s.well k refl; ill = λ z. absurd (z refl) }
+settles_settled (Err w) c s = record { well = λ z. absurd (c w refl z); ill = λ z. s.ill w refl }
 
 pub settles_counts : {ns ms : Notes} {q : Typed} {n : ℕ} (d : Decision) → Settles ns ms q n d → ms.counts ≡ ns.counts
-settles_counts (decision.«Type» k) s = ap (λ n. n.counts) (s.well k refl).1
-settles_counts (decision.Refused w) s = (s.ill w refl).1.counts
+settles_counts (Ok k) s = ap (λ n. n.counts) (s.well k refl).1
+settles_counts (Err w) s = (s.ill w refl).1.counts
 
 -- ---- an answer that is known to be well, or a refusal
 

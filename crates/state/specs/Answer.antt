@@ -1,8 +1,7 @@
 -- The walk's answers in the scope's numbers, and what they say of the notes.
 use Rattle.std.specs.Prelude.{◌≡◌, ℕ, Result, Ok, Err}
 use Rattle.rules.specs.declared.Reason.{Reason}
-use Rattle.rules.specs.declared.Decision.{Decision}
-use Rattle.rules.specs.declared.Decision.TheVariants as decision
+use Rattle.rules.specs.Outcome.{Decision}
 use Rattle.state.specs.Notes.{code_in, Refused}
 use Rattle.state.specs.declared.Noted.{Noted}
 use Rattle.state.specs.declared.Notes.{Notes}
@@ -36,5 +35,5 @@ pub record Settled {T : Type 0} (ns ms : Notes) (r : Result T Noted) (good : T) 
 
 -- a rule's decision d, at node n, is the answer r
 pub record Settles (ns ms : Notes) (r : Typed) (n : ℕ) (d : Decision) : Type 0 where
-  pub well : (k : ℕ) → d ≡ decision.«Type» k → (r ≡ Ok k) × (ms ≡ ns)
-  pub ill : (w : Reason) → d ≡ decision.Refused w → (r ≡ Err noted) × Refused ns ms w.code n w.a w.b
+  pub well : (k : ℕ) → d ≡ Ok k → (r ≡ Ok k) × (ms ≡ ns)
+  pub ill : (w : Reason) → d ≡ Err w → (r ≡ Err noted) × Refused ns ms w.code n w.a w.b

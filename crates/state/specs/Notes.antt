@@ -3,7 +3,7 @@
 use Rattle.std.specs.Prelude.{◌≡◌, List, ℕ}
 use Rattle.types.specs.Table.{Tab, tab}
 use Rattle.types.specs.declared.Counts.{Counts}
-use Rattle.frames.specs.declared.First.{First}
+use Rattle.frames.specs.Env.{First}
 use Rattle.state.specs.declared.Notes.{Notes}
 
 abbrev pub types_in : Notes → ℕ

@@ -65,8 +65,8 @@ impl Notes {
         ensures { Settles self.old self.new result place decision }
     {
         match decision {
-            Decision::Type(number) => Ok(number),
-            Decision::Refused(why) => Err(self.refuse(why.code, place, why.a, why.b)),
+            Ok(number) => Ok(number),
+            Err(why) => Err(self.refuse(why.code, place, why.a, why.b)),
         }
     }
 }

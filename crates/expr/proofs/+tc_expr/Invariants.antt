@@ -2,10 +2,10 @@ use Rattle.expr.proofs.Bounding.{Bounding}
 use Rattle.expr.proofs.Listing.{Listing}
 use Rattle.expr.proofs.Pairing.{Pairing}
 use Rattle.expr.proofs.Valuing.{Valuing}
-use Rattle.meaning.specs.Image.{nodes_from}
+use Rattle.meaning.specs.Image.{nodes_from, nodes_of, node_of}
 use Rattle.state.specs.Notes.{tab_in, Kept}
 use mathlib.Core.Path.{◌≡◌}
-use Prim.Native.Nat.{◌+◌, ◌*◌}
+use Prim.Native.Nat.{◌+◌, ◌-◌, ◌*◌}
 use Rattle.expr.proofs.+tc_expr.Given as goal
 
 abbrev pub decreases-arguments : goal.decreases-arguments
@@ -53,26 +53,31 @@ decreases-tc_expr l = 6 * l.depth
 abbrev pub decreases-values : goal.decreases-values
 decreases-values l = 6 * l.depth + 2
 
-abbrev pub invariant-dict-loop-left : goal.invariant-dict-loop-left
-invariant-dict-loop-left l = (Pairing l.image l.initial.next.nodes l.frames l.top (tab_in l.initial.table l.initial.notes) l.initial.stack l.sp l.initial.next.at l.initial.left l.depth (tab_in l.table l.notes) l.stack l.next.at l.left l.key l.value) × Kept l.initial.notes l.notes ⊥ × (l.next.nodes ≡ nodes_from l.image)
+abbrev pub invariant-values-loop-i : goal.invariant-values-loop-i
+invariant-values-loop-i l =
+    Valuing l.image l.initial.next.nodes l.frames l.top (tab_in l.initial.table l.initial.w.notes) l.initial.w.stack l.sp l.initial.next.at l.n l.depth
+    (tab_in l.table l.w.notes) l.w.stack l.next.at (l.n - l.i) (l.sp + l.i)
+    × Kept l.initial.w.notes l.w.notes ⊥
+    × (l.next.nodes ≡ nodes_from l.image)
 
-abbrev pub decreases-dict-loop-left : goal.decreases-dict-loop-left
-decreases-dict-loop-left l = l.left
+abbrev pub invariant-list-loop : goal.invariant-list-loop
+invariant-list-loop l =
+    Listing l.image l.initial.next.nodes l.frames l.top (tab_in l.initial.table l.initial.w.notes) l.initial.w.stack l.sp l.initial.next.at l.end l.depth
+    (tab_in l.table l.w.notes) l.w.stack l.next.at (l.end - l.counter) l.element
+    × Kept l.initial.w.notes l.w.notes ⊥
+    × (l.next.nodes ≡ nodes_from l.image)
 
-abbrev pub invariant-list-loop-left : goal.invariant-list-loop-left
-invariant-list-loop-left l = (Listing l.image l.initial.next.nodes l.frames l.top (tab_in l.initial.table l.initial.notes) l.initial.stack l.sp l.initial.next.at l.initial.left l.depth (tab_in l.table l.notes) l.stack l.next.at l.left l.element) × Kept l.initial.notes l.notes ⊥ × (l.next.nodes ≡ nodes_from l.image)
+abbrev pub invariant-dict-loop : goal.invariant-dict-loop
+invariant-dict-loop l =
+    let n = (node_of (nodes_of l.image) l.fn.here.at).children in
+    Pairing l.image l.initial.next.nodes l.frames l.top (tab_in l.initial.table l.initial.w.notes) l.initial.w.stack l.sp l.initial.next.at n l.depth
+    (tab_in l.table l.w.notes) l.w.stack l.next.at (n - 2 * l.counter) l.so_far
+    × Kept l.initial.w.notes l.w.notes ⊥
+    × (l.next.nodes ≡ nodes_from l.image)
 
-abbrev pub decreases-list-loop-left : goal.decreases-list-loop-left
-decreases-list-loop-left l = l.left
-
-abbrev pub invariant-range-loop-left : goal.invariant-range-loop-left
-invariant-range-loop-left l = (Bounding l.image l.initial.next.nodes l.frames l.top (tab_in l.initial.table l.initial.notes) l.initial.stack l.sp l.call.at l.initial.next.at l.initial.left l.depth (tab_in l.table l.notes) l.stack l.next.at l.left) × Kept l.initial.notes l.notes ⊥ × (l.next.nodes ≡ nodes_from l.image)
-
-abbrev pub decreases-range-loop-left : goal.decreases-range-loop-left
-decreases-range-loop-left l = l.left
-
-abbrev pub invariant-values-loop-left : goal.invariant-values-loop-left
-invariant-values-loop-left l = (Valuing l.image l.initial.next.nodes l.frames l.top (tab_in l.initial.table l.initial.notes) l.initial.stack l.sp l.initial.next.at l.n l.depth (tab_in l.table l.notes) l.stack l.next.at l.left l.up) × Kept l.initial.notes l.notes ⊥ × (l.next.nodes ≡ nodes_from l.image)
-
-abbrev pub decreases-values-loop-left : goal.decreases-values-loop-left
-decreases-values-loop-left l = l.left
+abbrev pub invariant-range-loop : goal.invariant-range-loop
+invariant-range-loop l =
+    Bounding l.image l.initial.next.nodes l.frames l.top (tab_in l.initial.table l.initial.w.notes) l.initial.w.stack l.sp l.call.at l.initial.next.at l.end l.depth
+    (tab_in l.table l.w.notes) l.w.stack l.next.at (l.end - l.counter)
+    × Kept l.initial.w.notes l.w.notes ⊥
+    × (l.next.nodes ≡ nodes_from l.image)
