@@ -16,14 +16,19 @@ use Rattle.types.specs.Table.{Tab, denote, Wf, Means, Grown}
 use Rattle.types.proofs.Laws.{unknown_number, same_unknown}
 use Rattle.meaning.specs.Base.{test◌then◌else◌, if_some, or_else}
 use Rattle.meaning.specs.Frames.{Binding, binding, blank, since, newest, slot_in, find, lookup, write, empty}
-use Rattle.frames.specs.Env.{First, Rows, cell_room, type_in, node_in, absent_row, cell, put, pick, look, node_from, slot_as, slot, frame_of, below, frames_of, Fit, slot_type, Holds, first_node, first_number, FirstBelow, binding_in, Known, Looked, Bound}
+use Rattle.frames.specs.Env.{First, Held, Rows, cell_room, type_in, node_in, absent_row, cell, put, pick, look, node_from, slot_as, slot, frame_of, below, frames_of, Fit, slot_type, Holds, first_node, first_number, FirstBelow, binding_in, Known, Looked, Bound}
 use Rattle.frames.specs.declared.Binding.{Binding as Found}
 
 -- ---- lookup
-pub look_down : (fs : Rows) (x i : ℕ) → 0 < i → look fs i x ≡ pick (eqb (type_in (cell fs (i - 1) x)) 0) (look fs (i - 1) x) (cell fs (i - 1) x)
+look_down : (fs : Rows) (x i : ℕ) → look fs (i + 1) x ≡ pick (eqb (type_in (cell fs i x)) 0) (look fs i x) (cell fs i x)
 unfolding look
-look_down fs x zero h = absurd (omega arith)
-look_down fs x (suc k) h = rw sub-one
+look_down fs x i = rw add-one
+
+pub look_on : (fs : Rows) (x i : ℕ) → type_in (cell fs i x) ≡ 0 → look fs (i + 1) x ≡ look fs i x
+look_on fs x i e = look_down fs x i ∙ rw (eq-eqb _ _ e)
+
+pub look_here : (fs : Rows) (x i : ℕ) {k : ℕ} → type_in (cell fs i x) ≡ suc k → look fs (i + 1) x ≡ cell fs i x
+look_here fs x i {k} e = look_down fs x i ∙ rw (ne_eqb (type_in (cell fs i x)) 0 (λ z. absurd (omega arith)))
 
 -- a slot of a row's frame
 pub slot_row : (t : Tab) (row : List ℕ) (x : ℕ) → get_or (frame_of t row) x none ≡ slot t (get_or row x 0)
@@ -194,19 +199,24 @@ look_le {t} {fs} f x (suc k) h =
 -- ---- what callers learn: types and first nodes, and no cells
 
 -- what the cell of the top row says that the newest frame holds
-pub held_none : {fs : Rows} {top x : ℕ} → type_in (cell fs top x) ≡ 0 → Holds fs top x None
+held_none : {fs : Rows} {top x : ℕ} → type_in (cell fs top x) ≡ 0 → Holds fs top x None
 held_none {fs} {top} {x} z = record {
   says = λ t. ap slot_type (slot_frames t fs top x ∙ slot_none t (cell fs top x) z);
   known = λ t f. tt;
   small = tt;
 }
 
-pub held_some : {fs : Rows} {top x r : ℕ} → type_in (cell fs top x) ≡ suc r → Holds fs top x (Some r)
+held_some : {fs : Rows} {top x r : ℕ} → type_in (cell fs top x) ≡ suc r → Holds fs top x (Some r)
 held_some {fs} {top} {x} {r} e = record {
   says = λ t. ap slot_type (slot_frames t fs top x ∙ slot_some t (cell fs top x) r e);
   known = λ t f. omega (arith, f.known top x f.high);
   small = omega arith;
 }
+
+-- as the cell's half tells
+pub held : {fs : Rows} {top x : ℕ} (h : Held) → type_in (cell fs top x) ≡ first_number h → Holds fs top x h
+held None e = held_none e
+held (Some r) e = held_some e
 
 pub none_below : (f : First) (n : ℕ) → first_node f ≡ none → FirstBelow n f
 none_below None n e = tt
@@ -289,9 +299,12 @@ unfolding node_from
 node_number None = refl
 node_number (Some m) = refl
 
-pub number_node : (v : ℕ) → (v ≡ 0 → ⊥) → (some (v - 1) ≡ node_from v) × (v ≤ cell_room → v - 1 < cell_room)
-unfolding node_from
-number_node v z = let e : v ≡ suc (v - 1) = omega arith in (ap node_from (sym e), λ l. omega arith)
+pub number_node : (f : First) {v : ℕ} → v ≡ first_number f → (first_node f ≡ node_from v) × (v ≤ cell_room → FirstBelow cell_room f)
+number_node f e = (rw e (sym (node_number f)), λ l. near f (rw e at l))
+  where
+    near : (g : First) → first_number g ≤ cell_room → FirstBelow cell_room g
+    near None l = tt
+    near (Some m) l = omega arith
 
 pub cell_made : (b : Found) (r n : ℕ) → n ≡ first_number b.first → r ≡ n * 65536 + (b.ty + 1) → b.ty < cell_room
     → (type_in r ≡ suc b.ty) × (node_from (node_in r) ≡ first_node b.first)

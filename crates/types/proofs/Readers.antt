@@ -7,7 +7,7 @@ use lib.ListN.{length, get_or}
 use Rattle.meaning.specs.Types.{Ty, kind, parts, part}
 use Rattle.types.specs.Layout.{kind_cell, first_cell, second_cell, kind_in, first_in, second_in, elements_from}
 use Rattle.types.specs.Table.{Tab, capacity, kind_at, first_at, denote, Means, Wf}
-use Rattle.types.specs.Reading.{Known, KindOf, PartOf, PartsOf, HasPart, PartAt, IsTuple, IsElement, IsNumber, CountOf, ElementAt}
+use Rattle.types.specs.Reading.{Known, KindOf, PartOf, PartsOf, HasPart, PartAt, IsTuple, IsElement, IsNumber, ElementAt}
 use Rattle.types.proofs.Parts.{plain_none, one_part, two_parts, few_parts, part_lower}
 use Rattle.types.proofs.Laws.{kind_of, record_kind, parts_many, first_part, second_part, element_part}
 
@@ -61,9 +61,6 @@ pub second_told : (cs : List ℕ) (i r : ℕ) → r ≡ second_in cs i → PartO
 second_told cs i r h =
     record { says = λ t e w b n. means_as (same_cell t cs (second_cell i) r e h) (second_part w i b (λ k. n (kind_of w i b ∙ k))) }
 
-pub count_told : (cs : List ℕ) (i r : ℕ) → r ≡ second_in cs i → CountOf cs i r
-count_told cs i r h = record { says = λ t e w b k. same_cell t cs (second_cell i) r e h ∙ sym (parts_many w i b (record_kind w i b k)) }
-
 pub element_told : (cs : List ℕ) (i j a r : ℕ) → IsElement cs i j → a ≡ elements_from cs + first_in cs i → r ≡ get_or cs (a + j) 0
     → ElementAt cs i j r
 element_told cs i j a r x ea er =
@@ -87,8 +84,10 @@ module _ {cs : List ℕ} {i k : ℕ} (told : KindOf cs i k) where
   pub many_two : k ≡ 9 → PartsOf cs i 2
   many_two h = record { says = λ t e w b. sym (two_parts _ (kind_as t e w b h)) }
 
-  pub many_elements : {n : ℕ} → k ≡ 10 → CountOf cs i n → PartsOf cs i n
-  many_elements h c = record { says = λ t e w b. c.says t e w b (kind_as t e w b h) }
+  pub many_elements : {n : ℕ} → k ≡ 10 → n ≡ second_in cs i → PartsOf cs i n
+  many_elements {n} h c = record {
+    says = λ t e w b. same_cell t cs (second_cell i) n e c ∙ sym (parts_many w i b (record_kind w i b (kind_as t e w b h)));
+  }
 
   pub many_one : 8 ≤ k → (k ≡ 9 → ⊥) → (k ≡ 10 → ⊥) → PartsOf cs i 1
   many_one l m n = record {

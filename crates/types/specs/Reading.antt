@@ -60,9 +60,6 @@ pub record IsNumber (cs : List ℕ) (i : ℕ) : Type 0 where
   pub number : i < capacity cs
   pub whole : kind_in cs i ≡ 10 → IsTuple cs i
 
-pub record CountOf (cs : List ℕ) (i r : ℕ) : Type 0 where
-  pub says : (t : Tab) → t.cells ≡ cs → Wf t → i < t.n → kind (denote t i) ≡ 10 → r ≡ length (parts (denote t i))
-
 pub record ElementAt (cs : List ℕ) (i j r : ℕ) : Type 0 where
   pub says : (t : Tab) → t.cells ≡ cs → Wf t → i < t.n → kind (denote t i) ≡ 10 → Means t r (part j (denote t i))
 

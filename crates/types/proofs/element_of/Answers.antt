@@ -1,15 +1,6 @@
-use Rattle.types.proofs.Room.{capacity_within}
 use Rattle.types.proofs.Walks.{walk_tuple, walk_part, walk_unknown, walk_string, walk_range, walk_not}
 use native.Mathlib.Omega.{arith}
 use Rattle.types.proofs.element_of.Goals as goal
-
-pub overflow_mul-i : goal.overflow_mul-i
-overflow_mul-i c =
-    omega (arith, c.requires.number, capacity_within c.args.table.now)
-
-pub cell-requires : goal.cell-requires
-cell-requires c =
-    omega (arith, c.requires.number, capacity_within c.args.table.now)
 
 pub returns-in-0 : goal.returns-in-0
 returns-in-0 c =

@@ -1,9 +1,5 @@
-use Rattle.types.proofs.Readers.{known_room, element_there, part_element, part_first, part_second}
+use Rattle.types.proofs.Readers.{element_there, part_element, part_first, part_second}
 use Rattle.types.proofs.part_at.Goals as goal
-
-pub kind_of-requires : goal.kind_of-requires
-kind_of-requires c =
-    known_room c.requires.known
 
 pub element_at-requires : goal.element_at-requires
 element_at-requires c =
@@ -13,18 +9,10 @@ pub returns-then-kind_of-eq-TUPLE : goal.returns-then-kind_of-eq-TUPLE
 returns-then-kind_of-eq-TUPLE c =
     part_element c.kind_of.ensures c.if-kind_of-eq-TUPLE.true c.element_at.ensures
 
-pub part_of-requires : goal.part_of-requires
-part_of-requires c =
-    known_room c.requires.known
-
 pub returns-then-j-eq0 : goal.returns-then-j-eq0
 returns-then-j-eq0 c =
     part_first c.kind_of.ensures c.if-kind_of-eq-TUPLE.false c.if-j-eq0.true c.part_of.ensures
 
-pub second_of-requires : goal.second_of-requires
-second_of-requires c =
-    known_room c.requires.known
-
-pub returns : goal.returns
-returns c =
+pub returns-else-j-eq0 : goal.returns-else-j-eq0
+returns-else-j-eq0 c =
     part_second c.kind_of.ensures c.if-kind_of-eq-TUPLE.false c.if-j-eq0.false c.second_of.ensures
