@@ -10,10 +10,10 @@ ghost use Rattle.targets.specs.Spreading.{Sharing, Share};
 ghost use Rattle.targets.specs.Clauses.{Assignable, Spreadable};
 ghost use Rattle.targets.specs.Clauses.{AssignsName, UnpacksInto, Assigns, AssignsEach};
 
+use codes::Code;
 use expr::tc_expr;
 use frames::{Frames, bind, lookup, since};
 use image::{Cursor, kinds};
-use rules::codes;
 use state::{Notes, Outcome, Walk};
 use types;
 use types::{agreed, kind_of, part_at, part_of, parts_of};
@@ -33,7 +33,7 @@ fn assign_name(
 {
     let old = lookup(frames, top, x);
     let Some(both) = agreed(old.ty, ty) else {
-        return Err(notes.conflict(codes::CANNOT_ASSIGN, at, old.first, ty, old.ty));
+        return Err(notes.conflict(Code::CannotAssign, at, old.first, ty, old.ty));
     };
     bind(frames, top, x, since(old.first, at, both));
     Ok(())
@@ -50,11 +50,11 @@ fn unpack(table: &[u16], notes: &mut Notes, at: usize, ty: usize, k: u32) -> Out
             let n = parts_of(table, ty);
             let k = k as usize;
             if n != k {
-                return Err(notes.refuse(codes::UNPACK_LENGTH, at, n, k));
+                return Err(notes.refuse(Code::UnpackLength, at, n, k));
             }
             Ok(())
         }
-        _ => Err(notes.refuse(codes::UNPACK_NON_ITERABLE, at, ty, 0)),
+        _ => Err(notes.refuse(Code::UnpackNonIterable, at, ty, 0)),
     }
 }
 
@@ -99,7 +99,7 @@ pub fn tc_assign_target(
             let n = node.children as usize;
             assign_each(image, here, frames, top, table, w, n, ty, depth - 1)
         }
-        _ => Err(w.notes.refuse(codes::INVALID_TARGET, here.at, 0, 0)),
+        _ => Err(w.notes.refuse(Code::InvalidTarget, here.at, 0, 0)),
     }
 }
 
