@@ -183,8 +183,8 @@ fn binary(
     let a = expression(scope, left, table, w, sp, depth)?;
     let right = left.over(scope.image).cursor;
     let b = expression(scope, right, table, w, sp, depth)?;
-    w.notes
-        .settle(rules::binary(table, node.arg, a, b), here.at)
+    let decision = rules::binary(table, node.arg, a, b);
+    w.notes.settle(decision, here.at)
 }
 
 // A List: "List stops at the first mismatch".

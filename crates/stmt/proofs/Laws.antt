@@ -1,5 +1,5 @@
 -- How the parts of the walk end, and where the nodes of a sound image stand.
-use mathlib.Core.Path.{◌≡◌, refl, sym, ◌∙◌, ap}
+use mathlib.Core.Path.{◌≡◌, refl, sym, ◌∙◌}
 use mathlib.Core.Bool.{Bool, true, false}
 use mathlib.Core.List.{List, [], ◌∷◌}
 use mathlib.Core.Logic.{◌⊎◌, inl, inr}
@@ -7,14 +7,14 @@ use Prim.Native.Nat.{ℕ, zero, suc, ◌+◌, ◌-◌, ◌≤◌, ◌<◌}
 use native.Mathlib.Omega.{arith}
 use native.Mathlib.Decide.{ℕ_discrete}
 use native.Mathlib.Numerals.{add-one}
-use borrow.Author.Tests.{eq-eqb, ne_eqb, eqb-true, leb-true}
+use borrow.Author.Tests.{eqb-true, leb-true}
 use lib.Dec.{eqb}
 use Rattle.meaning.specs.Base.{◌or◌, test◌then◌else◌, choose, is_in}
 use Rattle.meaning.specs.Types.{Ty}
 use Rattle.meaning.specs.Tree.{Expr, place}
 use Rattle.meaning.specs.Image.{Name, name_count, node_count, nodes_from, nodes_of, node_of, depth, arg_below, count_stands}
 use Rattle.meaning.specs.Decode.{stop_of, expr_at}
-use Rattle.meaning.specs.Message.{refusal, conflict}
+use Rattle.meaning.specs.Message.{conflict}
 use Rattle.meaning.specs.Rules.{check}
 use Rattle.meaning.specs.Walk.{dropping, State, state, End, done, wrong, too_deep, typed, onward}
 use Rattle.meaning.proofs.Codes.{fair_judged, check_fair}
@@ -23,7 +23,7 @@ use Rattle.meaning.proofs.Nesting.{Nested, sound_nested, nodes_many, node_stands
 use Rattle.meaning.proofs.Choices.{if_le}
 use Rattle.types.specs.Table.{Tab, denote}
 use Rattle.types.proofs.Laws.{grown_refl, grown_trans}
-use Rattle.frames.specs.Env.{Rows, frames_of, Fit}
+use Rattle.frames.specs.Env.{Rows, First, frames_of, Fit}
 use Rattle.frames.proofs.Laws.{frames_grown, fit_grown}
 use Rattle.rules.specs.Outcome.{types_named, pieces}
 use Rattle.image.specs.Parts.{Moved}
@@ -34,8 +34,8 @@ use Rattle.expr.specs.Contract.{Ready, At}
 use Rattle.expr.specs.Contract.{Done as Typed}
 use Rattle.expr.proofs.Rows.{many}
 use Rattle.state.specs.Notes.{Places, places}
-use Rattle.targets.specs.Ending.{first_at, Alone, ended, Named, Left}
-use Rattle.targets.proofs.Endings.{first_none, left_then, left_wider}
+use Rattle.targets.specs.Ending.{first_at, ended, Named, Left}
+use Rattle.targets.proofs.Endings.{ended_well, ended_deep, ended_wrong, ended_alone, left_then, left_wider}
 use Rattle.stmt.specs.Contract.{state_of, setting_if, Stmt, Pair, Within, Fine, Deep, Done}
 
 -- ---- the setting: code that is told whether it is plain drops exactly if it is
@@ -47,30 +47,10 @@ drops_if false = refl
 
 -- ---- how a part of the walk ended
 
-module _ (ws : List Name) (u : Tab) (gs : Rows) (high : ℕ) (y : Ty) where
-  pub ended_done : (code : ℕ) (place : Places) (a b : ℕ) → code ≡ 0 → ended ws u gs high y code place a b ≡ done (state (frames_of u gs high) y)
-  unfolding ended test◌then◌else◌
-  ended_done code place a b z = rw (eq-eqb code 0 z)
-
-  pub ended_deep : (code : ℕ) (place : Places) (a b : ℕ) → code ≡ 9 → ended ws u gs high y code place a b ≡ too_deep place.here
-  unfolding ended test◌then◌else◌
-  ended_deep code place a b z = rw (ne_eqb code 0 (λ e. omega arith), eq-eqb code 9 z)
-
-  pub ended_wrong : (code : ℕ) (place : Places) (a b : ℕ) → (code ≡ 0 → ⊥) → (code ≡ 9 → ⊥)
-      → ended ws u gs high y code place a b ≡ wrong (conflict code place.here (first_at code place.since) (pieces ws u code a b)) (state (frames_of u gs high) y)
-  unfolding ended test◌then◌else◌
-  ended_wrong code place a b z n = rw (ne_eqb code 0 z, ne_eqb code 9 n)
-
-  pub ended_alone : (code : ℕ) (place : Places) (a b : ℕ) → (code ≡ 0 → ⊥) → (code ≡ 9 → ⊥) → Alone code
-      → ended ws u gs high y code place a b ≡ wrong (refusal code place.here (pieces ws u code a b)) (state (frames_of u gs high) y)
-  ended_alone code place a b z n h =
-      ended_wrong code place a b z n
-      ∙ ap (λ m. wrong (conflict code place.here m (pieces ws u code a b)) (state (frames_of u gs high) y)) (first_none place.since h)
-
 module _ {ws : List Name} {r : End} {t u : Tab} {gs : Rows} {top high ret : ℕ} {su : List ℕ} {i e M code : ℕ} {place : Places} {a b : ℕ}
     (d : Done ws r t u gs top high ret su i e M code place a b) where
   pub was_done : code ≡ 0 → r ≡ done (state_of u gs high ret)
-  was_done z = d.says ∙ ended_done ws u gs high (denote u ret) code place a b z
+  was_done z = d.says ∙ ended_well ws u gs high (denote u ret) code place a b z
 
   pub was_deep : code ≡ 9 → r ≡ too_deep place.here
   was_deep z = d.says ∙ ended_deep ws u gs high (denote u ret) code place a b z
@@ -157,7 +137,7 @@ done_as o d = record { says = o ∙ d.says; fine = d.fine; named = d.named; deep
 pub done_any : {ws : List Name} {r : End} {t u : Tab} {gs : Rows} {top high ret : ℕ} {su : List ℕ} {i e M code : ℕ} {place : Places} {a b code' : ℕ} {place' : Places} {a' b' : ℕ}
     → code ≡ 0 → code' ≡ 0 → Done ws r t u gs top high ret su i e M code place a b → Done ws r t u gs top high ret su i e M code' place' a' b'
 done_any {ws} {r} {t} {u} {gs} {top} {high} {ret} {code' = code'} {place'} {a'} {b'} z o d = record {
-  says = was_done d z ∙ sym (ended_done ws u gs high (denote u ret) code' place' a' b' o);
+  says = was_done d z ∙ sym (ended_well ws u gs high (denote u ret) code' place' a' b' o);
   fine = λ _. d.fine (λ x. omega arith);
   named = λ _. rw o named_well;
   deep = λ x. absurd (omega arith);
@@ -223,7 +203,7 @@ module _ {ws : List Name} {t u : Tab} {fs : Rows} {top : ℕ} {st su : List ℕ}
     elements_spent = omega (arith, d.fine.elements_spent);
   }
 
-  pub check_named : {m : ℕ} → Named u M code (places place' m) a b
+  pub check_named : {m : First} → Named u M code (places place' m) a b
   check_named = record { first = d.told.first; second = d.told.second; small = d.told.small; placed = d.told.placed }
 
   pub check_well : code ≡ 0 → (s : State) (k : Ty → End) → typed (check ws (frames_of t fs top) x) s k ≡ k (denote u number)
@@ -231,7 +211,7 @@ module _ {ws : List Name} {t u : Tab} {fs : Rows} {top : ℕ} {st su : List ℕ}
   check_well z s k = rw (d.told.well z)
 
   -- which points at no first place, whatever is noted there
-  pub check_ill : (m : ℕ) → (code ≡ 0 → ⊥) → (y : Ty) (k : Ty → End)
+  pub check_ill : (m : First) → (code ≡ 0 → ⊥) → (y : Ty) (k : Ty → End)
       → typed (check ws (frames_of t fs top) x) (state (frames_of t fs top) y) k ≡ ended ws u fs top y code (places place' m) a b
   unfolding typed
   check_ill m z y k =

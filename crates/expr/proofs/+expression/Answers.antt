@@ -70,13 +70,13 @@ pub binary-returns-in_err-b : goal.binary-returns-in_err-b
 binary-returns-in_err-b t c =
     let d = rw c.in_err-b.was at c.expression-2.ensures in rw (is_noted _ c.from_residual-in_err-b.ensures.0) (binary_refused_2 c.requires.0 (opened c.next-read.ensures c.requires.1) (rw c.in_ok-a.was at c.expression.ensures.0) (stops c.over.ensures) refl d.0 (d.1.coded refl), kept_trans c.expression.ensures.1 d.1)
 
-pub binary-binary-requires-clause-op_bound : goal.binary-binary-requires-clause-op_bound
-binary-binary-requires-clause-op_bound t c =
+pub binary-binary-decision-requires-clause-op_bound : goal.binary-binary-decision-requires-clause-op_bound
+binary-binary-decision-requires-clause-op_bound t c =
     (binary_operable c.requires.0 (opened c.next-read.ensures c.requires.1) (rw c.in_ok-a.was at c.expression.ensures.0) (stops c.over.ensures) refl (rw c.in_ok-b.was at c.expression-2.ensures.0) refl).operator
 
 pub binary-returns : goal.binary-returns
 binary-returns t c =
-    let g = operated (binary_operable c.requires.0 (opened c.next-read.ensures c.requires.1) (rw c.in_ok-a.was at c.expression.ensures.0) (stops c.over.ensures) refl (rw c.in_ok-b.was at c.expression-2.ensures.0) refl) c.binary.ensures c.settle.ensures in
+    let g = operated (binary_operable c.requires.0 (opened c.next-read.ensures c.requires.1) (rw c.in_ok-a.was at c.expression.ensures.0) (stops c.over.ensures) refl (rw c.in_ok-b.was at c.expression-2.ensures.0) refl) c.binary-decision.ensures c.settle.ensures in
     (binary_done c.requires.0 (opened c.next-read.ensures c.requires.1) (rw c.in_ok-a.was at c.expression.ensures.0) (stops c.over.ensures) refl (rw c.in_ok-b.was at c.expression-2.ensures.0) refl g.0, kept_trans c.expression.ensures.1 (kept_trans c.expression-2.ensures.1 g.1))
 
 pub call-over-passed-requires-clause-on : goal.call-over-passed-requires-clause-on

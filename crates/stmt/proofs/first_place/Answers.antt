@@ -3,9 +3,7 @@ use native.Mathlib.Omega.{arith}
 use Rattle.stmt.proofs.first_place.Goals as goal
 
 pub returns-in-25 : goal.returns-in-25
-returns-in-25 c =
-    points_at _ _ c.first_of.result c.in-25.is c.first_of.ensures.0
+returns-in-25 c = points_at _ _ c.in-25.is
 
 pub returns-in_default : goal.returns-in_default
-returns-in_default c =
-    points_nowhere _ _ (omega arith)
+returns-in_default c = points_nowhere _ _ (λ z. grind arith)
