@@ -158,7 +158,7 @@ impl<'a> Opened<'a> {
         let start = start_of(self.names, k) as u32;
         let len = length_of(self.names, k) as u32;
         put_name(&mut alone, 0, start, len, type_of(self.names, k) as u32);
-        sheet::write(self.sheet, self.table, self.read.counts, &alone, 1, out).unwrap_or(0)
+        sheet::write(self.sheet, self.table, self.read.counts, &alone, 1, out).unwrap()
     }
 }
 
