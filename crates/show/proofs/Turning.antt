@@ -20,7 +20,7 @@ use Rattle.meaning.proofs.Alone.{alone_within, alone_same}
 use Rattle.types.specs.Table.{tab, most_numbers}
 use Rattle.sheet.specs.Listing.{start_at, length_at, type_at, PutName, listed, listed_from, Listing, Wrote}
 use Rattle.sheet.specs.Listing.{entry_at as entry_in}
-use Rattle.std.specs.Prelude.{Option, unwrap_or}
+use Rattle.std.specs.Prelude.{Option, IsSome, unwrap_or}
 use Rattle.show.specs.Words.{IsOpened, entry_at, entry_of, largest_alone}
 use Rattle.sheet.specs.declared.list.ListedName.{ListedName}
 use Rattle.show.specs.declared.Opened.{Opened}
@@ -68,6 +68,13 @@ module _ {o : Opened} (w : IsOpened o) where
       alone_fits =
           let e = entry_of o.sheet.now k ∷ [] in
           omega (arith, sheet_size e, limits e (alone_within (entries_in o.sheet.now) (entry_of o.sheet.now k) (its_sheet w).limits among))
+
+      -- so the writer never lacks room for it
+      pub alone_there : {r : Option ℕ} {d e : List ℕ} → length d ≡ largest_alone → Wrote (listed o.sheet.now (tab o.table.now o.read.counts.types o.read.counts.elements) new 1) r d e
+          → IsSome r
+      alone_there {d = d} l x =
+          let f : length (sheet_of (entry_of o.sheet.now k ∷ [])) ≤ length d = omega (arith, alone_fits, l) in
+          x.fits_is ∙ rw alone_listed (le-leb _ _ f)
 
       pub alone_written : {r : Option ℕ} {d e : List ℕ} → length d ≡ largest_alone → Wrote (listed o.sheet.now (tab o.table.now o.read.counts.types o.read.counts.elements) new 1) r d e
           → (take (unwrap_or r 0) e ≡ sheet_of (entry_of o.sheet.now k ∷ [])) × (unwrap_or r 0 ≤ length e)

@@ -52,17 +52,17 @@ fn is_short(table: &[u16], i: usize) -> bool
     lens[i] <= LONGEST_SHOWN
 }
 
-fn put_dotted(kind: usize, out: &mut [u8], at: usize) -> usize
-    requires { at + length (dotted kind) ≤ length out.old }
-    ensures { Wrote out.old at (dotted kind) out.new result }
+// What a type of this kind is shown as where it is too long.
+fn dotted(kind: usize) -> &'static [u8]
+    ensures { result.now ≡ dotted kind }
 {
     match kind {
-        types::LIST => put(out, at, b"List(..)"),
-        types::DICT => put(out, at, b"Dict(..)"),
-        types::TUPLE => put(out, at, b"Tuple(..)"),
-        types::MAP_ITER => put(out, at, b"MapIter(..)"),
-        types::FILTER_ITER => put(out, at, b"FilterIter(..)"),
-        _ => at,
+        types::LIST => b"List(..)",
+        types::DICT => b"Dict(..)",
+        types::TUPLE => b"Tuple(..)",
+        types::MAP_ITER => b"MapIter(..)",
+        types::FILTER_ITER => b"FilterIter(..)",
+        _ => b"",
     }
 }
 
@@ -74,7 +74,7 @@ fn put_shown(table: &[u16], i: usize, out: &mut [u8], at: usize) -> usize
     if is_short(table, i) {
         return put_type(table, i, out, at);
     }
-    put_dotted(kind_of(table, i), out, at)
+    put(out, at, dotted(kind_of(table, i)))
 }
 
 // ---- a name with its type
@@ -158,7 +158,7 @@ impl<'a> Opened<'a> {
         let start = start_of(self.names, k) as u32;
         let len = length_of(self.names, k) as u32;
         put_name(&mut alone, 0, start, len, type_of(self.names, k) as u32);
-        sheet::write(self.sheet, self.table, self.read.counts, &alone, 1, out).unwrap_or(0)
+        sheet::write(self.sheet, self.table, self.read.counts, &alone, 1, out).unwrap()
     }
 }
 

@@ -1,5 +1,5 @@
 use Rattle.show.proofs.Names.{name_inside}
-use Rattle.show.proofs.Turning.{sheet_short, type_small, name_short, alone_listing, alone_written}
+use Rattle.show.proofs.Turning.{sheet_short, type_small, name_short, alone_listing, alone_there, alone_written}
 use native.Mathlib.Omega.{arith}
 use Rattle.show.proofs.Opened.write_alone.Goals as goal
 
@@ -17,8 +17,13 @@ pub write-requires : goal.write-requires
 write-requires c =
     alone_listing c.requires.opened.0 c.requires.opened.1 c.put_name.ensures c.start_of-start.ensures c.length_of-len.ensures c.type_of.ensures
 
+pub unwrap-requires : goal.unwrap-requires
+unwrap-requires c =
+    alone_there c.requires.opened.0 c.requires.opened.1 c.put_name.ensures c.start_of-start.ensures c.length_of-len.ensures c.type_of.ensures c.requires.out_len
+    c.write.ensures
+
 pub returns : goal.returns
 returns c =
     let all = alone_written c.requires.opened.0 c.requires.opened.1 c.put_name.ensures c.start_of-start.ensures c.length_of-len.ensures c.type_of.ensures
-    c.requires.out_len c.write.ensures in
-    rw c.unwrap_or.ensures (record { out_after = all.0; upper_bound = all.1 })
+    c.requires.out_len (rw c.unwrap.ensures at c.write.ensures) in
+    record { out_after = all.0; upper_bound = all.1 }
