@@ -1,5 +1,5 @@
--- The codes of typing refusals are 20 to 50.
-use Rattle.std.proofs.Common.{◌≡◌, ◌≤◌, refl, arith}
+-- The codes of typing refusals are 20 to 50, and each has a number of its own.
+use Rattle.std.proofs.Common.{◌≡◌, ℕ, ◌-◌, ◌≤◌, List, [], ◌∷◌, get_or, refl, sym, ap, ◌∙◌, arith}
 use Rattle.codes.specs.declared.Code.{Code}
 use Rattle.codes.specs.declared.Code.TheVariants.{Break, Continue, InconsistentReturn, IncompatibleBranches, NotIterable, CannotAssign, UnpackLength, UnpackNonIterable, InvalidTarget, Plus, Times, Compare, Equality, NumericPair, IntOrFloat, ExpectedBool, Condition, BuiltinArity, FunctionArity, Input, Len, Range, MapFirst, MapSecond, FilterFirst, FilterSecond, ListIndex, DictKey, TupleIndex, StringIndex, NotSubscriptable}
 use Rattle.codes.specs.Codes.{code_number}
@@ -37,35 +37,47 @@ least_code TupleIndex = omega arith
 least_code StringIndex = omega arith
 least_code NotSubscriptable = omega arith
 
-pub not_subscriptable : (c : Code) → code_number c ≡ 50 → c ≡ NotSubscriptable
-not_subscriptable Break e = absurd (omega arith)
-not_subscriptable Continue e = absurd (omega arith)
-not_subscriptable InconsistentReturn e = absurd (omega arith)
-not_subscriptable IncompatibleBranches e = absurd (omega arith)
-not_subscriptable NotIterable e = absurd (omega arith)
-not_subscriptable CannotAssign e = absurd (omega arith)
-not_subscriptable UnpackLength e = absurd (omega arith)
-not_subscriptable UnpackNonIterable e = absurd (omega arith)
-not_subscriptable InvalidTarget e = absurd (omega arith)
-not_subscriptable Plus e = absurd (omega arith)
-not_subscriptable Times e = absurd (omega arith)
-not_subscriptable Compare e = absurd (omega arith)
-not_subscriptable Equality e = absurd (omega arith)
-not_subscriptable NumericPair e = absurd (omega arith)
-not_subscriptable IntOrFloat e = absurd (omega arith)
-not_subscriptable ExpectedBool e = absurd (omega arith)
-not_subscriptable Condition e = absurd (omega arith)
-not_subscriptable BuiltinArity e = absurd (omega arith)
-not_subscriptable FunctionArity e = absurd (omega arith)
-not_subscriptable Input e = absurd (omega arith)
-not_subscriptable Len e = absurd (omega arith)
-not_subscriptable Range e = absurd (omega arith)
-not_subscriptable MapFirst e = absurd (omega arith)
-not_subscriptable MapSecond e = absurd (omega arith)
-not_subscriptable FilterFirst e = absurd (omega arith)
-not_subscriptable FilterSecond e = absurd (omega arith)
-not_subscriptable ListIndex e = absurd (omega arith)
-not_subscriptable DictKey e = absurd (omega arith)
-not_subscriptable TupleIndex e = absurd (omega arith)
-not_subscriptable StringIndex e = absurd (omega arith)
-not_subscriptable NotSubscriptable e = refl
+-- the code of a number
+code_of : ℕ → Code
+code_of n =
+    get_or
+    (Break ∷ Continue ∷ InconsistentReturn ∷ IncompatibleBranches ∷ NotIterable ∷ CannotAssign ∷ UnpackLength ∷ UnpackNonIterable ∷ InvalidTarget ∷ Plus ∷ Times ∷ Compare ∷ Equality ∷ NumericPair ∷ IntOrFloat ∷ ExpectedBool ∷ Condition ∷ BuiltinArity ∷ FunctionArity ∷ Input ∷ Len ∷ Range ∷ MapFirst ∷ MapSecond ∷ FilterFirst ∷ FilterSecond ∷ ListIndex ∷ DictKey ∷ TupleIndex ∷ StringIndex ∷ NotSubscriptable ∷ [])
+    (n - 20)
+    Break
+
+code_again : (c : Code) → code_of (code_number c) ≡ c
+unfolding code_of
+code_again Break = refl
+code_again Continue = refl
+code_again InconsistentReturn = refl
+code_again IncompatibleBranches = refl
+code_again NotIterable = refl
+code_again CannotAssign = refl
+code_again UnpackLength = refl
+code_again UnpackNonIterable = refl
+code_again InvalidTarget = refl
+code_again Plus = refl
+code_again Times = refl
+code_again Compare = refl
+code_again Equality = refl
+code_again NumericPair = refl
+code_again IntOrFloat = refl
+code_again ExpectedBool = refl
+code_again Condition = refl
+code_again BuiltinArity = refl
+code_again FunctionArity = refl
+code_again Input = refl
+code_again Len = refl
+code_again Range = refl
+code_again MapFirst = refl
+code_again MapSecond = refl
+code_again FilterFirst = refl
+code_again FilterSecond = refl
+code_again ListIndex = refl
+code_again DictKey = refl
+code_again TupleIndex = refl
+code_again StringIndex = refl
+code_again NotSubscriptable = refl
+
+pub same_code : (c d : Code) → code_number c ≡ code_number d → c ≡ d
+same_code c d e = sym (code_again c) ∙ ap code_of e ∙ code_again d

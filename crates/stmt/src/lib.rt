@@ -7,6 +7,7 @@
 
 ghost use Rattle.std.specs.Prelude.{◌≡◌};
 ghost use Rattle.meaning.specs.Base.{test◌then◌else◌};
+ghost use Rattle.codes.specs.Codes.{code_number};
 ghost use Rattle.types.specs.Table.{tab};
 ghost use Rattle.frames.specs.Env.{first_node};
 ghost use Rattle.state.specs.Notes.{code_in, places_in, first_in, second_in, since_in, tab_in, top_in};
@@ -19,11 +20,11 @@ ghost use Rattle.stmt.specs.Clauses.{Checkable, Paired, Returnable, Simple, Walk
 ghost use Rattle.stmt.specs.Clauses.{Ends, Iterates, Returns, ActsEither, Enters, AfterArm};
 ghost use Rattle.stmt.specs.Clauses.{WalksStmt, WalksBlock, Acts, WalksArm};
 
+use codes::Code;
 use expr::tc_expr;
 use frames::{First, Frames, NO_NAMES, bind, blank, clear, commit, note_branch, since};
 use image::{Cursor, kinds};
 use limits::{DEEPEST, MOST_FRAMES, MOST_NAMES, MOST_NODES};
-use rules::codes;
 use state::{Noted, Notes, Outcome, Typed, Walk};
 use targets::tc_assign_target;
 use types;
@@ -44,7 +45,7 @@ const NOTHING: Notes = Notes {
         types: types::STRUCTURED,
         elements: 0,
     },
-    code: 0,
+    code: None,
     place: 0,
     first: 0,
     second: 0,
@@ -100,7 +101,7 @@ fn ensure_bool(
 {
     let ty = tc_expr(image, here, rows, w.notes.top, table, w, 0, depth)?;
     if ty != types::BOOL {
-        return Err(w.notes.refuse(codes::CONDITION, here.at, 0, 0));
+        return Err(w.notes.refuse(Code::Condition, here.at, 0, 0));
     }
     Ok(())
 }
@@ -140,16 +141,15 @@ fn give(
     let ty = tc_expr(image, here, rows, w.notes.top, table, w, 0, depth)?;
     let old = w.notes.returns;
     let Some(both) = agreed(old, ty) else {
-        return Err(w.notes.refuse(codes::INCONSISTENT_RETURN, here.at, old, ty));
+        return Err(w.notes.refuse(Code::InconsistentReturn, here.at, old, ty));
     };
     w.notes.returns = both;
     Ok(())
 }
 
 // A Break or Continue: outside a loop it is refused by the code.
-fn outside(notes: &mut Notes, code: u32, place: usize, looped: bool) -> Outcome
-    requires { code ≡ 0 → ⊥ }
-    ensures { Settled notes.old notes.new result tt (test looped then 0 else code) place 0 0 }
+fn outside(notes: &mut Notes, code: Code, place: usize, looped: bool) -> Outcome
+    ensures { Settled notes.old notes.new result tt (test looped then 0 else code_number code) place 0 0 }
 {
     if looped {
         Ok(())
@@ -175,8 +175,8 @@ fn simple(
     let read = here.next(image);
     let first = read.cursor;
     match read.node.kind {
-        kinds::BREAK => outside(&mut w.notes, codes::BREAK, here.at, looped),
-        kinds::CONTINUE => outside(&mut w.notes, codes::CONTINUE, here.at, looped),
+        kinds::BREAK => outside(&mut w.notes, Code::Break, here.at, looped),
+        kinds::CONTINUE => outside(&mut w.notes, Code::Continue, here.at, looped),
         kinds::ASSIGN => assignment(image, here, rows, table, w, depth),
         kinds::EXPR => {
             tc_expr(image, first, rows, w.notes.top, table, w, 0, depth)?;
@@ -218,7 +218,7 @@ fn elements(
     let ty = tc_expr(image, here, rows, w.notes.top, table, w, 0, depth)?;
     match element_of(table, ty) {
         Some(element) => Ok(element),
-        None => Err(w.notes.refuse(codes::NOT_ITERABLE, here.at, ty, 0)),
+        None => Err(w.notes.refuse(Code::NotIterable, here.at, ty, 0)),
     }
 }
 
@@ -330,7 +330,7 @@ fn choices(
     match commit(rows, top, &merged, &clashes) {
         Ok(()) => Ok(()),
         Err(found) => {
-            let code = codes::INCOMPATIBLE_BRANCHES;
+            let code = Code::IncompatibleBranches;
             let noted = w
                 .notes
                 .conflict(code, condition.at, found.first, found.name, 0);
@@ -385,7 +385,12 @@ fn define(
     let top = w.notes.top;
     let returns = w.notes.returns;
     if LAST_FRAME <= top {
-        w.notes.refuse(codes::NINTH_FRAME, here.at, 0, 0);
+        w.notes = Notes {
+            place: here.at,
+            first: 0,
+            second: 0,
+            ..w.notes
+        };
         return Err(Stop::TooDeep);
     }
     let read = here.next(image);
@@ -480,8 +485,8 @@ fn repeat(
 pub fn first_place(notes: &Notes) -> First
     ensures { first_node result ≡ first_at (code_in notes.now) (since_in notes.now) }
 {
-    match notes.code {
-        codes::CANNOT_ASSIGN | codes::INCOMPATIBLE_BRANCHES => notes.since,
+    match notes.code? {
+        Code::CannotAssign | Code::IncompatibleBranches => notes.since,
         _ => None,
     }
 }

@@ -1,6 +1,7 @@
 use borrow.Author.Tests.{ne_eqb}
+use Rattle.codes.specs.declared.Code.TheVariants.{NotSubscriptable}
 use Rattle.codes.specs.Codes.{code_number}
-use Rattle.codes.proofs.Laws.{not_subscriptable}
+use Rattle.codes.proofs.Laws.{same_code}
 use Rattle.meaning.specs.Base.{test◌then◌else◌}
 use Rattle.rules.specs.Leaves.{index_place}
 use Rattle.nodes.proofs.index_place.Goals as goal
@@ -18,4 +19,4 @@ returns-in-NotSubscriptable c =
 pub returns-in_default : goal.returns-in_default
 unfolding index_place test◌then◌else◌
 returns-in_default c =
-    rw (c.in-Err.is, ne_eqb (code_number c.in-Err.why.code) 50 (λ e. c.in_default.not-NotSubscriptable (not_subscriptable _ e)))
+    rw (c.in-Err.is, ne_eqb (code_number c.in-Err.why.code) 50 (λ e. c.in_default.not-NotSubscriptable (same_code _ NotSubscriptable e)))

@@ -200,7 +200,7 @@ one_arm-returns t c =
 
 pub define-returns-then-top-ge-LAST_FRAME : goal.define-returns-then-top-ge-LAST_FRAME
 define-returns-then-top-ge-LAST_FRAME t c =
-    (done_noted c.refuse.ensures (def_deep c.requires.0 c.requires.1 refl (omega arith) _ _), tells_ok (λ e. cc))
+    (def_deep c.requires.0 c.requires.1 refl (omega arith) _ _, tells_ok (λ e. cc))
 
 pub define-overflow_sub-n : goal.define-overflow_sub-n
 define-overflow_sub-n t c =
