@@ -9,7 +9,6 @@ ghost use Rattle.calls.specs.Planning.{Chosen, Planned};
 use image::{admits, areas, name_at, name_text, roles};
 use rules::codes;
 use types;
-use words::same;
 
 // What T's match on a builtin's name does with the arguments of its call.
 #[derive(Clone, Copy)]
@@ -24,43 +23,24 @@ pub enum Rule {
 }
 
 // The rule of a builtin's text, in T's order: "A builtin's rule is chosen by its text, compared byte by byte."
+#[tactic(auto, using(crate::proofs::Builtins::texts))]
 pub fn builtin_of(text: &[u8]) -> Rule
     ensures { Chosen text.now result }
 {
-    if same(text, b"print") {
-        return Rule::Each(types::NONE_TYPE);
+    match text {
+        b"print" => Rule::Each(types::NONE_TYPE),
+        b"input" => Rule::Input,
+        b"int" => Rule::First(types::INT),
+        b"float" => Rule::First(types::FLOAT),
+        b"bool" => Rule::First(types::BOOL),
+        b"str" => Rule::First(types::STRING),
+        b"len" => Rule::Len,
+        b"range" => Rule::Range,
+        b"assert" => Rule::First(types::NONE_TYPE),
+        b"map" => Rule::Map,
+        b"filter" => Rule::Filter,
+        _ => Rule::Each(types::UNKNOWN),
     }
-    if same(text, b"input") {
-        return Rule::Input;
-    }
-    if same(text, b"int") {
-        return Rule::First(types::INT);
-    }
-    if same(text, b"float") {
-        return Rule::First(types::FLOAT);
-    }
-    if same(text, b"bool") {
-        return Rule::First(types::BOOL);
-    }
-    if same(text, b"str") {
-        return Rule::First(types::STRING);
-    }
-    if same(text, b"len") {
-        return Rule::Len;
-    }
-    if same(text, b"range") {
-        return Rule::Range;
-    }
-    if same(text, b"assert") {
-        return Rule::First(types::NONE_TYPE);
-    }
-    if same(text, b"map") {
-        return Rule::Map;
-    }
-    if same(text, b"filter") {
-        return Rule::Filter;
-    }
-    Rule::Each(types::UNKNOWN)
 }
 
 // What becomes of a call of a name: its rule, or 37 or 38 where the count is refused.

@@ -5,7 +5,7 @@ use mathlib.Core.List.{List, ◌∷◌}
 use Prim.Native.Nat.{ℕ, ◌-◌, ◌≤◌, ◌<◌}
 use native.Mathlib.Omega.{arith}
 use Rattle.meaning.specs.Types.{Ty, unknown, list}
-use Rattle.meaning.specs.Image.{nodes_of, names_of}
+use Rattle.meaning.specs.Image.{Node, nodes_of, names_of, nodes_from}
 use Rattle.meaning.specs.Decode.{expr_at, stop_of, past}
 use Rattle.meaning.specs.Operators.{Checked, ok, ◌>>=◌}
 use Rattle.meaning.specs.Rules.{check, list_rule}
@@ -15,7 +15,9 @@ use Rattle.frames.specs.Env.{Rows, frames_of}
 use Rattle.rules.specs.Leaves.{ListStep, list_after, Asks}
 use Rattle.state.specs.Giving.{Told}
 use Rattle.expr.specs.Contract.{Ready, Row, Done, checks}
-use Rattle.expr.proofs.Leaving.{fine_up}
+use Rattle.expr.proofs.Rows.{Opened}
+use Rattle.expr.proofs.Calling.{children_before, children_row}
+use Rattle.expr.proofs.Leaving.{ready_moved, fine_up}
 use Rattle.expr.proofs.Telling.{told_as, told_ill, checks_none, checks_down, done_bind, done_made, done_as}
 use Rattle.expr.proofs.Looping.{Loop, loop_first, loop_fine, loop_stop, loop_next, loop_asks, past_one, one_fine, bind_ok}
 
@@ -25,12 +27,19 @@ pub record Listing (bs : List ℕ) (nodes : ℕ) (fs : Rows) (top : ℕ) (t : Ta
       (list_rule (denote u element) (checks bs (frames_of t fs top) d left i)) u su i left
   pub known : element < u.n
 
-pub listing_first : {bs : List ℕ} {nodes : ℕ} {fs : Rows} {top : ℕ} {t : Tab} {st : List ℕ} {sp from n d j left : ℕ} → j < from
+listing_first : {bs : List ℕ} {nodes : ℕ} {fs : Rows} {top : ℕ} {t : Tab} {st : List ℕ} {sp from n d j left : ℕ} → j < from
     → Ready bs nodes fs top t st sp j (past (nodes_of bs) n from) → Row bs from n d → left ≡ n → Listing bs nodes fs top t st sp from n d t st from left 0
 listing_first {bs} {fs = fs} {top} {t} {from = from} {n} {d} h r w e = rw e record {
   loop = loop_first (ap (λ a. list_rule a (checks bs (frames_of t fs top) d n from)) (sym (unknown_number r.wf))) h r w;
   known = omega (arith, r.wf.base);
 }
+
+-- the node was read, and the cursor stands at its first child
+pub listing_opened : {bs : List ℕ} {nodes next : ℕ} {fs : Rows} {top : ℕ} {t : Tab} {st : List ℕ} {sp i d from n left : ℕ} {node : Node}
+    → Ready bs nodes fs top t st sp i (stop_of (nodes_of bs) i) → Opened bs i d node 26 from → next ≡ nodes_from bs → n ≡ node.children → left ≡ n
+    → Listing bs next fs top t st sp from n d t st from left 0
+listing_opened {i = i} r o e m l =
+    listing_first {j = i} (omega (arith, o.first)) (ready_moved e (children_before r o.inner o.first m)) (children_row r o.inner o.first m) l
 
 module _ {bs : List ℕ} {nodes : ℕ} {fs : Rows} {top : ℕ} {t : Tab} {st : List ℕ} {sp from n d : ℕ} {u : Tab} {su : List ℕ} {i left element : ℕ}
     (l : Listing bs nodes fs top t st sp from n d u su i left element) (h : 0 < left) where

@@ -5,7 +5,7 @@ use mathlib.Core.List.{List, ◌∷◌}
 use Prim.Native.Nat.{ℕ, zero, suc, ◌-◌, ◌≤◌, ◌<◌}
 use native.Mathlib.Omega.{arith}
 use Rattle.meaning.specs.Types.{Ty, unknown, dict}
-use Rattle.meaning.specs.Image.{nodes_of, names_of}
+use Rattle.meaning.specs.Image.{Node, nodes_of, names_of, nodes_from}
 use Rattle.meaning.specs.Decode.{expr_at, stop_of, past}
 use Rattle.meaning.specs.Frames.{Frames}
 use Rattle.meaning.specs.Operators.{Checked, ok, refused, ◌>>=◌}
@@ -17,7 +17,9 @@ use Rattle.rules.specs.declared.Pair.{Pair}
 use Rattle.rules.specs.Leaves.{DictStep, dict_after, Asks}
 use Rattle.state.specs.Giving.{Told}
 use Rattle.expr.specs.Contract.{Ready, At, Row, Fine, Done, checks}
-use Rattle.expr.proofs.Leaving.{fine_then, fine_up, same_frames}
+use Rattle.expr.proofs.Rows.{Opened}
+use Rattle.expr.proofs.Calling.{children_before, children_row}
+use Rattle.expr.proofs.Leaving.{ready_moved, fine_then, fine_up, same_frames}
 use Rattle.expr.proofs.Telling.{told_as, told_ill, checks_none, checks_suc, checks_down, done_bind, done_made, done_as}
 use Rattle.expr.proofs.Looping.{Loop, loop_first, loop_fine, loop_stop, loop_next, loop_asks, loop_at, loop_child, past_one, past_two, one_fine}
 
@@ -28,7 +30,7 @@ pub record Pairing (bs : List ℕ) (nodes : ℕ) (fs : Rows) (top : ℕ) (t : Ta
   pub key_known : p.key < u.n
   pub value_known : p.value < u.n
 
-pub pairing_first : {bs : List ℕ} {nodes : ℕ} {fs : Rows} {top : ℕ} {t : Tab} {st : List ℕ} {sp from n d j left : ℕ} → j < from
+pairing_first : {bs : List ℕ} {nodes : ℕ} {fs : Rows} {top : ℕ} {t : Tab} {st : List ℕ} {sp from n d j left : ℕ} → j < from
     → Ready bs nodes fs top t st sp j (past (nodes_of bs) n from) → Row bs from n d → left ≡ n
     → Pairing bs nodes fs top t st sp from n d t st from left record { key = 0; value = 0 }
 pairing_first {bs} {fs = fs} {top} {t} {from = from} {n} {d} h r w e = rw e record {
@@ -36,6 +38,13 @@ pairing_first {bs} {fs = fs} {top} {t} {from = from} {n} {d} h r w e = rw e reco
   key_known = omega (arith, r.wf.base);
   value_known = omega (arith, r.wf.base);
 }
+
+-- the node was read, and the cursor stands at its first child
+pub pairing_opened : {bs : List ℕ} {nodes next : ℕ} {fs : Rows} {top : ℕ} {t : Tab} {st : List ℕ} {sp i d from n left : ℕ} {node : Node}
+    → Ready bs nodes fs top t st sp i (stop_of (nodes_of bs) i) → Opened bs i d node 27 from → next ≡ nodes_from bs → n ≡ node.children → left ≡ n
+    → Pairing bs next fs top t st sp from n d t st from left record { key = 0; value = 0 }
+pairing_opened {i = i} r o e m l =
+    pairing_first {j = i} (omega (arith, o.first)) (ready_moved e (children_before r o.inner o.first m)) (children_row r o.inner o.first m) l
 
 module _ {bs : List ℕ} {nodes : ℕ} {fs : Rows} {top : ℕ} {t : Tab} {st : List ℕ} {sp from n d : ℕ} {u : Tab} {su : List ℕ} {i left : ℕ} {p : Pair}
     (l : Pairing bs nodes fs top t st sp from n d u su i left p) (h : 1 < left) where

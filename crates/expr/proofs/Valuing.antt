@@ -115,9 +115,6 @@ module _ {bs : List ℕ} {nodes : ℕ} {fs : Rows} {top : ℕ} {t : Tab} {st : L
       fine = fine_as (omega (arith, l.few)) (fine_wider (past (nodes_of bs) n from) (left - 1) behind passed);
     }
 
-    pub valuing_number : code ≡ 0 → number < 2056
-    valuing_number z = omega (arith, done.below z, done.fine.grown.wf.room, done.fine.grown.wf.most)
-
     pub valuing_next : {j fewer more : ℕ} → code ≡ 0 → j ≡ stop_of (nodes_of bs) i → fewer ≡ left - 1 → more ≡ up + 1
         → Valuing bs nodes fs top t st sp from n d v (set sv up number) j fewer more
     unfolding ◌>>=◌

@@ -24,6 +24,12 @@ Asked bs nodes top sp i e w more = Ready bs nodes w.rows top (table_of w) w.stac
 abbrev pub Checkable : List ℕ → Cursor → ℕ → ℕ → ℕ → Lent → Type 0
 Checkable bs c top sp d w = Asked bs c.nodes top sp c.at (stop_of (nodes_of bs) c.at) w (At bs c.at d)
 
+-- the same, of kind k: no Literal and no Variable
+abbrev pub Compound : ℕ → List ℕ → Cursor → ℕ → ℕ → ℕ → Lent → Type 0
+Compound k bs c top sp d w =
+    Asked bs c.nodes top sp c.at (stop_of (nodes_of bs) c.at) w
+    (At bs c.at d × (((node_of (nodes_of bs) c.at).kind ≡ k) × (k ≡ 20 → ⊥) × (k ≡ 21 → ⊥)))
+
 -- the cursor's node, its children at most d deep, and more
 abbrev pub Parent : List ℕ → Cursor → ℕ → ℕ → ℕ → Lent → Type 0 → Type 0
 Parent bs c top sp d w more =

@@ -17,9 +17,8 @@ use Rattle.meaning.specs.Operators.{Checked, ok, unary_rule, binary_rule}
 use Rattle.meaning.specs.Rules.{index_rule}
 use Rattle.types.specs.Table.{Tab, Wf, denote, Made}
 use Rattle.rules.specs.Outcome.{Decision, Decides, decision_code, decision_number, decision_first, decision_second}
-use Rattle.types.specs.Reading.{Known}
 use Rattle.rules.specs.Leaves.{OfOne, OfTwo, OfNumber, Indexed, index_place, second_rule, Streams}
-use Rattle.rules.proofs.Outcomes.{known, was_ok}
+use Rattle.rules.proofs.Outcomes.{was_ok}
 use Rattle.std.specs.Prelude.{IsErr}
 use Rattle.image.specs.declared.Cursor.{Cursor}
 use Rattle.state.specs.Giving.{Given}
@@ -52,6 +51,14 @@ module _ (k a n m o : ℕ) (ts : List Ty) where
 
 decides_as : {ws : List Name} {t : Tab} {r s : Checked} {place : ℕ} {d : Decision} → r ≡ s → Decides ws t s place d → Decides ws t r place d
 decides_as e d = rw e d
+
+pub index_place_object : (c m n : ℕ) → c ≡ 50 → m ≡ index_place c m n
+unfolding index_place test◌then◌else◌
+index_place_object c m n e = rw (eq-eqb c 50 e)
+
+pub index_place_index : (c m n : ℕ) → (c ≡ 50 → ⊥) → n ≡ index_place c m n
+unfolding index_place test◌then◌else◌
+index_place_index c m n d = rw (ne_eqb c 50 d)
 
 index_place_below : (c m n M : ℕ) → m < M → n < M → index_place c m n < M
 unfolding index_place test◌then◌else◌
@@ -148,23 +155,6 @@ module _ {bs : List ℕ} {c : Cursor} {t : Tab} {st : List ℕ} {sp : ℕ} {d : 
 
   second_is : {v : ℕ} → 1 < d.children → v ≡ get_or st (sp + 1) 0 → get_or (map (denote t) (take d.children (drop sp st))) 1 unknown ≡ denote t v
   second_is h e = types_at x.listed 1 h ∙ ap (denote t) (sym e)
-
-  -- what stands on the stack
-  pub unary_room : d.kind ≡ 22 → sp < 2048
-  unary_room k = omega (arith, (x.unary k).1, x.listed.inside, x.stack)
-
-  pub index_room : d.kind ≡ 31 → sp + 1 < 2048
-  index_room k = omega (arith, (x.index k).0, x.listed.inside, x.stack)
-
-  -- what the callees ask
-  pub unary_asks : {v : ℕ} → d.kind ≡ 22 → v ≡ get_or st sp 0 → (d.arg < 3) × Known t.cells v
-  unary_asks k e = ((x.unary k).0, known x.listed.wf (first_known (omega (arith, (x.unary k).1)) e))
-
-  pub index_asks : {v : ℕ} → d.kind ≡ 31 → v ≡ get_or st sp 0 → Known t.cells v
-  index_asks k e = known x.listed.wf (first_known (omega (arith, (x.index k).0)) e)
-
-  pub index_inside : d.kind ≡ 31 → c.at + 1 < node_count bs
-  index_inside k = omega (arith, (x.index k).1)
 
   -- what the node gives
   pub unary_decides : {v : ℕ} {e : Decision} (ws : List Name) → d.kind ≡ 22 → v ≡ get_or st sp 0 → OfOne t.cells (λ n. unary_rule n (unary_of d.arg)) v e

@@ -73,6 +73,7 @@ fn tuple_of(table: &mut [u16], counts: &mut Counts, stack: &Stack, sp: usize, n:
 // ---- what is decided, at its node
 
 // "50 the object; 46 to 49 the index".
+#[tactic(auto, using(crate::proofs::Deciding::index_place_object, crate::proofs::Deciding::index_place_index))]
 fn index_place(decision: Decision, object: usize, index: usize) -> usize
     ensures { result ≡ index_place (decision_code decision) object index }
 {

@@ -1,6 +1,6 @@
 -- One argument of a builtin, by its number or its kind.
 use mathlib.Core.Path.{◌≡◌, refl, sym, ap, ◌∙◌}
-use mathlib.Core.Bool.{Bool, true, false}
+use mathlib.Core.Bool.{true, false}
 use mathlib.Core.Logic.{◌⊎◌, inl, inr}
 use mathlib.Core.List.{List, [], ◌∷◌}
 use Prim.Native.Nat.{ℕ, ◌<◌, ◌≤◌}
@@ -27,24 +27,21 @@ unfolding maybe
 maybe_number w p i hp hi = rw (same_number w i p hi hp, same_unknown w i hi)
 
 module _ (p i c r : ℕ) where
-  pub expect_same : i ≡ p → Expected p i c r (Ok r)
+  pub expect_yes : (i ≡ p) ⊎ ((i ≡ p → ⊥) × (i ≡ 0)) → Expected p i c r (Ok r)
   unfolding when test◌then◌else◌ ◌or◌
-  expect_same e = record {
-    says = λ ws t n k w hi hp hr. accepts n r hr (rw (maybe_number w p i hp hi, eq-eqb i p e));
+  expect_yes e = record {
+    says = λ ws t n k w hi hp hr. accepts n r hr (rw (maybe_number w p i hp hi, agree e));
     codes = inl refl;
   }
+    where
+      agree : (i ≡ p) ⊎ ((i ≡ p → ⊥) × (i ≡ 0)) → (eqb i p or eqb i 0) ≡ true
+      agree (inl a) = rw (eq-eqb i p a)
+      agree (inr a) = rw (ne_eqb i p a.0, eq-eqb i 0 a.1)
 
-  pub expect_unknown : (i ≡ p → ⊥) → i ≡ 0 → Expected p i c r (Ok r)
+  pub expect_not : (i ≡ p → ⊥) × (i ≡ 0 → ⊥) → Expected p i c r (Err (because c i 0))
   unfolding when test◌then◌else◌ ◌or◌
-  expect_unknown d e = record {
-    says = λ ws t n k w hi hp hr. accepts n r hr (rw (maybe_number w p i hp hi, ne_eqb i p d, eq-eqb i 0 e));
-    codes = inl refl;
-  }
-
-  pub expect_not : (i ≡ p → ⊥) → (i ≡ 0 → ⊥) → Expected p i c r (Err (because c i 0))
-  unfolding when test◌then◌else◌ ◌or◌
-  expect_not d e = record {
-    says = λ ws t n k w hi hp hr. refuses_one n c i 0 k hi (rw (maybe_number w p i hp hi, ne_eqb i p d, ne_eqb i 0 e));
+  expect_not d = record {
+    says = λ ws t n k w hi hp hr. refuses_one n c i 0 k hi (rw (maybe_number w p i hp hi, ne_eqb i p d.0, ne_eqb i 0 d.1));
     codes = inr refl;
   }
 
@@ -119,16 +116,16 @@ module _ {cs : List ℕ} {i k : ℕ} (kind_is : KindOf cs i k) where
       → sized_rule n (denote t i) ≡ when (is_in k (0 ∷ 3 ∷ 8 ∷ 9 ∷ 10 ∷ [])) int 40 n (a_type (denote t i) ∷ [])
   sized_by t n s w h = rw (kind_is.says t s w h)
 
-  pub sized_yes : {q : Bool} → q ≡ is_in k (0 ∷ 3 ∷ 8 ∷ 9 ∷ 10 ∷ []) → q ≡ true → OfOne cs sized_rule i (Ok 1)
+  pub sized_yes : true ≡ is_in k (0 ∷ 3 ∷ 8 ∷ 9 ∷ 10 ∷ []) → OfOne cs sized_rule i (Ok 1)
   unfolding when test◌then◌else◌ plain
-  sized_yes e y = record {
+  sized_yes e = record {
     says = λ ws t n s w h.
         accepts n 1 (omega (arith, w.base))
-        (sized_by t n s w h ∙ rw (sym e ∙ y) (ap ok (sym (plain_number w 1 (omega arith)))));
+        (sized_by t n s w h ∙ rw (sym e) (ap ok (sym (plain_number w 1 (omega arith)))));
   }
 
-  pub sized_no : {q : Bool} → q ≡ is_in k (0 ∷ 3 ∷ 8 ∷ 9 ∷ 10 ∷ []) → q ≡ false → OfOne cs sized_rule i (Err (because 40 i 0))
+  pub sized_no : false ≡ is_in k (0 ∷ 3 ∷ 8 ∷ 9 ∷ 10 ∷ []) → OfOne cs sized_rule i (Err (because 40 i 0))
   unfolding when test◌then◌else◌
-  sized_no e y = record {
-    says = λ ws t n s w h. refuses_one n 40 i 0 names_sized h (sized_by t n s w h ∙ rw (sym e ∙ y));
+  sized_no e = record {
+    says = λ ws t n s w h. refuses_one n 40 i 0 names_sized h (sized_by t n s w h ∙ rw (sym e));
   }

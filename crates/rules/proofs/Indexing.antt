@@ -2,6 +2,7 @@
 use mathlib.Core.Path.{◌≡◌, refl, sym, ap, ◌∙◌}
 use mathlib.Core.Logic.{◌⊎◌, inl, inr}
 use mathlib.Core.List.{List, [], ◌∷◌}
+use mathlib.Core.Bool.{true}
 use Prim.Native.Nat.{ℕ, ◌<◌}
 use native.Mathlib.Omega.{arith}
 use borrow.Author.Tests.{eq-eqb, ne_eqb}
@@ -33,32 +34,24 @@ module _ (k i v : ℕ) where
       → (maybe (denote t k) (denote t i) or same (denote t k) unknown) ≡ (eqb i k or eqb i 0 or eqb k 0)
   key_by w hk hi = rw (maybe_number w k i hk hi, same_unknown w k hk)
 
-  pub key_same : i ≡ k → Keyed k i v (Ok v)
+  -- one of the three holds
+  pub key_yes : (i ≡ k) ⊎ (((i ≡ k → ⊥) × (i ≡ 0)) ⊎ ((i ≡ k → ⊥) × (i ≡ 0 → ⊥) × (k ≡ 0))) → Keyed k i v (Ok v)
   unfolding when test◌then◌else◌ ◌or◌
-  key_same e = record {
-    says = λ ws t n w hk hi hv. accepts n v hv (rw (key_by w hk hi, eq-eqb i k e));
+  key_yes e = record {
+    says = λ ws t n w hk hi hv. accepts n v hv (rw (key_by w hk hi, fits e));
     codes = inl refl;
   }
+    where
+      fits : (i ≡ k) ⊎ (((i ≡ k → ⊥) × (i ≡ 0)) ⊎ ((i ≡ k → ⊥) × (i ≡ 0 → ⊥) × (k ≡ 0))) → (eqb i k or eqb i 0 or eqb k 0) ≡ true
+      fits (inl a) = rw (eq-eqb i k a)
+      fits (inr (inl a)) = rw (ne_eqb i k a.0, eq-eqb i 0 a.1)
+      fits (inr (inr a)) = rw (ne_eqb i k a.0, ne_eqb i 0 a.1, eq-eqb k 0 a.2)
 
-  pub key_unknown : (i ≡ k → ⊥) → i ≡ 0 → Keyed k i v (Ok v)
+  pub key_not : (i ≡ k → ⊥) × (i ≡ 0 → ⊥) × (k ≡ 0 → ⊥) → Keyed k i v (Err (because 47 k i))
   unfolding when test◌then◌else◌ ◌or◌
-  key_unknown d e = record {
-    says = λ ws t n w hk hi hv. accepts n v hv (rw (key_by w hk hi, ne_eqb i k d, eq-eqb i 0 e));
-    codes = inl refl;
-  }
-
-  pub key_any : (i ≡ k → ⊥) → (i ≡ 0 → ⊥) → k ≡ 0 → Keyed k i v (Ok v)
-  unfolding when test◌then◌else◌ ◌or◌
-  key_any d f e = record {
-    says = λ ws t n w hk hi hv. accepts n v hv (rw (key_by w hk hi, ne_eqb i k d, ne_eqb i 0 f, eq-eqb k 0 e));
-    codes = inl refl;
-  }
-
-  pub key_not : (i ≡ k → ⊥) → (i ≡ 0 → ⊥) → (k ≡ 0 → ⊥) → Keyed k i v (Err (because 47 k i))
-  unfolding when test◌then◌else◌ ◌or◌
-  key_not d f e = record {
+  key_not d = record {
     says = λ ws t n w hk hi hv.
-        refuses_two n 47 k i names_key hk hi (rw (key_by w hk hi, ne_eqb i k d, ne_eqb i 0 f, ne_eqb k 0 e));
+        refuses_two n 47 k i names_key hk hi (rw (key_by w hk hi, ne_eqb i k d.0, ne_eqb i 0 d.1, ne_eqb k 0 d.2));
     codes = inr refl;
   }
 

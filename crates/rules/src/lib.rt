@@ -1,8 +1,7 @@
 // What one node of an expression decides, given the types of its children: the rules of T's tc_expr, without its walk.
-#![tactic(auto)]
+#![tactic(auto, using(types::proofs::Readers::known_room, crate::proofs::Operations::read_kind))]
 
-ghost use Rattle.std.specs.Prelude.{◌≡◌, [], ◌∷◌, ◌<◌, Err};
-ghost use Rattle.meaning.specs.Base.{is_in};
+ghost use Rattle.std.specs.Prelude.{◌≡◌, ◌<◌, Err};
 ghost use Rattle.meaning.specs.Decode.{unary_of, binary_of};
 ghost use Rattle.meaning.specs.Operators.{unary_rule, binary_rule};
 ghost use Rattle.types.specs.Table.{tab, capacity, denote, Made};
@@ -43,12 +42,12 @@ pub fn unary(table: &[u16], op: u32, i: usize) -> Decision
     requires known { Known table.now i }
     ensures { OfOne table.now (λ n. unary_rule n (unary_of op)) i result }
 {
-    let kind = kind_of(table, i);
-    let answer = unary_answer_of(op, kind as u32);
+    let answer = unary_answer_of(op, kind_of(table, i) as u32);
     if answer < COMPARE {
-        return Ok(answer as usize);
+        Ok(answer as usize)
+    } else {
+        refused(answer, i, 0)
     }
-    refused(answer, i, 0)
 }
 
 // COMPARE asks whether the whole types are equal: their numbers tell.
@@ -57,19 +56,20 @@ pub fn binary(table: &[u16], op: u32, left: usize, right: usize) -> Decision
     requires known { (Known table.now left) × (Known table.now right) }
     ensures { OfTwo table.now (λ n. binary_rule n (binary_of op)) left right result }
 {
-    let l = kind_of(table, left);
-    let r = kind_of(table, right);
-    let answer = answer_of(op, l as u32, r as u32);
+    let answer = answer_of(
+        op,
+        kind_of(table, left) as u32,
+        kind_of(table, right) as u32,
+    );
     if answer < COMPARE {
-        return Ok(answer as usize);
+        Ok(answer as usize)
+    } else if answer > COMPARE {
+        refused(answer, left, right)
+    } else if left == right {
+        Ok(types::BOOL)
+    } else {
+        refused(codes::EQUALITY, left, right)
     }
-    if answer > COMPARE {
-        return refused(answer, left, right);
-    }
-    if left == right {
-        return Ok(types::BOOL);
-    }
-    refused(codes::EQUALITY, left, right)
 }
 
 // ---- List and Dict
@@ -123,13 +123,11 @@ pub fn dict_step(so_far: Pair, next: Pair) -> Option<Pair>
 fn expect(wanted: usize, i: usize, code: u32, res: usize) -> Decision
     ensures { Expected wanted i code res result }
 {
-    if i == wanted {
-        return Ok(res);
+    if i == wanted || i == types::UNKNOWN {
+        Ok(res)
+    } else {
+        refused(code, i, 0)
     }
-    if i == types::UNKNOWN {
-        return Ok(res);
-    }
-    refused(code, i, 0)
 }
 
 // The one argument of `input`.
@@ -154,26 +152,15 @@ pub fn callable(a: usize, code: u32) -> Decision
     expect(types::FUNCTION, a, code, a)
 }
 
-// Unknown, String, List, Dict, Tuple.
-fn has_length(kind: usize) -> bool
-    ensures { result ≡ is_in kind (0 ∷ 3 ∷ 8 ∷ 9 ∷ 10 ∷ []) }
-{
-    match kind {
-        types::UNKNOWN | types::STRING | types::LIST | types::DICT | types::TUPLE => true,
-        _ => false,
-    }
-}
-
 // The first argument of `len`.
 pub fn len(table: &[u16], a: usize) -> Decision
     requires { a < capacity table.now }
     ensures { OfOne table.now sized_rule a result }
 {
-    let kind = kind_of(table, a);
-    if has_length(kind) {
-        return Ok(types::INT);
+    match kind_of(table, a) {
+        types::UNKNOWN | types::STRING | types::LIST | types::DICT | types::TUPLE => Ok(types::INT),
+        _ => refused(codes::LEN, a, 0),
     }
-    refused(codes::LEN, a, 0)
 }
 
 // ---- Index
@@ -182,24 +169,18 @@ pub fn len(table: &[u16], a: usize) -> Decision
 fn key(wanted: usize, i: usize, value: usize) -> Decision
     ensures { Keyed wanted i value result }
 {
-    if i == wanted {
-        return Ok(value);
+    if i == wanted || i == types::UNKNOWN || wanted == types::UNKNOWN {
+        Ok(value)
+    } else {
+        refused(codes::DICT_KEY, wanted, i)
     }
-    if i == types::UNKNOWN {
-        return Ok(value);
-    }
-    if wanted == types::UNKNOWN {
-        return Ok(value);
-    }
-    refused(codes::DICT_KEY, wanted, i)
 }
 
 pub fn index(table: &[u16], object: usize, index: usize) -> Decision
     requires { Known table.now object }
     ensures { Indexed table.now object index result }
 {
-    let kind = kind_of(table, object);
-    match kind {
+    match kind_of(table, object) {
         types::UNKNOWN => Ok(types::UNKNOWN),
         types::STRING => expect(types::INT, index, codes::STRING_INDEX, types::STRING),
         types::LIST => expect(types::INT, index, codes::LIST_INDEX, part_of(table, object)),
@@ -231,9 +212,10 @@ fn second_code(filters: bool) -> u32
     ensures { result ≡ second_code filters }
 {
     if filters {
-        return codes::FILTER_SECOND;
+        codes::FILTER_SECOND
+    } else {
+        codes::MAP_SECOND
     }
-    codes::MAP_SECOND
 }
 
 // The FilterIter of an element type, or the MapIter of Unknown.
@@ -246,15 +228,16 @@ fn iterator(table: &mut [u16], counts: Counts, filters: bool, element: usize) ->
         0 }
 {
     if filters {
-        return form(table, counts, types::FILTER_ITER, element, types::NO_PART);
+        form(table, counts, types::FILTER_ITER, element, types::NO_PART)
+    } else {
+        form(
+            table,
+            counts,
+            types::MAP_ITER,
+            types::UNKNOWN,
+            types::NO_PART,
+        )
     }
-    form(
-        table,
-        counts,
-        types::MAP_ITER,
-        types::UNKNOWN,
-        types::NO_PART,
-    )
 }
 
 // A decision, and the counts of the table that has its type.

@@ -23,9 +23,6 @@ use Rattle.state.specs.Answer.{Typed, noted, code_of, number_of, Settled, Settle
 pub code_well : {T : Type 0} {r : Result T Noted} {v : T} (ms : Notes) → r ≡ Ok v → code_of r ms ≡ 0
 code_well ms e = rw e
 
-pub code_ill : {T : Type 0} {ns ms : Notes} {r : Result T Noted} {e : Noted} → Kept ns ms (IsErr r) → r ≡ Err e → code_of r ms ≡ 0 → ⊥
-code_ill k e z = k.coded (rw e) (rw e at z)
-
 -- what an Err is: the exit of a `?` returns one
 pub is_noted : {T : Type 0} (r : Result T Noted) → IsErr r → r ≡ Err noted
 is_noted (Ok v) e = cc

@@ -71,8 +71,9 @@ impl Notes {
     }
 }
 
-// ---- what the walk carries besides: the types of children that wait for their parent's rule, at most one for each node
+// ---- what the walk carries
 
+// The types of children that wait for their parent's rule, at most one for each node.
 pub type Stack = [u16; MOST_NODES];
 
 #[derive(Drop)]

@@ -1,10 +1,5 @@
-use Rattle.types.proofs.Readers.{is_number}
 use Rattle.rules.proofs.Streaming.{asks_element, second_gives, second_refuses}
 use Rattle.rules.proofs.stream.Goals as goal
-
-pub streamed_of-requires : goal.streamed_of-requires
-streamed_of-requires c =
-    is_number c.requires.wf _ c.requires.below
 
 pub iterator-formed-requires : goal.iterator-formed-requires
 iterator-formed-requires c =
