@@ -11,12 +11,6 @@ use mathlib.Core.Path.{◌∙◌, ap, refl, sym}
 use native.Mathlib.Omega.{arith}
 use Rattle.stmt.proofs.simple.Goals as goal
 
-pub outside-requires : goal.outside-requires
-outside-requires c = λ z. omega arith
-
-pub outside-requires-in-2 : goal.outside-requires-in-2
-outside-requires-in-2 c = λ z. omega arith
-
 pub returns-in-1 : goal.returns-in-1
 returns-in-1 c = (
   λ setting. done_settled c.outside.ensures (simple_break _ c.requires.0 c.requires.1.0 setting (sym (ap (λ d. d.kind) c.next-read.ensures.node) ∙ c.in-1.is) refl),
