@@ -174,11 +174,6 @@ pub record Choosing (bs : List ℕ) (setting : Setting) (nodes : ℕ) (t : Tab) 
   pub answer : acted bs setting loop d i (state_of t fs top ret)
       ≡ branches (names_of bs) setting loop (i + 1) so_far (arms_from (nodes_of bs) (λ k. expr_at (nodes_of bs) d k) (λ k. block_at (nodes_of bs) d k) left j) (state (frames_of t fs top) (denote u got))
 
--- the same with an equal table and return type
-pub choosing_as : {bs : List ℕ} {setting : Setting} {nodes : ℕ} {t : Tab} {fs : Rows} {top ret i d : ℕ} {loop : Bool} {u v : Tab} {got had : ℕ} {su ms : List ℕ} {cs : List Bool} {j left : ℕ}
-    → v ≡ u → had ≡ got → Choosing bs setting nodes t fs top ret i d loop u got su ms cs j left → Choosing bs setting nodes t fs top ret i d loop v had su ms cs j left
-choosing_as o p l = rw (o, p) l
-
 first_condition_lem : (bs : List ℕ) (e : ℕ → Expr) (b : ℕ → Stmts) (n i : ℕ) → 1 < n → first_condition (arms_from (nodes_of bs) e b n i) ≡ place (e i)
 unfolding first_condition
 first_condition_lem bs e b n i p = rw (arms_down (nodes_of bs) e b n i p)

@@ -1,5 +1,6 @@
 -- How the parts of the walk end, and where the nodes of a sound image stand.
 use mathlib.Core.Path.{◌≡◌, refl, sym, ◌∙◌}
+use Rattle.std.specs.Prelude.{None}
 use mathlib.Core.Bool.{Bool, true, false}
 use mathlib.Core.List.{List, [], ◌∷◌}
 use mathlib.Core.Logic.{◌⊎◌, inl, inr}
@@ -9,7 +10,7 @@ use native.Mathlib.Decide.{ℕ_discrete}
 use native.Mathlib.Numerals.{add-one}
 use borrow.Author.Tests.{eqb-true, leb-true}
 use lib.Dec.{eqb}
-use Rattle.meaning.specs.Base.{◌or◌, test◌then◌else◌, choose, is_in}
+use Rattle.meaning.specs.Base.{test◌then◌else◌, choose}
 use Rattle.meaning.specs.Types.{Ty}
 use Rattle.meaning.specs.Tree.{Expr, place}
 use Rattle.meaning.specs.Image.{Name, name_count, node_count, nodes_from, nodes_of, node_of, depth, arg_below, count_stands}
@@ -17,7 +18,6 @@ use Rattle.meaning.specs.Decode.{stop_of, expr_at}
 use Rattle.meaning.specs.Message.{conflict}
 use Rattle.meaning.specs.Rules.{check}
 use Rattle.meaning.specs.Walk.{dropping, State, state, End, done, wrong, too_deep, typed, onward}
-use Rattle.meaning.proofs.Codes.{fair_judged, check_fair}
 use Rattle.meaning.proofs.Faults.{Sound, sizes}
 use Rattle.meaning.proofs.Nesting.{Nested, sound_nested, nodes_many, node_stands_lem, child, children, children_le, children_end, deeper}
 use Rattle.meaning.proofs.Choices.{if_le}
@@ -35,7 +35,8 @@ use Rattle.expr.specs.Contract.{Done as Typed}
 use Rattle.expr.proofs.Rows.{many}
 use Rattle.state.specs.Notes.{Places, places}
 use Rattle.targets.specs.Ending.{first_at, ended, Named, Left}
-use Rattle.targets.proofs.Endings.{ended_well, ended_deep, ended_wrong, ended_alone, left_then, left_wider}
+use Rattle.targets.proofs.Singles.{typing_code, only_checked}
+use Rattle.targets.proofs.Endings.{named_none as well_named, ended_well, ended_deep, ended_wrong, ended_alone, left_then, left_wider}
 use Rattle.stmt.specs.Contract.{state_of, setting_if, Stmt, Pair, Within, Fine, Deep, Done}
 
 -- ---- the setting: code that is told whether it is plain drops exactly if it is
@@ -88,15 +89,7 @@ named_none code place e p = record {
 
 -- code 0 whatever the rest
 pub named_well : {u : Tab} {M : ℕ} {place : Places} {a b : ℕ} → Named u M 0 place a b
-unfolding types_named is_in test◌then◌else◌ ◌or◌
-named_well =
-    let e : types_named 0 ≡ 0 = refl in
-    record {
-      first = λ l. absurd (omega arith);
-      second = λ l. absurd (omega arith);
-      small = λ z y. absurd (z refl);
-      placed = λ z. absurd (z refl);
-    }
+named_well = well_named refl
 
 -- ---- what is asked and what is left go on from node to node
 
@@ -187,24 +180,14 @@ ready_next r l h = record {
 
 module _ {ws : List Name} {t u : Tab} {fs : Rows} {top : ℕ} {st su : List ℕ} {i e M code place' number a b : ℕ} (x : Expr) (f : Fit t fs top)
     (d : Typed ws (check ws (frames_of t fs top) x) t u st su 0 i e M code place' number a b) where
-  -- its refusal has a code of an expression
-  judged : (code ≡ 0 → ⊥) → 29 ≤ code
-  judged z = (fair_judged (rw (d.told.ill z) at (check_fair ws (frames_of t fs top) x))).above
-
   pub typing : code ≡ 9 → ⊥
-  typing z = absurd (omega (arith, judged (λ o. omega arith)))
+  typing = (only_checked x None f d).typing
 
   pub check_left : Left t u fs top su i e
-  check_left = record {
-    grown = d.fine.grown;
-    fit = fit_grown d.fine.grown.more f;
-    stack = d.fine.stack;
-    types_spent = d.fine.types_spent;
-    elements_spent = omega (arith, d.fine.elements_spent);
-  }
+  check_left = (only_checked x None f d).left
 
   pub check_named : {m : First} → Named u M code (places place' m) a b
-  check_named = record { first = d.told.first; second = d.told.second; small = d.told.small; placed = d.told.placed }
+  check_named {m} = (only_checked x m f d).named
 
   pub check_well : code ≡ 0 → (s : State) (k : Ty → End) → typed (check ws (frames_of t fs top) x) s k ≡ k (denote u number)
   unfolding typed
@@ -215,7 +198,7 @@ module _ {ws : List Name} {t u : Tab} {fs : Rows} {top : ℕ} {st su : List ℕ}
       → typed (check ws (frames_of t fs top) x) (state (frames_of t fs top) y) k ≡ ended ws u fs top y code (places place' m) a b
   unfolding typed
   check_ill m z y k =
-      let j = judged z in
+      let j = typing_code x None f d z in
       rw (d.told.ill z, ← (frames_grown d.fine.grown f))
       (sym (ended_alone ws u fs top y code (places place' m) a b z typing (λ q. omega arith, λ q. omega arith)))
 

@@ -1,7 +1,7 @@
 // The walk over the statements: T's tc_stmt and typecheck_program.
 // A statement that cannot need a frame answers `state::Outcome`, and one that can `End`; what was refused, and where,
 // is noted. The notes also have the counts of the table, the return type so far and the newest frame's row.
-// There is one walk for both settings of document 02: `plain` goes with every statement, and where it is false, the
+// There is one walk for both settings of document 02: `How` goes with every statement, and where it is not plain, the
 // setting is strict.
 #![tactic(auto)]
 

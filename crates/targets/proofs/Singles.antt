@@ -73,7 +73,8 @@ assigned_as h a = record { says = λ y. h y ∙ a.says y; named = a.named; left 
 
 module _ {ws : List Name} {t u : Tab} {fs : Rows} {top : ℕ} {st su : List ℕ} {i s M code place number a b : ℕ} (e : Expr) (m : First) (f : Fit t fs top)
     (d : Done ws (check ws (frames_of t fs top) e) t u st su 0 i s M code place number a b) where
-  typing_code : (code ≡ 0 → ⊥) → 29 ≤ code
+  -- its refusal has a code of an expression
+  pub typing_code : (code ≡ 0 → ⊥) → 29 ≤ code
   typing_code z = (fair_judged (rw (d.told.ill z) at (check_fair ws (frames_of t fs top) e))).above
 
   only_says : (y : Ty) → checked ws e (state (frames_of t fs top) y) (λ v. done (state (frames_of t fs top) y)) ≡ ended ws u fs top y code (places place m) a b

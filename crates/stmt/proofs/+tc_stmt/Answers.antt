@@ -1,7 +1,7 @@
 use Rattle.std.specs.Prelude.{None, Err}
 use Rattle.stmt.proofs.Laws.{done_any, drops_if, few_nodes, pair_for, pair_while, ready_nodes, second_of}
 use Rattle.stmt.proofs.Cells.{armed_from, assigned_ok, body_from, done_ends, done_noted, done_refused, end_other, end_shallow, end_well, iterated_ok, refused_at, standing_as, standing_nodes, stmt_at_lem, stopped, tells_kept, tells_ok, tells_refused}
-use Rattle.stmt.proofs.Bodies.{bodiless, loop_at, loop_begin, loop_deep, loop_end, loop_next, loop_standing, loop_wrong, stmt_done, stmt_here}
+use Rattle.stmt.proofs.Bodies.{loop_at, loop_begin, loop_deep, loop_end, loop_next, loop_standing, loop_wrong, stmt_done, stmt_here}
 use Rattle.stmt.proofs.Branching.{arm_bad, arm_done, arm_last, choosing_begin, choosing_branch, choosing_end, choosing_next, choosing_out, choosing_standing, first_place, last_standing, when_at, when_ready, when_standing}
 use Rattle.stmt.proofs.Compound.{def_at_block, def_bad, def_deep, def_done, def_params, def_some, def_standing, first_ready, for_bad, for_done, for_name, for_small, for_standing, second_at, second_standing, while_bad, while_done}
 use Rattle.image.proofs.Moving.{parent_of, stops}
@@ -22,23 +22,6 @@ tc_stmt-overflow_sub-d t c = let h = shallow c.requires.0.ready.sound c.requires
 pub tc_stmt-choices-requires : goal.tc_stmt-choices-requires
 tc_stmt-choices-requires t c =
     (omega (arith, c.decreases, shallow c.requires.0.ready.sound c.requires.1), (c.requires.0, stmt_here c.requires.0.ready.sound c.requires.1 (sym c.in-8.is ∙ (ap (λ d. d.kind) c.next.ensures.node))))
-
-pub tc_stmt-repeat-requires : goal.tc_stmt-repeat-requires
-tc_stmt-repeat-requires t c =
-    (omega (arith, c.decreases, shallow c.requires.0.ready.sound c.requires.1), (c.requires.0, stmt_here c.requires.0.ready.sound c.requires.1 (sym c.in-9.is ∙ (ap (λ d. d.kind) c.next.ensures.node))))
-
-pub tc_stmt-each-requires : goal.tc_stmt-each-requires
-tc_stmt-each-requires t c =
-    (omega (arith, c.decreases, shallow c.requires.0.ready.sound c.requires.1), (c.requires.0, stmt_here c.requires.0.ready.sound c.requires.1 (sym c.in-10.is ∙ (ap (λ d. d.kind) c.next.ensures.node))))
-
-pub tc_stmt-define-requires : goal.tc_stmt-define-requires
-tc_stmt-define-requires t c =
-    (omega (arith, c.decreases, shallow c.requires.0.ready.sound c.requires.1), (c.requires.0, stmt_here c.requires.0.ready.sound c.requires.1 (sym c.in-11.is ∙ (ap (λ d. d.kind) c.next.ensures.node))))
-
-pub tc_stmt-simple-requires : goal.tc_stmt-simple-requires
-tc_stmt-simple-requires t c =
-    let h = ap (λ d. d.kind) c.next.ensures.node in
-    (c.requires.0, (stmt_here c.requires.0.ready.sound c.requires.1 refl, bodiless (λ e. grind arith) (λ e. grind arith) (λ e. grind arith) (λ e. grind arith)))
 
 pub tc_stmt-returns-in-8 : goal.tc_stmt-returns-in-8
 tc_stmt-returns-in-8 t c = (stmt_done c.requires.0.ready.sound c.requires.1 _ _ _ c.choices.ensures.0, c.choices.ensures.1)
@@ -133,11 +116,6 @@ pub choices-after_arm-next-requires : goal.choices-after_arm-next-requires
 choices-after_arm-next-requires t c =
     let b = choosing_branch c.loop-k.invariant.0 (omega arith) in
     (c.requires.0.ready.sound.headed, (record { nodes = c.loop-k.invariant.2; within = b.first.there }, b.block.there))
-
-pub choices-note_branch-requires-clause-top_lt_most_frames : goal.choices-note_branch-requires-clause-top_lt_most_frames
-choices-note_branch-requires-clause-top_lt_most_frames t c =
-    let d = rw c.in_ok-end.was at c.one_arm-end.ensures in
-    (c.loop-k.invariant.0.spent.fit.high, (d.0.fine (λ z. omega arith)).left.fit.high)
 
 pub choices-loop-k-preserved : goal.choices-loop-k-preserved
 choices-loop-k-preserved t c =

@@ -1,7 +1,6 @@
 use Rattle.state.proofs.Noting.{is_noted, kept_ok, kept_trans, refused_kept}
 use Rattle.stmt.proofs.Cells.{checks_ok, iterated_refused}
 use Rattle.stmt.proofs.Compound.{elements_bad, elements_done, elements_none}
-use Rattle.types.proofs.Readers.{is_number}
 use mathlib.Core.Path.{refl}
 use native.Mathlib.Omega.{arith}
 use Rattle.stmt.proofs.elements.Goals as goal
@@ -10,11 +9,6 @@ pub returns-in_err-ty : goal.returns-in_err-ty
 returns-in_err-ty c =
     let d = rw c.in_err-ty.was at c.tc_expr.ensures in
     rw (is_noted _ c.from_residual.ensures.0) (elements_bad c.requires.0 c.requires.1 d.0 (d.1.coded refl), d.1)
-
-pub element_of-requires : goal.element_of-requires
-element_of-requires c =
-    let d = checks_ok _ c.in_ok-ty.was c.tc_expr.ensures.0 in
-    is_number d.fine.grown.wf _ (d.below refl)
 
 pub returns-in-Some : goal.returns-in-Some
 returns-in-Some c =
