@@ -127,8 +127,8 @@ module _ {cs : List ℕ} {ms : Marks} {i : ℕ} (m : Met cs ms i) where
           let mb = b.says tt₀ refl m.marked.wf m.below not_tuple in
           rw (ne_eqb _ _ not_tuple, piece 0, piece 1, own_kind, part_number 0 ma.below ma.means x, part_number 1 mb.below mb.means y)
 
-      pub part_small : {r s : ℕ} → PartOf cs s i r → r < most_numbers
-      part_small a = omega (arith, (a.says tt₀ refl m.marked.wf m.below not_tuple).below, m.marked.wf.room, m.marked.wf.most)
+      pub part_small : {r s : ℕ} → PartOf cs s i r → r < length ms.numbers.now
+      part_small a = omega (arith, (a.says tt₀ refl m.marked.wf m.below not_tuple).below, m.marked.wf.room, m.marked.wf.most, m.marked.numbers_long)
 
   pub count_small : {q : ℕ} → PartsOf cs i q → q < 4294967296
   count_small p = omega (arith, p.says tt₀ refl m.marked.wf m.below, parts_few m.marked.wf i m.below)
@@ -245,8 +245,8 @@ module _ {cs : List ℕ} {ms : Marks} {i : ℕ} {old : List ℕ} {at n j : ℕ} 
   pub parts_place : j < n → HasPart cs i j
   parts_place h = has_part l.met.marked.wf i l.met.below (within_parts h)
 
-  pub parts_small : {r : ℕ} → j < n → PartAt cs i j r → r < most_numbers
-  parts_small h p = omega (arith, p.lower t₁ refl l.met.marked.wf l.met.below (within_parts h), met_small l.met)
+  pub parts_small : {r : ℕ} → j < n → PartAt cs i j r → r < length ms.numbers.now
+  parts_small h p = omega (arith, p.lower t₁ refl l.met.marked.wf l.met.below (within_parts h), met_small l.met, l.met.marked.numbers_long)
 
   pub parts_room : j < n → at + 4 * j + 4 ≤ length out
   parts_room h = omega (arith, l.room, l.long)
@@ -339,12 +339,12 @@ module _ {cs : List ℕ} {ms : Marks} {old : List ℕ} {from n k at : ℕ} {out 
 -- ---- the name records
 
 pub record NamesLoop (ms : Marks) (ns : List ListedName) (old : List ℕ) (at k from : ℕ) (out : List ℕ) : Type 0 where
-  pub fit : NamesFit ns old at
+  pub fit : NamesFit ms ns old at
   pub small : from ≤ longest_name * k
   pub long : length out ≡ length old
   pub left : (t : Tab) → Named t ms ns → put_at out (at + 12 * k) (words (laid (listed_records (types_in t ms) t (drop k ns) from))) ≡ put_at old at (names_bytes t ms ns)
 
-pub names_first : {ms : Marks} {ns : List ListedName} {out : List ℕ} {at : ℕ} → NamesFit ns out at → NamesLoop ms ns out at 0 0 out
+pub names_first : {ms : Marks} {ns : List ListedName} {out : List ℕ} {at : ℕ} → NamesFit ms ns out at → NamesLoop ms ns out at 0 0 out
 names_first {at = at} f =
     let z : at + 12 * 0 ≡ at = omega arith in
     record { fit = f; small = omega arith; long = refl; left = λ t m. rw z }
@@ -356,7 +356,7 @@ module _ {ms : Marks} {ns : List ListedName} {old : List ℕ} {at k from : ℕ} 
   pub names_small : {w : ℕ} → w < 4294967296 → (from < 4294967296) × (length_at ns k < 4294967296) × (w < 4294967296)
   names_small b = (omega (arith, l.small, l.fit.short.few), omega (arith, l.fit.short.short k h), b)
 
-  pub names_known : type_at ns k < most_numbers
+  pub names_known : type_at ns k < length ms.numbers.now
   names_known = l.fit.known k h
 
   pub names_sum : from + length_at ns k ≤ most_text

@@ -42,14 +42,14 @@ in_count f a (suc n) x h l = elim (ℕ_discrete x a) [
 
 module _ {t : Tab} {ms : Marks} (m : Marked t ms) where
   order_length : length (order_in ms) ≡ ms.met
-  order_length = length-take-le ms.met ms.order (omega (arith, m.few, m.order_long))
+  order_length = length-take-le ms.met ms.order.now (omega (arith, m.few, m.order_long))
 
   pub types_length : length (types_in t ms) ≡ ms.met
   unfolding types_in
   types_length = length-map (order_in ms) (denote t) ∙ order_length
 
   order_at : (k : ℕ) → k < ms.met → get_or (order_in ms) k 0 ≡ type_met ms k
-  order_at k h = get_or-take ms.met ms.order k 0 h
+  order_at k h = get_or-take ms.met ms.order.now k 0 h
 
   pub type_at_lem : (k : ℕ) → k < ms.met → get_or (types_in t ms) k unknown ≡ denote t (type_met ms k)
   unfolding types_in
@@ -73,15 +73,15 @@ own_tab m = rw (m.types, m.elements)
 -- ---- one more type
 
 abbrev added : Marks → ℕ → Marks
-added ms i = record ms { numbers = set ms.numbers i (8 + ms.met); order = set ms.order ms.met i; met = ms.met + 1 }
+added ms i = record ms { numbers = record ms.numbers { now = set ms.numbers.now i (8 + ms.met) }; order = record ms.order { now = set ms.order.now ms.met i }; met = ms.met + 1 }
 
 module _ (ms : Marks) (i : ℕ) where
   added_other : (x : ℕ) → (x ≡ i → ⊥) → number_at (added ms i) x ≡ number_at ms x
-  added_other x n = get_or-set_other ms.numbers i x _ 0 n
+  added_other x n = get_or-set_other ms.numbers.now i x _ 0 n
 
-  added_types : (t : Tab) → ms.met < length ms.order → types_in t (added ms i) ≡ types_in t ms ++ (denote t i ∷ [])
+  added_types : (t : Tab) → ms.met < length ms.order.now → types_in t (added ms i) ≡ types_in t ms ++ (denote t i ∷ [])
   unfolding types_in
-  added_types t room = rw (add-one ms.met, take-suc-set ms.order ms.met i room) (map-append (denote t) (order_in ms) (i ∷ []))
+  added_types t room = rw (add-one ms.met, take-suc-set ms.order.now ms.met i room) (map-append (denote t) (order_in ms) (i ∷ []))
 
 module _ (t : Tab) (ms : Marks) (i : ℕ) (m : Marked t ms) (below : i < t.n) (high : 8 ≤ i) where
   abbrev us : List Ty
@@ -110,21 +110,21 @@ module _ (t : Tab) (ms : Marks) (i : ℕ) (m : Marked t ms) (below : i < t.n) (h
 
   add_marked : number_at ms i ≡ 1 → Ordered [] (us ++ (ty ∷ [])) → Marked t (added ms i)
   add_marked z o =
-      let room : ms.met < length ms.order = omega (arith, room_of o, m.order_long) in
+      let room : ms.met < length ms.order.now = omega (arith, room_of o, m.order_long) in
       let e = added_types ms i t room in
       let new = m.fresh i below z in
       let other = added_other ms i in
-      let own : number_at (added ms i) i ≡ 8 + ms.met = get_or-set_same ms.numbers i _ 0 (omega (arith, m.numbers_long, m.wf.room, m.wf.most)) in
+      let own : number_at (added ms i) i ≡ 8 + ms.met = get_or-set_same ms.numbers.now i _ 0 (omega (arith, m.numbers_long, m.wf.room, m.wf.most)) in
       record {
         wf = m.wf;
         types = m.types;
         elements = m.elements;
-        numbers_long = length-set ms.numbers i _ ∙ m.numbers_long;
-        order_long = length-set ms.order ms.met i ∙ m.order_long;
+        numbers_long = length-set ms.numbers.now i _ ∙ m.numbers_long;
+        order_long = length-set ms.order.now ms.met i ∙ m.order_long;
         few = omega (arith, m.order_long);
         within = λ y h. elim (ℕ_discrete y ms.met) [
-          | yes a ↦ rw (a, get_or-set_same ms.order ms.met i 0 room) (high, below)
-          | no a ↦ rw (get_or-set_other ms.order ms.met y i 0 a) (m.within y (omega arith))
+          | yes a ↦ rw (a, get_or-set_same ms.order.now ms.met i 0 room) (high, below)
+          | no a ↦ rw (get_or-set_other ms.order.now ms.met y i 0 a) (m.within y (omega arith))
         ];
         ordered = rw e o;
         known = λ x h n. rw e (elim (ℕ_discrete x i) [
@@ -156,7 +156,7 @@ module _ (t : Tab) (ms : Marks) (i : ℕ) (m : Marked t ms) (below : i < t.n) (h
     fresh_ordered z = subst (Ordered []) (add_fresh ty us (m.fresh i below z)) o
 
     pub completing : Completing ms i
-    completing = record { number = omega (arith, m.wf.room, m.wf.most); few = m.few; room = λ z. room_of (fresh_ordered z) }
+    completing = record { numbers_long = m.numbers_long; order_long = m.order_long; number = omega (arith, m.wf.room, m.wf.most); room = λ z. room_of (fresh_ordered z) }
 
     -- one more type has a number, and no other's mark changes
     pub completed_count : number_at ms i ≡ 1 → (completed ms i).met ≡ ms.met + 1

@@ -95,13 +95,16 @@ module _ {cs : List ℕ} {ms : Marks} {ops : List Open} {d k : ℕ} (s : Steppin
           there_open : PartAt cs (open_type ops k) (next_part ops k) p
           there_open = rw (ei, ej) at there
 
-          pub step_part : p < most_numbers
-          step_part = omega (arith, part_below inner some there_open, top_below inner, inner.marked.wf.room, inner.marked.wf.most)
+          step_small : p < most_numbers
+          step_small = omega (arith, part_below inner some there_open, top_below inner, inner.marked.wf.room, inner.marked.wf.most)
+
+          pub step_part : p < length ms.numbers.now
+          step_part = omega (arith, step_small, inner.marked.numbers_long)
 
           pub step_begins : {r : Bool} → New ms p r → r ≡ true → (d < length ops) × (p < most_numbers)
           step_begins new e =
               let h = new.yes e in
-              (rw one_more (begun_there inner some there_open h.0 h.1), step_part)
+              (rw one_more (begun_there inner some there_open h.0 h.1), step_small)
 
           pub step_begun : {r : Bool} {new : List Open} → New ms p r → r ≡ true → new ≡ begun_at ops d p → Stepped cs ms ms ops new d (d + 1)
           step_begun is e en =
@@ -127,8 +130,11 @@ module _ {cs : List ℕ} {ms : Marks} {ops : List Open} {d k : ℕ} (s : Steppin
 -- ---- the walk
 
 module _ {cs : List ℕ} {ms : Marks} {ops : List Open} {i : ℕ} (v : Visiting cs ms ops i) where
-  pub visit_number : i < most_numbers
-  visit_number = number_small v.marked.wf i v.below
+  visit_small : i < most_numbers
+  visit_small = number_small v.marked.wf i v.below
+
+  pub visit_number : i < length ms.numbers.now
+  visit_number = omega (arith, visit_small, v.marked.numbers_long)
 
   pub visit_nothing : {r : Bool} → New ms i r → r ≡ false → Visited cs ms ms i
   visit_nothing n e = record {
@@ -137,7 +143,7 @@ module _ {cs : List ℕ} {ms : Marks} {ops : List Open} {i : ℕ} (v : Visiting 
   }
 
   pub visit_begins : {r : Bool} → New ms i r → r ≡ true → (0 < length ops) × (i < most_numbers)
-  visit_begins n e = (omega (arith, (n.yes e).0, v.below, v.open_room.room), visit_number)
+  visit_begins n e = (omega (arith, (n.yes e).0, v.below, v.open_room.room), visit_small)
 
 -- from the visited type on, d types are open
 pub record Walking (cs : List ℕ) (ms : Marks) (ops : List Open) (i : ℕ) (ns : Marks) (new : List Open) (d : ℕ) : Type 0 where

@@ -86,30 +86,35 @@ module _ (source : List ℕ) (t : Tab) where
 
 -- ---- before the walk
 
-abbrev pub unmarked : Counts → Marks
-unmarked n = record { numbers = replicate most_numbers 1; order = replicate most_types 1; met = 0; counts = n }
+-- no type has a number, and the table has the counts n
+pub record Unmarked (ms : Marks) (n : Counts) : Type 0 where
+  pub numbers : ms.numbers.now ≡ replicate most_numbers 1
+  pub order_long : length ms.order.now ≡ most_types
+  pub none : ms.met ≡ 0
+  pub counts : ms.counts ≡ n
 
-none_met : (t : Tab) (n : Counts) → types_in t (unmarked n) ≡ []
-unfolding types_in
-none_met t n = refl
+module _ {ms : Marks} {n : Counts} (u : Unmarked ms n) where
+  none_met : (t : Tab) → types_in t ms ≡ []
+  unfolding types_in
+  none_met t = rw u.none
 
-begun : (cs : List ℕ) (n : Counts) → Wf (tab cs n.types n.elements) → Marked (tab cs n.types n.elements) (unmarked n)
-begun cs n w =
-    let t = tab cs n.types n.elements in
-    let unmet : (i : ℕ) → i < t.n → number_at (unmarked n) i ≡ 1 = λ i h. get_or-replicate most_numbers i 1 0 (omega (arith, w.room, w.most)) in
-    record {
-      wf = w;
-      types = refl;
-      elements = refl;
-      numbers_long = length-replicate {A = ℕ} most_numbers 1;
-      order_long = length-replicate {A = ℕ} most_types 1;
-      few = omega arith;
-      within = λ k h. absurd (omega arith);
-      ordered = rw (none_met t n) tt;
-      known = λ i h o. absurd (o (unmet i h));
-      number = λ i h o. absurd (o (unmet i h));
-      fresh = λ i h z m. Memᴰ.not-nil (rw (none_met t n) at m);
-    }
+  begun : (cs : List ℕ) → Wf (tab cs n.types n.elements) → Marked (tab cs n.types n.elements) ms
+  begun cs w =
+      let t = tab cs n.types n.elements in
+      let unmet : (i : ℕ) → i < t.n → number_at ms i ≡ 1 = λ i h. rw u.numbers (get_or-replicate most_numbers i 1 0 (omega (arith, w.room, w.most))) in
+      record {
+        wf = w;
+        types = ap (λ (c : Counts). c.types) u.counts;
+        elements = ap (λ (c : Counts). c.elements) u.counts;
+        numbers_long = ap length u.numbers ∙ length-replicate {A = ℕ} most_numbers 1;
+        order_long = u.order_long;
+        few = omega (arith, u.none);
+        within = λ k h. absurd (omega (arith, u.none));
+        ordered = rw (none_met t) tt;
+        known = λ i h o. absurd (o (unmet i h));
+        number = λ i h o. absurd (o (unmet i h));
+        fresh = λ i h z m. Memᴰ.not-nil (rw (none_met t) at m);
+      }
 
 -- ---- the areas end to end
 
@@ -146,10 +151,10 @@ module _ {source cs : List ℕ} {ms : Marks} {ns : List ListedName} {a : Areas} 
     member = λ k h g. subst (Memᴰ (denote t (type_at ns k))) (sym f.types_are) ((types_met es [] tt).known (denote t (type_at ns k)) (member_listed source t ns k h) g);
   }
 
-  pub names_fit : {o : List ℕ} → length o ≡ length out → NamesFit ns o (40 + 12 * a.types + 4 * a.elements)
+  pub names_fit : {o : List ℕ} → length o ≡ length out → NamesFit ms ns o (40 + 12 * a.types + 4 * a.elements)
   names_fit l = record {
     short = short;
-    known = λ k h. omega (arith, f.listing.known k h, f.marked.wf.room, f.marked.wf.most);
+    known = λ k h. omega (arith, f.listing.known k h, f.marked.wf.room, f.marked.wf.most, f.marked.numbers_long);
     room = omega (arith, f.room);
   }
 
@@ -222,8 +227,7 @@ pub record Walked (source : List ℕ) (t : Tab) (cells : List ListedName) (n : �
   pub marked : Marked t ms
   pub types_are : types_in t ms ≡ types_of (map (entry_of source t) (take n cells)) []
 
--- the marks before the walk are unmarked
-module _ {source cs : List ℕ} {cells : List ListedName} {n : ℕ} (m : Counts) (l : Listing source (tab cs m.types m.elements) cells n) (long : length cells ≡ most_names) where
+module _ {source cs : List ℕ} {cells : List ListedName} {n : ℕ} {m : Counts} (l : Listing source (tab cs m.types m.elements) cells n) (long : length cells ≡ most_names) {first : Marks} (un : Unmarked first m) where
   abbrev firsts : List ListedName
   firsts = take n cells
 
@@ -242,18 +246,27 @@ module _ {source cs : List ℕ} {cells : List ListedName} {n : ℕ} (m : Counts)
     known = λ k h. subst (λ (r : ListedName). r.ty < m.types) (sym (first_is k h)) (l.known k (omega (arith, many)));
   }
 
-  pub meeting : Meeting cs (unmarked m) firsts
-  meeting = record { marked = begun cs m l.wf; known = first_listing.known }
+  first_marked : Marked (tab cs m.types m.elements) first
+  first_marked = begun un cs l.wf
 
-  pub walked : {ms : Marks} → MetAll cs (unmarked m) ms firsts → Walked source (tab cs m.types m.elements) cells n ms
-  walked a =
+  pub meeting : Meeting cs first firsts
+  meeting = record {
+    marked = subst (λ u. Marked u first) (sym (own_tab first_marked)) first_marked;
+    known = λ k h. omega (arith, first_listing.known k h, first_marked.types);
+  }
+
+  pub walked : {ms : Marks} → MetAll cs first ms firsts → Walked source (tab cs m.types m.elements) cells n ms
+  walked {ms} a =
       let t = tab cs m.types m.elements in
+      let own : tab_of cs first ≡ t = own_tab first_marked in
       record {
         many = many;
         same = listed_first source t cells n (omega (arith, l.few));
         listing = first_listing;
-        marked = a.marked;
-        types_are = a.met_is ∙ ap (met_each (listed_types t firsts)) (none_met t m) ∙ types_listed source t firsts [];
+        marked = subst (λ u. Marked u ms) own a.marked;
+        types_are =
+            subst (λ u. types_in u ms ≡ met_each (listed_types u firsts) (types_in u first)) own a.met_is
+            ∙ ap (met_each (listed_types t firsts)) (none_met un t) ∙ types_listed source t firsts [];
       }
 
 module _ {source cs : List ℕ} {cells : List ListedName} {ms : Marks} {N M n : ℕ} (w : Walked source (tab cs N M) cells n ms) where

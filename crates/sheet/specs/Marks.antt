@@ -14,14 +14,14 @@ use Rattle.sheet.specs.declared.writer.Marks.{Marks}
 
 -- the number in the sheet of type i of the table, or 1
 abbrev pub number_at : Marks → ℕ → ℕ
-number_at ms i = get_or ms.numbers i 0
+number_at ms i = get_or ms.numbers.now i 0
 
 -- the table's number of type k of the sheet
 abbrev pub type_met : Marks → ℕ → ℕ
-type_met ms k = get_or ms.order k 0
+type_met ms k = get_or ms.order.now k 0
 
 abbrev pub order_in : Marks → List ℕ
-order_in ms = take ms.met ms.order
+order_in ms = take ms.met ms.order.now
 
 -- the table that the marks are made for
 abbrev pub tab_of : List ℕ → Marks → Tab
@@ -35,8 +35,8 @@ pub record Marked (t : Tab) (ms : Marks) : Type 0 where
   pub wf : Wf t
   pub types : ms.counts.types ≡ t.n
   pub elements : ms.counts.elements ≡ t.m
-  pub numbers_long : length ms.numbers ≡ most_numbers
-  pub order_long : length ms.order ≡ most_types
+  pub numbers_long : length ms.numbers.now ≡ most_numbers
+  pub order_long : length ms.order.now ≡ most_types
   pub few : ms.met ≤ most_types
   pub within : (k : ℕ) → k < ms.met → (8 ≤ type_met ms k) × (type_met ms k < t.n)
   pub ordered : Ordered [] (types_in t ms)
@@ -48,12 +48,17 @@ pub record Marked (t : Tab) (ms : Marks) : Type 0 where
 unfoldable pub completed : Marks → ℕ → Marks
 completed ms i =
     test eqb (number_at ms i) 1
-    then record ms { numbers = set ms.numbers i (8 + ms.met); order = set ms.order ms.met i; met = ms.met + 1 }
+    then record ms {
+      numbers = record ms.numbers { now = set ms.numbers.now i (8 + ms.met) };
+      order = record ms.order { now = set ms.order.now ms.met i };
+      met = ms.met + 1;
+    }
     else ms
 
 pub record Completing (ms : Marks) (i : ℕ) : Type 0 where
+  pub numbers_long : length ms.numbers.now ≡ most_numbers
+  pub order_long : length ms.order.now ≡ most_types
   pub number : i < most_numbers
-  pub few : ms.met ≤ most_types
   pub room : number_at ms i ≡ 1 → ms.met < most_types
 
 -- ---- the walk

@@ -93,9 +93,9 @@ pub record Named (t : Tab) (ms : Marks) (ns : List ListedName) : Type 0 where
   pub known : (k : ℕ) → k < length ns → type_at ns k < t.n
   pub member : (k : ℕ) → k < length ns → 8 ≤ kind (denote t (type_at ns k)) → Memᴰ (denote t (type_at ns k)) (types_in t ms)
 
-pub record NamesFit (ns : List ListedName) (out : List ℕ) (at : ℕ) : Type 0 where
+pub record NamesFit (ms : Marks) (ns : List ListedName) (out : List ℕ) (at : ℕ) : Type 0 where
   pub short : Short ns
-  pub known : (k : ℕ) → k < length ns → type_at ns k < most_numbers
+  pub known : (k : ℕ) → k < length ns → type_at ns k < length ms.numbers.now
   pub room : at + 12 * length ns ≤ length out
 
 -- whatever the table that the marks are made for

@@ -34,6 +34,14 @@ pub struct ReadSheet {
     pub names: usize,
 }
 
+// Bytes that may be a sheet, with what their header says.
+#[derive(Clone, Copy)]
+struct Sheet<'a> {
+    bytes: &'a [u8],
+    areas: Areas,
+    ghost headed: { Headed bytes.now areas },
+}
+
 // The type of one record: its number, how many elements were read by then, and the counts of the table that has it.
 #[derive(Clone, Copy)]
 struct Typed {
@@ -158,24 +166,22 @@ fn form_other(
 // The type of record k, by the numbers of the types before. A Tuple's elements must be among those of the sheet, and
 // all Tuples together may not have more of them.
 fn read_type(
-    sheet: &[u8],
-    areas: Areas,
+    sheet: &Sheet,
     k: usize,
     used: usize,
     numbers: &[u16],
     table: &mut [u16],
     counts: Counts,
 ) -> Option<Typed>
-    requires headed { Headed sheet.now areas }
-    requires typing { Typing sheet.now numbers.now k used (tab table.old counts.types counts.elements) }
-    ensures { MatchOption result (is_sheet sheet.now ≡ false) (λ r.
-        TypeRead sheet.now numbers.now k used (tab table.old counts.types counts.elements)
+    requires { Typing sheet.now.bytes.now numbers.now k used (tab table.old counts.types counts.elements) }
+    ensures { MatchOption result (is_sheet sheet.now.bytes.now ≡ false) (λ r.
+        TypeRead sheet.now.bytes.now numbers.now k used (tab table.old counts.types counts.elements)
         (tab table.new r.counts.types r.counts.elements) r.used r.number) }
 {
     let at = header::LENGTH + TYPE_RECORD * k;
-    let kind = word_at(sheet, at);
-    let p = word_at(sheet, at + SECOND_WORD);
-    let q = word_at(sheet, at + THIRD_WORD);
+    let kind = word_at(sheet.bytes, at);
+    let p = word_at(sheet.bytes, at + SECOND_WORD);
+    let q = word_at(sheet.bytes, at + THIRD_WORD);
     if kind != TUPLE {
         let f = form_other(numbers, kind, p, q, table, counts);
         return Some(Typed {
@@ -184,12 +190,12 @@ fn read_type(
             counts: f.counts,
         });
     }
-    if areas.elements < p + q || areas.elements < used + q {
+    if sheet.areas.elements < p + q || sheet.areas.elements < used + q {
         return None;
     }
     let f = form_tuple(
-        sheet,
-        areas.elements_at() + ELEMENT * p,
+        sheet.bytes,
+        sheet.areas.elements_at() + ELEMENT * p,
         numbers,
         q,
         table,
@@ -203,25 +209,19 @@ fn read_type(
 }
 
 // The types of all records; the table holds the plain types alone before.
-fn read_types(
-    sheet: &[u8],
-    areas: Areas,
-    table: &mut [u16],
-    numbers: &mut Numbers,
-) -> Option<Counts>
-    requires headed { Headed sheet.now areas }
+fn read_types(sheet: &Sheet, table: &mut [u16], numbers: &mut Numbers) -> Option<Counts>
     requires wf { Wf (tab table.old 8 0) }
     requires most_numbers_bound { most_numbers ≤ capacity table.old }
-    ensures { MatchOption result (is_sheet sheet.now ≡ false) (λ r.
-        TypesRead sheet.now (take areas.types numbers.new) (tab table.new r.types r.elements)) }
+    ensures { MatchOption result (is_sheet sheet.now.bytes.now ≡ false) (λ r.
+        TypesRead sheet.now.bytes.now (take sheet.now.areas.types numbers.new) (tab table.new r.types r.elements)) }
 {
     let mut used = 0;
     let mut counts = Counts {
         types: STRUCTURED,
         elements: 0,
     };
-    for k in 0..areas.types {
-        let r = read_type(sheet, areas, k, used, &numbers[..k], table, counts)?;
+    for k in 0..sheet.areas.types {
+        let r = read_type(sheet, k, used, &numbers[..k], table, counts)?;
         numbers[k] = r.number as u16;
         used = r.used;
         counts = r.counts;
@@ -230,28 +230,27 @@ fn read_types(
 }
 
 // Name k: its text must lie in the bytes and be short enough.
-fn read_name(sheet: &[u8], areas: Areas, k: usize, numbers: &[u16], names: &mut NameList) -> bool
-    requires headed { Headed sheet.now areas }
-    requires here { k < areas.names }
-    ensures { Told (NameStep sheet.now numbers.now names.old names.new k) sheet.now result }
+fn read_name(sheet: &Sheet, k: usize, numbers: &[u16], names: &mut NameList) -> bool
+    requires { k < sheet.now.areas.names }
+    ensures { Told (NameStep sheet.now.bytes.now numbers.now names.old names.new k) sheet.now.bytes.now result }
 {
-    let at = areas.names_at() + NAME_RECORD * k;
-    let start = areas.texts_at() + word_at(sheet, at);
-    let len = word_at(sheet, at + SECOND_WORD);
-    let ty = number_in(numbers, word_at(sheet, at + THIRD_WORD));
-    if LONGEST_NAME < len || sheet.len() < start + len {
+    let at = sheet.areas.names_at() + NAME_RECORD * k;
+    let start = sheet.areas.texts_at() + word_at(sheet.bytes, at);
+    let len = word_at(sheet.bytes, at + SECOND_WORD);
+    let ty = number_in(numbers, word_at(sheet.bytes, at + THIRD_WORD));
+    if LONGEST_NAME < len || sheet.bytes.len() < start + len {
         return false;
     }
     put_name(names, k, start as u32, len as u32, ty as u32);
     true
 }
 
-fn read_names(sheet: &[u8], areas: Areas, numbers: &[u16], names: &mut NameList) -> bool
-    requires { Headed sheet.now areas }
-    ensures { Told (NamesRead sheet.now numbers.now names.new areas.names) sheet.now result }
+fn read_names(sheet: &Sheet, numbers: &[u16], names: &mut NameList) -> bool
+    ensures { Told (NamesRead sheet.now.bytes.now numbers.now names.new sheet.now.areas.names)
+        sheet.now.bytes.now result }
 {
-    for k in 0..areas.names {
-        if !read_name(sheet, areas, k, numbers, names) {
+    for k in 0..sheet.areas.names {
+        if !read_name(sheet, k, numbers, names) {
             return false;
         }
     }
@@ -286,14 +285,6 @@ fn rewrites(sheet: &[u8], table: &[u16], counts: Counts, names: &NameList, count
     }
 }
 
-// A call of its own, since answers say `start` for a function's entry.
-fn begin_table(table: &mut [u16])
-    requires { Fresh table.old }
-    ensures { Wf (tab table.new 8 0) }
-{
-    start(table);
-}
-
 // Reads a sheet into a table of its types and a list of its names: whatever the bytes, it says whether they are one.
 // The table is one of TABLE_CELLS.
 pub fn read(sheet: &[u8], table: &mut [u16], names: &mut NameList) -> Option<ReadSheet>
@@ -301,10 +292,14 @@ pub fn read(sheet: &[u8], table: &mut [u16], names: &mut NameList) -> Option<Rea
     ensures { Reads sheet.now result table.new names.new }
 {
     let areas = areas_of(sheet)?;
-    begin_table(table);
+    let headed = Sheet {
+        bytes: sheet,
+        areas,
+    };
+    start(table);
     let mut numbers = [FRESH; MOST_TYPES];
-    let counts = read_types(sheet, areas, table, &mut numbers)?;
-    if !read_names(sheet, areas, &numbers[..areas.types], names) {
+    let counts = read_types(&headed, table, &mut numbers)?;
+    if !read_names(&headed, &numbers[..areas.types], names) {
         return None;
     }
     if !texts_stand(sheet, &names[..areas.names]) {

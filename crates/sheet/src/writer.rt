@@ -24,11 +24,12 @@ use words::{put, put_word, text};
 const UNMET: u16 = FRESH;
 
 // The marks of the walk over the types: for each number of the table the type's number in the sheet; the table's
-// numbers in the sheet's order, and how many these are; and the table's counts.
+// numbers in the sheet's order, and how many these are; and the table's counts. The arrays lie outside, since a struct
+// is made by copying what it holds.
 #[derive(Drop)]
-struct Marks {
-    numbers: [u16; STRUCTURED + MOST_TYPES],
-    order: [u16; MOST_TYPES],
+struct Marks<'a> {
+    numbers: &'a mut [u16],
+    order: &'a mut [u16],
     met: usize,
     counts: Counts,
 }
@@ -51,7 +52,7 @@ const FEW: usize = 64;
 
 // ---- the walk: parts left to right and before the whole, each type once
 
-impl Marks {
+impl Marks<'_> {
     // Gives i the next number of the sheet, unless it has one.
     fn complete(&mut self, i: usize)
         requires { Completing self.old i }
@@ -66,7 +67,7 @@ impl Marks {
 
     // Whether type i is to be given a number: a plain type never is.
     fn is_new(&self, i: usize) -> bool
-        requires { i < most_numbers }
+        requires { i < length self.now.numbers.now }
         ensures { New self.now i result }
     {
         STRUCTURED <= i && self.numbers[i] == UNMET
@@ -74,7 +75,7 @@ impl Marks {
 
     // The number in the sheet of type i, which is plain or was met.
     fn number_of(&self, i: usize) -> usize
-        requires { i < most_numbers }
+        requires { i < length self.now.numbers.now }
         ensures number_of { NumberOf self.now i result }
         ensures upper_bound { result < 65536 }
     {
@@ -86,7 +87,7 @@ impl Marks {
 
     // The table's number of type k of the sheet.
     fn type_at(&self, k: usize) -> usize
-        requires { k < most_types }
+        requires { k < length self.now.order.now }
         ensures { result ≡ type_met self.now k }
     {
         usize::from(self.order[k])
@@ -278,7 +279,7 @@ fn write_elements(table: &[u16], marks: &Marks, out: &mut [u8], from: usize)
 }
 
 fn write_names(marks: &Marks, names: &[ListedName], out: &mut [u8], at: usize)
-    requires { NamesFit names.now out.old at }
+    requires { NamesFit marks.now names.now out.old at }
     ensures { NamesPut marks.now names.now out.old out.new at }
 {
     let mut from = 0;
@@ -361,9 +362,11 @@ pub fn write(
     ensures { Wrote (listed source.now (tab table.now counts.types counts.elements)
         names.now count) result out.old out.new }
 {
+    let mut numbers = [UNMET; STRUCTURED + MOST_TYPES];
+    let mut order = [UNMET; MOST_TYPES];
     let mut marks = Marks {
-        numbers: [UNMET; STRUCTURED + MOST_TYPES],
-        order: [UNMET; MOST_TYPES],
+        numbers: &mut numbers,
+        order: &mut order,
         met: 0,
         counts,
     };

@@ -7,13 +7,13 @@ pub returns-in_err-areas : goal.returns-in_err-areas
 returns-in_err-areas c =
     rw c.from_residual.ensures (read_not c.in_err-areas.ensures)
 
-pub begin_table-requires : goal.begin_table-requires
-begin_table-requires c =
+pub start-requires : goal.start-requires
+start-requires c =
     c.requires.1
 
 pub read_types-requires-clause-most_numbers_bound : goal.read_types-requires-clause-most_numbers_bound
 read_types-requires-clause-most_numbers_bound c =
-    omega (arith, c.requires.0, capacity_as c.args.table.now c.begin_table.new.table c.begin_table.auto.table)
+    omega (arith, c.requires.0, capacity_as c.args.table.now c.start.new.table c.start.auto.table)
 
 pub returns-in_err-counts : goal.returns-in_err-counts
 returns-in_err-counts c =

@@ -5,10 +5,10 @@ use Rattle.sheet.proofs.reader.read_types.Goals as goal
 
 pub loop-k-init : goal.loop-k-init
 loop-k-init c =
-    (loop_first c.requires.headed.bounds c.requires.wf c.requires.most_numbers_bound (omega arith) c.requires.headed.types_is, refl)
+    (loop_first c.args.sheet.now.headed.bounds c.requires.wf c.requires.most_numbers_bound (omega arith) c.args.sheet.now.headed.types_is, refl)
 
-pub read_type-requires-clause-typing : goal.read_type-requires-clause-typing
-read_type-requires-clause-typing c =
+pub read_type-requires : goal.read_type-requires
+read_type-requires c =
     loop_typing c.loop-k.invariant.0 (omega arith)
 
 pub overflow_cast-numbers : goal.overflow_cast-numbers

@@ -5,4 +5,4 @@ use lib.ListN.{length}
 use Rattle.sheet.proofs.reader.read_types.Given as goal
 
 abbrev pub invariant-loop-k : goal.invariant-loop-k
-invariant-loop-k l = TypesLoop l.sheet l.numbers l.areas.types l.k l.used (tab l.table l.counts.types l.counts.elements) × (length l.table ≡ length l.initial.table)
+invariant-loop-k l = TypesLoop l.sheet.bytes.now l.numbers l.sheet.areas.types l.k l.used (tab l.table l.counts.types l.counts.elements) × (length l.table ≡ length l.initial.table)
