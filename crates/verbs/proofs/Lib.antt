@@ -1,3 +1,4 @@
+pub mod Open
 pub mod Words
 pub mod Said
 pub mod Runs
