@@ -141,7 +141,9 @@ fn read_named(rt: &HostRuntime, name: &[u8], buf: &mut [u8]) -> Result<usize, Wh
 }
 
 // The bytes of the file that argument a names.
-fn read_file<'a>(rt: &HostRuntime, a: usize, buf: &'a mut [u8]) -> Result<&'a [u8], Unread> {
+fn read_file<'a>(rt: &HostRuntime, a: usize, buf: &'a mut [u8]) -> Result<&'a [u8], Unread>
+    ensures { IfOk result (λ bytes. length bytes.now ≤ length buf.old) }
+{
     let mut name = io::buffer();
     let name = word_at(rt, a, &mut name).unwrap_or(b"");
     match read_named(rt, name, buf) {

@@ -210,8 +210,8 @@ struct CutShort;
 
 // Reads over so many bytes of a record for which there was no room, and answers whether they were there.
 fn skip<R: Read>(from: &mut R, length: usize) -> bool {
-    let mut block = io::buffer();
     for at in (0..length).step_by(BLOCK) {
+        let mut block = io::buffer();
         let wanted = BLOCK.min(length - at);
         if read_full(from, &mut block[..wanted]) < wanted {
             return false;
