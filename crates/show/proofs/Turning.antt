@@ -6,19 +6,18 @@ use Prim.Native.Nat.{ℕ, zero, suc, ◌<◌, ◌≤◌}
 use native.Mathlib.Nat.{le_of_suc-le-suc}
 use native.Mathlib.Omega.{arith}
 use borrow.Author.Tests.{le-leb}
-use lib.ListN.{length, take, drop, length-append}
+use lib.ListN.{length, get_or, take, drop, length-append}
 use lib.Seq.{take-append_seam}
-use Rattle.meaning.specs.Limits.{largest_sheet}
 use Rattle.meaning.specs.Base.{test◌then◌else◌, count, same_text}
 use Rattle.meaning.specs.Types.{Ty-discrete, same}
 use Rattle.meaning.specs.Sheet.{Entry, sheet_of}
 use Rattle.meaning.specs.Read.{entries_in}
 use Rattle.meaning.specs.Answer.{written, overlaid}
 use Rattle.meaning.proofs.Choices.{same_yes, same_no, same_text_lem, text_same, not_so}
-use Rattle.meaning.proofs.SheetForm.{limits, sheet_size, sheet_length}
+use Rattle.meaning.proofs.SheetForm.{limits, sheet_size}
 use Rattle.meaning.proofs.Alone.{alone_within, alone_same}
-use Rattle.types.specs.Table.{tab, most_numbers}
-use Rattle.sheet.specs.Listing.{start_at, length_at, type_at, PutName, listed, listed_from, Listing, Wrote}
+use Rattle.types.specs.Table.{tab}
+use Rattle.sheet.specs.Listing.{no_name, start_at, length_at, type_at, listed, listed_from, Listing, Wrote}
 use Rattle.sheet.specs.Listing.{entry_at as entry_in}
 use Rattle.std.specs.Prelude.{Option, IsSome, unwrap_or}
 use Rattle.show.specs.Words.{IsOpened, entry_at, entry_of, largest_alone}
@@ -33,21 +32,24 @@ entry_among (e ∷ es) zero h = Memᴰ.head refl
 entry_among (e ∷ es) (suc k) h = Memᴰ.tail (entry_among es k (le_of_suc-le-suc h))
 
 module _ {o : Opened} (w : IsOpened o) where
-  pub sheet_short : length o.sheet.now ≤ largest_sheet
-  sheet_short = omega (arith, ap length (its_sheet w).written, sheet_length (entries_in o.sheet.now) (its_sheet w).limits)
-
   module _ {k : ℕ} (h : k < o.read.names) where
     pub among : Memᴰ (entry_of o.sheet.now k) (entries_in o.sheet.now)
     among = entry_among (entries_in o.sheet.now) k (omega (arith, h, names_many w))
-
-    pub type_small : type_at o.names.now k < most_numbers
-    type_small = omega (arith, (its_names w).known k h, (its_names w).wf.room, (its_names w).wf.most)
 
     pub name_short : length_at o.names.now k ≤ 64
     name_short = (its_names w).short k h
 
     -- a list of name k alone
-    module _ {old new : List ListedName} {start size ty : ℕ} (p : PutName old new 0 start size ty) (a : start ≡ start_at o.names.now k) (b : size ≡ length_at o.names.now k) (c : ty ≡ type_at o.names.now k) where
+    module _ (new : List ListedName) (p : get_or new 0 no_name ≡ get_or o.names.now k no_name) where
+      starts : start_at new 0 ≡ start_at o.names.now k
+      starts = ap (λ (e : ListedName). e.start) p
+
+      sizes : length_at new 0 ≡ length_at o.names.now k
+      sizes = ap (λ (e : ListedName). e.len) p
+
+      types : type_at new 0 ≡ type_at o.names.now k
+      types = ap (λ (e : ListedName). e.ty) p
+
       only : (j : ℕ) → j < 1 → j ≡ 0
       only j l = omega (arith, l)
 
@@ -55,14 +57,14 @@ module _ {o : Opened} (w : IsOpened o) where
       alone_listing = record {
         wf = (its_names w).wf;
         few = omega arith;
-        inside = λ j l. rw (only j l) (omega (arith, p.start_is, p.length_is, a, b, name_inside w h));
-        short = λ j l. rw (only j l) (omega (arith, p.length_is, b, name_short));
-        known = λ j l. rw (only j l) (omega (arith, p.type_is, c, (its_names w).known k h));
+        inside = λ j l. rw (only j l) (omega (arith, starts, sizes, name_inside w h));
+        short = λ j l. rw (only j l) (omega (arith, sizes, name_short));
+        known = λ j l. rw (only j l) (omega (arith, types, (its_names w).known k h));
       }
 
       alone_listed : listed o.sheet.now (tab o.table.now o.read.counts.types o.read.counts.elements) new 1 ≡ entry_of o.sheet.now k ∷ []
       unfolding listed listed_from entry_in count
-      alone_listed = rw (p.start_is, p.length_is, p.type_is, a, b, c, entry_is w h)
+      alone_listed = rw (starts, sizes, types, entry_is w h)
 
       alone_fits : length (sheet_of (entry_of o.sheet.now k ∷ [])) ≤ largest_alone
       alone_fits =

@@ -20,7 +20,7 @@ use limits::{
     MOST_NODES,
 };
 use message::{measure, put_type};
-use sheet::list::{NO_ENTRIES, NameList, length_of, put_name, start_of, type_of};
+use sheet::list::{NO_ENTRIES, NameList, length_of, start_of, type_of};
 use sheet::records::NAME_RECORD;
 use sheet::{ReadSheet, TABLE_CELLS, read};
 use types;
@@ -155,9 +155,7 @@ impl<'a> Opened<'a> {
         ensures upper_bound { result ≤ length out.new }
     {
         let mut alone = NO_ENTRIES;
-        let start = start_of(self.names, k) as u32;
-        let len = length_of(self.names, k) as u32;
-        put_name(&mut alone, 0, start, len, type_of(self.names, k) as u32);
+        alone[0] = self.names[k];
         sheet::write(self.sheet, self.table, self.read.counts, &alone, 1, out).unwrap()
     }
 }
