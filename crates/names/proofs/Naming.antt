@@ -26,7 +26,7 @@ use Rattle.types.specs.Table.{Tab, Wf, denote}
 use Rattle.types.proofs.Laws.{unknown_number}
 use Rattle.std.specs.Prelude.{Some, None}
 use Rattle.std.specs.Option.{option_or}
-use Rattle.frames.specs.Env.{Rows, Held, cell_room, frames_of, slot_type, held_type, HeldBelow, Fit, Holds}
+use Rattle.frames.specs.Env.{Rows, Held, frames_of, slot_type, held_type, HeldBelow, Fit, Holds}
 use Rattle.image.specs.Parts.{record_of, name_stands}
 use Rattle.meaning.proofs.Nesting.{records_count, names_many}
 use Rattle.image.proofs.Records.{text_inside, text_fits, text_of}

@@ -8,7 +8,7 @@ use native.Mathlib.Decide.{dec_lt, ℕ_discrete}
 use borrow.Author.Tests.{eq-eqb, ne_eqb}
 use lib.ListN.{length, get_or, take, drop, drop_of_length-le, length-append, length-drop, length-map, get_or-map}
 use lib.Seq.{drop-cons, length-take-le}
-use Rattle.meaning.specs.Limits.{longest_name, most_text}
+use Rattle.meaning.specs.Limits.{longest_name}
 use Rattle.meaning.specs.Base.{test◌then◌else◌, words}
 use Rattle.meaning.specs.Types.{Ty, unknown, kind, parts, part}
 use Rattle.meaning.specs.Sheet.{Triple, laid, number, elements_in, elements_of, type_record, type_records}
@@ -353,15 +353,6 @@ module _ {ms : Marks} {ns : List ListedName} {old : List ℕ} {at k from : ℕ} 
   pub names_room : at + 12 * k + 12 ≤ length out
   names_room = omega (arith, l.fit.room, l.long)
 
-  pub names_small : {w : ℕ} → w < 4294967296 → (from < 4294967296) × (length_at ns k < 4294967296) × (w < 4294967296)
-  names_small b = (omega (arith, l.small, l.fit.short.few), omega (arith, l.fit.short.short k h), b)
-
-  pub names_known : type_at ns k < length ms.numbers.now
-  names_known = l.fit.known k h
-
-  pub names_sum : from + length_at ns k ≤ most_text
-  names_sum = omega (arith, l.small, l.fit.short.few, l.fit.short.short k h)
-
   pub names_next : {w : ℕ} {new : List ℕ} → NumberOf ms (type_at ns k) w → Put out new (at + 12 * k) (words (from ∷ length_at ns k ∷ w ∷ []))
       → NamesLoop ms ns old at (k + 1) (from + length_at ns k) new
   unfolding words laid
@@ -393,9 +384,6 @@ pub record TextsLoop (source : List ℕ) (ns : List ListedName) (old : List ℕ)
   pub room : at + listed_size (drop k ns) ≤ length old
   pub long : length out ≡ length old
   pub left : put_at out at (listed_texts source (drop k ns)) ≡ put_at old from (listed_texts source ns)
-
-pub texts_first : {source : List ℕ} {ns : List ListedName} {out : List ℕ} {from : ℕ} → TextsFit source ns out from → TextsLoop source ns out from 0 from out
-texts_first f = record { fit = f; room = f.room; long = refl; left = refl }
 
 module _ {source : List ℕ} {ns : List ListedName} {old : List ℕ} {from k at : ℕ} {out : List ℕ} (l : TextsLoop source ns old from k at out) (h : k < length ns) where
   text_length : length (take (length_at ns k) (drop (start_at ns k) source)) ≡ length_at ns k

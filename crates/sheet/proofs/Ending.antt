@@ -33,9 +33,6 @@ use Rattle.sheet.proofs.Naming.{entries_are, entries_listing, texts_of}
 pub record StandLoop (source : List ℕ) (ns : List ListedName) (k : ℕ) (last : List ℕ) : Type 0 where
   pub left : (t : Tab) → texts_stand last (map (entry_of source t) (drop k ns)) ≡ texts_stand [] (map (entry_of source t) ns)
 
-pub stand_first : (source : List ℕ) (ns : List ListedName) → StandLoop source ns 0 []
-stand_first source ns = record { left = λ t. refl }
-
 module _ {source : List ℕ} {ns : List ListedName} {k : ℕ} {last : List ℕ} (l : StandLoop source ns k last) (h : k < length ns)
     {s : List ℕ} (e : s ≡ take (length_at ns k) (drop (start_at ns k) source)) {r : Bool} (er : r ≡ text_stands last s) where
   split : (t : Tab) → (text_stands last s and texts_stand s (map (entry_of source t) (drop (k + 1) ns))) ≡ texts_stand [] (map (entry_of source t) ns)

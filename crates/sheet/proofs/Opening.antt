@@ -61,9 +61,6 @@ module _ {t : Tab} {ms : Marks} {ops : List Open} {d : ℕ} (w : Opened t ms ops
   pub top_below : i < t.n
   top_below = omega (arith, w.within d last)
 
-  pub top_small : i < most_numbers
-  top_small = omega (arith, top_below, w.marked.wf.room, w.marked.wf.most)
-
   pub depth_small : d < most_types
   depth_small = omega (arith, w.within d last, w.high d last, w.marked.wf.room, w.marked.wf.most)
 

@@ -138,9 +138,6 @@ unfolding type_from choose test◌then◌else◌
 from_tuple es us a b c e = rw (ne_eqb a 8 (λ z. absurd (omega arith)), ne_eqb a 9 (λ z. absurd (omega arith)), eq-eqb a 10 e)
 
 module _ {bs xs : List ℕ} {k used : ℕ} {t : Tab} (y : Typing bs xs k used t) where
-  pub typing_place : 40 + 12 * k + 12 ≤ length bs
-  typing_place = omega (arith, y.here, y.bounds.long)
-
   module _ {a b c : ℕ} (ea : a ≡ word bs (40 + 12 * k)) (eb : b ≡ word bs (40 + 12 * k + 4)) (ec : c ≡ word bs (40 + 12 * k + 8)) where
     here_is : triple (drop (40 + 12 * k) bs) ≡ (a, b, c)
     here_is = triple_at bs (40 + 12 * k) ea eb ec

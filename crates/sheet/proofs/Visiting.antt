@@ -1,16 +1,12 @@
 -- `step` and `visit`: each step comes to the same, and when no type is open any more the visited one is met.
 use mathlib.Core.Path.{◌≡◌, refl, sym, ap, ◌∙◌, subst}
-use mathlib.Core.Bool.{Bool, true, false, false≢true}
-use mathlib.Core.Logic.{inl, inr}
+use mathlib.Core.Bool.{Bool, true, false}
 use mathlib.Core.List.Memᴰ
 use mathlib.Core.List.{List}
 use Prim.Native.Nat.{ℕ, suc, ◌+◌, ◌-◌, ◌≤◌, ◌<◌}
 use native.Mathlib.Omega.{arith}
-use borrow.Author.Tests.{eqb-true, eqb-false}
-use lib.Dec.{eqb}
 use lib.ListN.{length, get_or, set, take, length-set}
 use lib.Seq.{get_or-set_same}
-use Rattle.meaning.specs.Limits.{most_types}
 use Rattle.meaning.specs.Types.{Ty, parts}
 use Rattle.meaning.specs.Sheet.{met}
 use Rattle.meaning.proofs.SheetTypes.{Known}
@@ -20,19 +16,13 @@ use Rattle.types.proofs.Parts.{number_small}
 use Rattle.types.proofs.Readers.{in_room, has_part}
 use Rattle.sheet.specs.declared.writer.Open.{Open}
 use Rattle.sheet.specs.declared.writer.Marks.{Marks}
-use Rattle.sheet.specs.Marks.{number_at, tab_of, types_in, completed, Completing}
+use Rattle.sheet.specs.Marks.{tab_of, types_in, completed, Completing}
 use Rattle.sheet.specs.Opening.{none_open, open_type, next_part, parts_open, begun_at, New, Opened, unwound, work, Visiting, Visited, Stepping, Stepped}
 use Rattle.sheet.proofs.Again.{met_still}
 use Rattle.sheet.proofs.Marking.{own_tab}
-use Rattle.sheet.proofs.Opening.{new_no, top_below, depth_small, open_there, next_small, top_completing, closed_opened, closed_comes, closed_less, part_below, passed_opened, passed_comes, passed_less, begun_there, begun_opened, begun_comes, begun_less}
+use Rattle.sheet.proofs.Opening.{new_no, top_below, next_small, top_completing, closed_opened, closed_comes, closed_less, part_below, passed_opened, passed_comes, passed_less, begun_opened, begun_comes, begun_less}
 
 -- ---- what is new
-
-pub new_plain : (ms : Marks) (i : ℕ) → i < 8 → New ms i false
-new_plain ms i h = record { yes = λ e. absurd (false≢true e); no = λ e. inl h }
-
-pub new_by_mark : (ms : Marks) (i : ℕ) → 8 ≤ i → New ms i (eqb (number_at ms i) 1)
-new_by_mark ms i h = record { yes = λ e. (h, eqb-true _ _ e); no = λ e. inr (eqb-false _ _ e) }
 
 -- ---- one step
 
@@ -48,12 +38,6 @@ module _ {cs : List ℕ} {ms : Marks} {ops : List Open} {d k : ℕ} (s : Steppin
 
   inner : Opened t ms ops (suc k)
   inner = subst (Opened t ms ops) one_more s.opened
-
-  pub step_depth : d ≤ most_types
-  step_depth = omega (arith, depth_small inner, one_more)
-
-  pub step_there : k < length ops
-  step_there = open_there inner
 
   module _ {i j : ℕ} (ei : i ≡ open_type ops k) (ej : j ≡ next_part ops k) where
     below : i < t.n
@@ -100,11 +84,6 @@ module _ {cs : List ℕ} {ms : Marks} {ops : List Open} {d k : ℕ} (s : Steppin
 
           pub step_part : p < length ms.numbers.now
           step_part = omega (arith, step_small, inner.marked.numbers_long)
-
-          pub step_begins : {r : Bool} → New ms p r → r ≡ true → (d < length ops) × (p < most_numbers)
-          step_begins new e =
-              let h = new.yes e in
-              (rw one_more (begun_there inner some there_open h.0 h.1), step_small)
 
           pub step_begun : {r : Bool} {new : List Open} → New ms p r → r ≡ true → new ≡ begun_at ops d p → Stepped cs ms ms ops new d (d + 1)
           step_begun is e en =

@@ -32,7 +32,7 @@ use Rattle.sheet.specs.declared.list.ListedName.{ListedName}
 use Rattle.sheet.specs.Listing.{no_name, start_at, length_at, type_at, entry_of, entry_at, listed_from, listed, Listing, Wrote}
 use Rattle.sheet.specs.Counting.{most_written}
 use Rattle.sheet.specs.Marks.{number_at, tab_of, types_in, Marked, met_each}
-use Rattle.sheet.specs.Writing.{listed_types, listed_size, listed_records, listed_texts, Meeting, MetAll, Short, Put, types_bytes, elements_bytes, names_bytes, Named, NamesFit, NamesPut, TextsFit, header_bytes, Filling}
+use Rattle.sheet.specs.Writing.{listed_types, listed_size, listed_records, listed_texts, Meeting, MetAll, Short, Put, types_bytes, elements_bytes, names_bytes, Named, NamesPut, header_bytes, Filling}
 use Rattle.sheet.proofs.Marking.{own_tab, types_length}
 use Rattle.sheet.proofs.Areas.{put_then, put_as}
 
@@ -150,16 +150,6 @@ module _ {source cs : List ℕ} {ms : Marks} {ns : List ListedName} {a : Areas} 
     known = f.listing.known;
     member = λ k h g. subst (Memᴰ (denote t (type_at ns k))) (sym f.types_are) ((types_met es [] tt).known (denote t (type_at ns k)) (member_listed source t ns k h) g);
   }
-
-  pub names_fit : {o : List ℕ} → length o ≡ length out → NamesFit ms ns o (40 + 12 * a.types + 4 * a.elements)
-  names_fit l = record {
-    short = short;
-    known = λ k h. omega (arith, f.listing.known k h, f.marked.wf.room, f.marked.wf.most, f.marked.numbers_long);
-    room = omega (arith, f.room);
-  }
-
-  pub texts_fit : {o : List ℕ} → length o ≡ length out → TextsFit source ns o (40 + 12 * a.types + 4 * a.elements + 12 * a.names)
-  texts_fit l = record { inside = f.listing.inside; room = omega (arith, f.room, f.size_is) }
 
   sheet_is : sheet_of es ≡ header_bytes a.types a.elements a.names S ++ types_bytes t ms ++ elements_bytes t ms ++ names_bytes t ms ns ++ listed_texts source ns
   unfolding sheet_of header_bytes
