@@ -227,11 +227,11 @@ fn after_arm(image: &[u8], here: Cursor, left: usize) -> Cursor
     requires { AtArm image.now here left }
     ensures { AfterArm image.now here left result }
 {
-    let second = here.over(image).cursor;
+    let behind = here.over(image).cursor;
     if 1 < left {
-        return second.over(image).cursor;
+        return behind.over(image).cursor;
     }
-    second
+    behind
 }
 
 // The statement at the cursor, at most `depth` deep.
