@@ -6,7 +6,7 @@
 
 ghost use Rattle.std.specs.Prelude.{◌≤◌, length, IfOk};
 
-use checker::{Reading, read_sheet};
+use checker::read_sheet;
 use limits::{LARGEST_CHANGES, LARGEST_SHOW, READ_AT_MOST, SHEET_BUFFER};
 use std::env::FillError;
 use std::fs::File;
@@ -189,11 +189,7 @@ fn run_sheet(rt: &HostRuntime, setting: u32, a: usize) -> Result<Status, Unread>
     let mut out = [0u8; LINE];
     let w = write_sheet(setting, image, &mut sheet, &mut out);
     say(&out[..w.line]);
-    Ok(print(rt, &sheet[..w.sheet], w.status))
-}
-
-fn is_sheet(bytes: &[u8]) -> bool {
-    matches!(read_sheet(bytes), Reading::Sheet)
+    Ok(print(rt, &sheet[..w.length], w.status))
 }
 
 fn say_no_sheet(rt: &HostRuntime, a: usize) {
@@ -204,7 +200,7 @@ fn say_no_sheet(rt: &HostRuntime, a: usize) {
 fn run_show(rt: &HostRuntime, a: usize) -> Result<Status, Unread> {
     let mut sheet = [0u8; READ_AT_MOST];
     let sheet = read_file(rt, a, &mut sheet)?;
-    if !is_sheet(sheet) {
+    if read_sheet(sheet).is_err() {
         say_no_sheet(rt, a);
     }
     let mut out = [0u8; LARGEST_SHOW];
@@ -214,9 +210,9 @@ fn run_show(rt: &HostRuntime, a: usize) -> Result<Status, Unread> {
 
 // The first of the two that is no sheet is told.
 fn say_if_no_sheet(rt: &HostRuntime, a: usize, old: &[u8], b: usize, new: &[u8]) {
-    if !is_sheet(old) {
+    if read_sheet(old).is_err() {
         say_no_sheet(rt, a);
-    } else if !is_sheet(new) {
+    } else if read_sheet(new).is_err() {
         say_no_sheet(rt, b);
     }
 }
@@ -268,7 +264,7 @@ fn run_load(rt: &HostRuntime, setting: u32, a: usize, b: usize) -> Result<Status
     let approved = was.unwrap_or(b"");
     let mut out = [0u8; LOAD];
     let done = say_load(setting, image, approved, &mut out);
-    if matches!(done.status, Status::Changed) && !is_sheet(approved) {
+    if matches!(done.status, Status::Changed) && read_sheet(approved).is_err() {
         say_all_new(rt, a, was);
     }
     Ok(print(rt, &out[..done.length], done.status))
@@ -281,7 +277,7 @@ fn run_convert(rt: &HostRuntime, a: usize) -> Result<Status, Unread> {
     let mut out = [0u8; LINE];
     let w = renew(image, &mut new, &mut out);
     say(&out[..w.line]);
-    Ok(print(rt, &new[..w.image], w.status))
+    Ok(print(rt, &new[..w.length], w.status))
 }
 
 fn run_help(rt: &HostRuntime) -> Status {

@@ -46,3 +46,8 @@ impl Code {
         self as u32
     }
 }
+
+// "25 and 23 answer with a second span": their numbers, for whoever has an answer in numbers.
+pub const CANNOT_ASSIGN: u32 = Code::CannotAssign as u32;
+
+pub const INCOMPATIBLE_BRANCHES: u32 = Code::IncompatibleBranches as u32;

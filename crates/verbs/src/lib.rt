@@ -24,7 +24,7 @@ use image::Fault;
 use limits::{LARGEST_CHANGES, MESSAGE_BUFFER, SHEET_BUFFER};
 use line::{put_spaced, refused_line};
 use load::{Loading, cablebirch_convert};
-use rules::codes;
+use codes;
 use steady::{Def, steady};
 use words::{put, same, text};
 
