@@ -9,6 +9,7 @@ use native.Mathlib.Omega.{arith}
 use native.Mathlib.Decide.{ℕ_discrete}
 use borrow.Author.Tests.{eq-eqb, ne_eqb}
 use lib.ListN.{length, get_or}
+use Rattle.codes.specs.Codes.{code_number}
 use Rattle.std.specs.Prelude.{Option, Some, None, Ok, Err, ok_or}
 use Rattle.meaning.specs.Base.{test◌then◌else◌, if_some}
 use Rattle.meaning.specs.Image.{node_count, nodes_of, node_of, names_of}
@@ -28,7 +29,7 @@ use Rattle.meaning.proofs.Listed.{listing_of}
 use Rattle.types.specs.Table.{Tab}
 use Rattle.frames.specs.Env.{First, Rows, frame_of, frames_of, below, first_node, FirstBelow}
 use Rattle.rules.specs.Outcome.{pieces}
-use Rattle.state.specs.Notes.{Places, places_in}
+use Rattle.state.specs.Notes.{code_in, Places, places_in}
 use Rattle.state.specs.declared.Notes.{Notes}
 use Rattle.targets.specs.Ending.{first_at, ended}
 use Rattle.targets.proofs.Endings.{first_none}
@@ -69,17 +70,17 @@ module _ {bs : List ℕ} {t : Tab} {fs : Rows} {top : ℕ} {cells : List ListedN
 -- ---- a typing refusal
 
 module _ {bs : List ℕ} {nodes : ℕ} {t : Tab} {ns : Notes} (r : Refusing bs nodes t ns) where
-  pub refuse_tells : Tells t ns.code ns.first ns.second
+  pub refuse_tells : Tells t (code_in ns) ns.first ns.second
   refuse_tells = record { wf = r.wf; first = r.named.first; second = r.named.second; small = r.named.small }
 
   pub refuse_there : ns.place < node_count bs
   refuse_there = r.named.placed (λ e. absurd (omega (arith, r.typing)))
 
   pub refused : {node : ImageNode} (first : First) {q : Refusal} {old new : List ℕ} → node ≡ node_of (nodes_of bs) ns.place → first_node first ≡ second_place ns
-      → q.code ≡ ns.code → q.place ≡ ns.place → q.begins ≡ node.span_start → q.ends ≡ node.span_end
+      → code_number q.code ≡ code_in ns → q.place ≡ ns.place → q.begins ≡ node.span_start → q.ends ≡ node.span_end
       → q.second_begins ≡ first_start (nodes_of bs) (first_node first) → q.second_ends ≡ first_end (nodes_of bs) (first_node first)
-      → q.message ≡ length (told bs t ns.code ns.first ns.second (length old))
-      → new ≡ overlaid (told bs t ns.code ns.first ns.second (length old)) old → Told (refused_as bs t ns (length old)) (Err (Typing q)) old new
+      → q.message ≡ length (told bs t (code_in ns) ns.first ns.second (length old))
+      → new ≡ overlaid (told bs t (code_in ns) ns.first ns.second (length old)) old → Told (refused_as bs t ns (length old)) (Err (Typing q)) old new
   unfolding refused_as told message
   refused first e g c p s f s₂ f₂ m o = record {
     numbers = rw (c, p, s, f, s₂, f₂, m, g, e);
@@ -119,14 +120,14 @@ module _ {bs : List ℕ} {setting : Setting} {t u : Tab} {gs : Rows} {top code a
   ran_deep n x y = rw (r.says, ne_eqb code 0 (λ e. absurd (omega arith)), eq-eqb code 9 n)
 
 module _ {bs : List ℕ} {setting : Setting} {t u : Tab} {gs : Rows} {top : ℕ} (ns : Notes) (s : Sound bs)
-    (r : Ran bs setting t u gs top ns.code (places_in ns) ns.first ns.second) (z : ns.code ≡ 0 → ⊥) (n : ns.code ≡ 9 → ⊥) where
+    (r : Ran bs setting t u gs top (code_in ns) (places_in ns) ns.first ns.second) (z : (code_in ns) ≡ 0 → ⊥) (n : (code_in ns) ≡ 9 → ⊥) where
   wrong_is : walked setting bs
-      ≡ wrong (conflict ns.code ns.place (second_place ns) (pieces (names_of bs) u ns.code ns.first ns.second)) (state (frames_of u gs top) r.returns)
+      ≡ wrong (conflict (code_in ns) ns.place (second_place ns) (pieces (names_of bs) u (code_in ns) ns.first ns.second)) (state (frames_of u gs top) r.returns)
   unfolding ended test◌then◌else◌
-  wrong_is = r.says ∙ rw (ne_eqb ns.code 0 z, ne_eqb ns.code 9 n)
+  wrong_is = r.says ∙ rw (ne_eqb (code_in ns) 0 z, ne_eqb (code_in ns) 9 n)
 
   -- a refusal of the walk has a typing code
-  pub ran_typing : 20 ≤ ns.code
+  pub ran_typing : 20 ≤ (code_in ns)
   unfolding walked
   ran_typing = (refused_typing (names_of bs) setting (tree_of (nodes_of bs)) _ _ wrong_is).above
 
@@ -139,5 +140,5 @@ module _ {bs : List ℕ} {setting : Setting} {t u : Tab} {gs : Rows} {top : ℕ}
   ran_near None e = tt
   ran_near (Some m) e =
       let w = refused_pointed setting bs _ _ wrong_is in
-      let h = w.there (points_code ns.code ns.since m (sym e)) in
+      let h = w.there (points_code (code_in ns) ns.since m (sym e)) in
       omega (arith, makes_inside (sound_nested s) h.node h.holds, nodes_many bs, some-injective _ _ (sym h.is ∙ sym e))

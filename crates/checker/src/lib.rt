@@ -21,11 +21,11 @@ ghost use Rattle.state.specs.Notes.{tab_in, top_in};
 ghost use Rattle.checker.specs.Steps.{Sized, Lent, Accepting, Refusing, refused_as};
 ghost use Rattle.checker.specs.Steps.{first_start, first_end};
 
+use codes::Code;
 use frames::{EMPTY, First, Frames};
 use image::{Fault, Numbers, areas, first_tree_set, judge, node_at};
 use limits::MOST_NODES;
 use names::list_names;
-use rules::codes;
 use sheet::list::NO_ENTRIES;
 use sheet::{TABLE_CELLS, read};
 use state::Notes;
@@ -70,7 +70,7 @@ impl Setting {
 // For 25 and 23, the second span is that of the node which first made the old type known; for every other code, 0,0.
 #[derive(Clone, Copy, PartialEq, Eq)]
 pub struct Refusal {
-    pub code: u32,
+    pub code: Code,
     pub place: usize,
     pub begins: u32,
     pub ends: u32,
@@ -148,7 +148,7 @@ fn refuse(image: &[u8], nodes: usize, table: &[u16], notes: &Notes, message: &mu
     ensures { Told (refused_as image.now (tab_in table.now notes.now) notes.now (length message.old))
         result message.old message.new }
 {
-    let (code, place) = (notes.code, notes.place);
+    let (code, place) = (notes.code.unwrap(), notes.place);
     let node = node_at(image, nodes, place);
     let second = span_of(image, nodes, first_place(notes));
     let length = message::write(
@@ -312,6 +312,8 @@ pub struct Reply {
 }
 
 // The codes that no crate below names.
+const NINTH_FRAME: u32 = 9;
+
 pub const SHORT_BUFFER: u32 = 10;
 
 pub const NO_SHEET: u32 = 12;
@@ -363,12 +365,12 @@ pub fn replied(a: Answer) -> Reply
             let n = Numbers::from(f);
             bare(n.code, n.place)
         }
-        Err(Refused::NinthFrame(i)) => bare(codes::NINTH_FRAME, i),
+        Err(Refused::NinthFrame(i)) => bare(NINTH_FRAME, i),
         Err(Refused::ShortBuffer) => bare(SHORT_BUFFER, 0),
         Err(Refused::NoSetting) => bare(NO_SETTING, 0),
         Err(Refused::Retired(i)) => bare(RETIRED, i),
         Err(Refused::Typing(r)) => Reply {
-            code: r.code,
+            code: r.code.number(),
             span_start: r.begins,
             span_end: r.ends,
             second_start: r.second_begins,

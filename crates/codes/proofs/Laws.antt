@@ -38,14 +38,14 @@ least_code StringIndex = omega arith
 least_code NotSubscriptable = omega arith
 
 -- the code of a number
-code_of : ℕ → Code
+pub code_of : ℕ → Code
 code_of n =
     get_or
     (Break ∷ Continue ∷ InconsistentReturn ∷ IncompatibleBranches ∷ NotIterable ∷ CannotAssign ∷ UnpackLength ∷ UnpackNonIterable ∷ InvalidTarget ∷ Plus ∷ Times ∷ Compare ∷ Equality ∷ NumericPair ∷ IntOrFloat ∷ ExpectedBool ∷ Condition ∷ BuiltinArity ∷ FunctionArity ∷ Input ∷ Len ∷ Range ∷ MapFirst ∷ MapSecond ∷ FilterFirst ∷ FilterSecond ∷ ListIndex ∷ DictKey ∷ TupleIndex ∷ StringIndex ∷ NotSubscriptable ∷ [])
     (n - 20)
     Break
 
-code_again : (c : Code) → code_of (code_number c) ≡ c
+pub code_again : (c : Code) → code_of (code_number c) ≡ c
 unfolding code_of
 code_again Break = refl
 code_again Continue = refl
