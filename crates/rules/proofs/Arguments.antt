@@ -13,6 +13,8 @@ use Rattle.meaning.specs.Types.{int, maybe, plain}
 use Rattle.meaning.specs.Message.{a_type}
 use Rattle.meaning.specs.Operators.{ok, when}
 use Rattle.types.specs.Table.{Tab, Wf, denote}
+use Rattle.types.specs.declared.Kind.{Kind}
+use Rattle.types.specs.Kinds.{kind_number}
 use Rattle.types.specs.Reading.{KindOf}
 use Rattle.types.proofs.Laws.{plain_number, same_number, same_unknown}
 use Rattle.std.specs.Prelude.{Ok, Err}
@@ -111,12 +113,12 @@ module _ (k : ℕ) where
         ne_eqb k 10 (outside l 10 (omega arith) (omega arith)),
       )
 
-module _ {cs : List ℕ} {i k : ℕ} (kind_is : KindOf cs i k) where
+module _ {cs : List ℕ} {i : ℕ} {k : Kind} (kind_is : KindOf cs i k) where
   sized_by : (t : Tab) (n : ℕ) → t.cells ≡ cs → Wf t → i < t.n
-      → sized_rule n (denote t i) ≡ when (is_in k (0 ∷ 3 ∷ 8 ∷ 9 ∷ 10 ∷ [])) int 40 n (a_type (denote t i) ∷ [])
+      → sized_rule n (denote t i) ≡ when (is_in (kind_number k) (0 ∷ 3 ∷ 8 ∷ 9 ∷ 10 ∷ [])) int 40 n (a_type (denote t i) ∷ [])
   sized_by t n s w h = rw (kind_is.says t s w h)
 
-  pub sized_yes : true ≡ is_in k (0 ∷ 3 ∷ 8 ∷ 9 ∷ 10 ∷ []) → OfOne cs sized_rule i (Ok 1)
+  pub sized_yes : true ≡ is_in (kind_number k) (0 ∷ 3 ∷ 8 ∷ 9 ∷ 10 ∷ []) → OfOne cs sized_rule i (Ok 1)
   unfolding when test◌then◌else◌ plain
   sized_yes e = record {
     says = λ ws t n s w h.
@@ -124,7 +126,7 @@ module _ {cs : List ℕ} {i k : ℕ} (kind_is : KindOf cs i k) where
         (sized_by t n s w h ∙ rw (sym e) (ap ok (sym (plain_number w 1 (omega arith)))));
   }
 
-  pub sized_no : false ≡ is_in k (0 ∷ 3 ∷ 8 ∷ 9 ∷ 10 ∷ []) → OfOne cs sized_rule i (Err (because 40 i 0))
+  pub sized_no : false ≡ is_in (kind_number k) (0 ∷ 3 ∷ 8 ∷ 9 ∷ 10 ∷ []) → OfOne cs sized_rule i (Err (because 40 i 0))
   unfolding when test◌then◌else◌
   sized_no e = record {
     says = λ ws t n s w h. refuses_one n 40 i 0 names_sized h (sized_by t n s w h ∙ rw (sym e));

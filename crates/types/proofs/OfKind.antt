@@ -1,26 +1,47 @@
 -- Kinds by their numbers.
-use mathlib.Core.Path.{◌≡◌, refl}
+use mathlib.Core.Path.{◌≡◌, refl, sym, ap, ◌∙◌}
 use mathlib.Core.Logic.{◌⊎◌, inl, inr}
-use Prim.Native.Nat.{◌≤◌, ◌<◌}
+use Prim.Native.Nat.{ℕ, zero, suc, ◌≤◌, ◌<◌}
 use native.Mathlib.Omega.{arith}
 use Rattle.types.specs.declared.Kind.{Kind}
 use Rattle.types.specs.declared.Kind.TheVariants as kind
 use Rattle.types.specs.Kinds.{kind_number}
 
-pub only_tuple : (k : Kind) → kind_number k ≡ 10 → k ≡ kind.Tuple
-only_tuple kind.Unknown e = absurd (omega arith)
-only_tuple kind.Int e = absurd (omega arith)
-only_tuple kind.Bool e = absurd (omega arith)
-only_tuple kind.String e = absurd (omega arith)
-only_tuple kind.Float e = absurd (omega arith)
-only_tuple kind.NoneType e = absurd (omega arith)
-only_tuple kind.Range e = absurd (omega arith)
-only_tuple kind.Function e = absurd (omega arith)
-only_tuple kind.List e = absurd (omega arith)
-only_tuple kind.Dict e = absurd (omega arith)
-only_tuple kind.Tuple e = refl
-only_tuple kind.MapIter e = absurd (omega arith)
-only_tuple kind.FilterIter e = absurd (omega arith)
+-- the kind of a number, for the law that follows it alone
+kind_from : ℕ → Kind
+kind_from zero = kind.Unknown
+kind_from (suc zero) = kind.Int
+kind_from (suc (suc zero)) = kind.Bool
+kind_from (suc (suc (suc zero))) = kind.String
+kind_from (suc (suc (suc (suc zero)))) = kind.Float
+kind_from (suc (suc (suc (suc (suc zero))))) = kind.NoneType
+kind_from (suc (suc (suc (suc (suc (suc zero)))))) = kind.Range
+kind_from (suc (suc (suc (suc (suc (suc (suc zero))))))) = kind.Function
+kind_from (suc (suc (suc (suc (suc (suc (suc (suc zero)))))))) = kind.List
+kind_from (suc (suc (suc (suc (suc (suc (suc (suc (suc zero))))))))) = kind.Dict
+kind_from (suc (suc (suc (suc (suc (suc (suc (suc (suc (suc zero)))))))))) = kind.Tuple
+kind_from (suc (suc (suc (suc (suc (suc (suc (suc (suc (suc (suc zero))))))))))) = kind.MapIter
+kind_from (suc (suc (suc (suc (suc (suc (suc (suc (suc (suc (suc (suc k)))))))))))) = kind.FilterIter
+
+from_number : (k : Kind) → kind_from (kind_number k) ≡ k
+unfolding kind_from
+from_number kind.Unknown = refl
+from_number kind.Int = refl
+from_number kind.Bool = refl
+from_number kind.String = refl
+from_number kind.Float = refl
+from_number kind.NoneType = refl
+from_number kind.Range = refl
+from_number kind.Function = refl
+from_number kind.List = refl
+from_number kind.Dict = refl
+from_number kind.Tuple = refl
+from_number kind.MapIter = refl
+from_number kind.FilterIter = refl
+
+-- equal numbers are equal kinds
+pub same_kind : (j k : Kind) → kind_number j ≡ kind_number k → j ≡ k
+same_kind j k e = sym (from_number j) ∙ ap kind_from e ∙ from_number k
 
 pub plain_left : (k : Kind) → (k ≡ kind.List → ⊥) → (k ≡ kind.Dict → ⊥) → (k ≡ kind.Tuple → ⊥) → (k ≡ kind.MapIter → ⊥) → (k ≡ kind.FilterIter → ⊥)
     → kind_number k < 8
