@@ -230,13 +230,7 @@ fn iterator(table: &mut [u16], counts: Counts, filters: bool, element: usize) ->
     if filters {
         form(table, counts, Kind::FilterIter, element, types::NO_PART)
     } else {
-        form(
-            table,
-            counts,
-            Kind::MapIter,
-            types::UNKNOWN,
-            types::NO_PART,
-        )
+        form(table, counts, Kind::MapIter, types::UNKNOWN, types::NO_PART)
     }
 }
 

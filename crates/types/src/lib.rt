@@ -327,7 +327,7 @@ pub fn tuple_of(table: &mut [u16], counts: Counts, stack: &[u16], from: usize, n
 }
 
 // The kind of a number.
-fn numbered(number: usize) -> Kind
+pub fn numbered(number: usize) -> Kind
     ensures { Numbered number result }
 {
     match number {
