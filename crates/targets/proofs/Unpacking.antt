@@ -174,7 +174,9 @@ module _ {cs : List ℕ} {i j : ℕ} {x : Kind} (told : KindOf cs i x) where
   share_unknown m n = record {
     says = λ t k e w b s h.
         let q = told.says t e w b in
-        let z : kind (denote t i) ≡ 0 = ⊎_elim (λ p. p) (λ c. ⊎_elim (λ p. absurd (m (same_kind x kinds.List (q ∙ p)))) (λ p. absurd (n (same_kind x kinds.Tuple (q ∙ p)))) c) s.kinds in
+        let no_list : (kind (denote t i) ≡ 8 → ⊥) = λ p. m (same_kind x kinds.List (q ∙ p)) in
+        let no_tuple : (kind (denote t i) ≡ 10 → ⊥) = λ p. n (same_kind x kinds.Tuple (q ∙ p)) in
+        let z : kind (denote t i) ≡ 0 = ⊎_elim (λ p. p) (λ c. ⊎_elim (λ p. absurd (no_list p)) (λ p. absurd (no_tuple p)) c) s.kinds in
         rw (spread_is k (denote t i) _ (unpacked_unknown k (denote t i) z), get_or-replicate k j unknown unknown h)
         (record { below = omega (arith, w.base); means = unknown_number w });
   }
