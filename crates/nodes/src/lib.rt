@@ -18,7 +18,7 @@ use image::{Cursor, kinds, literals};
 use rules::{Decision, index, stream, unary};
 use state::{Notes, Stack, Typed};
 use types;
-use types::{Counts, form};
+use types::{Counts, Kind, form};
 
 // ---- Literals
 
@@ -44,7 +44,7 @@ pub fn list_of(table: &mut [u16], counts: &mut Counts, element: usize) -> usize
     ensures { Forms table.old table.new counts.old counts.new result
         (λ t. list (denote t element)) }
 {
-    let formed = form(table, *counts, types::LIST, element, types::NO_PART);
+    let formed = form(table, *counts, Kind::List, element, types::NO_PART);
     *counts = formed.counts;
     formed.number
 }
@@ -55,7 +55,7 @@ pub fn dict_of(table: &mut [u16], counts: &mut Counts, key: usize, value: usize)
     ensures { Forms table.old table.new counts.old counts.new result
         (λ t. dict (denote t key) (denote t value)) }
 {
-    let formed = form(table, *counts, types::DICT, key, value);
+    let formed = form(table, *counts, Kind::Dict, key, value);
     *counts = formed.counts;
     formed.number
 }

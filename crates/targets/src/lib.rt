@@ -16,7 +16,7 @@ use frames::{Frames, bind, lookup, since};
 use image::{Cursor, kinds};
 use state::{Notes, Outcome, Walk};
 use types;
-use types::{agreed, kind_of, part_at, part_of, parts_of};
+use types::{Kind, agreed, kind_of, part_at, part_of, parts_of};
 
 // "Absent or Unknown takes the new type; Unknown keeps the old one; otherwise equal or 25": type `ty` for name x, at
 // node `at`, the Variable. 25 points at the node that first made the old type known, too.
@@ -45,8 +45,8 @@ fn unpack(table: &[u16], notes: &mut Notes, at: usize, ty: usize, k: u32) -> Out
     ensures { UnpacksInto at k ty result table.now notes.old notes.new }
 {
     match kind_of(table, ty) {
-        types::UNKNOWN | types::LIST => Ok(()),
-        types::TUPLE => {
+        Kind::Unknown | Kind::List => Ok(()),
+        Kind::Tuple => {
             let n = parts_of(table, ty);
             let k = k as usize;
             if n != k {
@@ -64,8 +64,8 @@ fn part_for(table: &[u16], ty: usize, j: usize) -> usize
     ensures { Share table.now ty j result }
 {
     match kind_of(table, ty) {
-        types::LIST => part_of(table, ty),
-        types::TUPLE => part_at(table, ty, j),
+        Kind::List => part_of(table, ty),
+        Kind::Tuple => part_at(table, ty, j),
         _ => types::UNKNOWN,
     }
 }

@@ -3,9 +3,9 @@ use Rattle.targets.proofs.Unpacking.{known_count, unpacks_any, unpacks_not, unpa
 use native.Mathlib.Omega.{arith}
 use Rattle.targets.proofs.unpack.Goals as goal
 
-pub returns-in-0 : goal.returns-in-0
-returns-in-0 c =
-    record { code = 0; a = 0; b = 0; unpacks = unpacks_any _ c.kind_of.ensures c.in-0.is; settled = settled_well }
+pub returns-in-Unknown : goal.returns-in-Unknown
+returns-in-Unknown c =
+    record { code = 0; a = 0; b = 0; unpacks = unpacks_any _ c.kind_of.ensures c.in-Unknown.is; settled = settled_well }
 
 pub returns-then-n-k : goal.returns-then-n-k
 returns-then-n-k c =
@@ -13,14 +13,14 @@ returns-then-n-k c =
       code = 26;
       a = _;
       b = _;
-      unpacks = unpacks_other _ c.kind_of.ensures c.in-10.is c.parts_of-n.ensures (omega arith)
+      unpacks = unpacks_other _ c.kind_of.ensures c.in-Tuple.is c.parts_of-n.ensures (omega arith)
           (known_count c.requires c.parts_of-n.ensures) c.if-n-k.true;
       settled = settled_ill (λ e. absurd (omega arith)) c.refuse.ensures;
     }
 
 pub returns-else-n-k : goal.returns-else-n-k
 returns-else-n-k c =
-    record { code = 0; a = 0; b = 0; unpacks = unpacks_tuple _ c.kind_of.ensures c.in-10.is c.parts_of-n.ensures c.if-n-k.false; settled = settled_well }
+    record { code = 0; a = 0; b = 0; unpacks = unpacks_tuple _ c.kind_of.ensures c.in-Tuple.is c.parts_of-n.ensures c.if-n-k.false; settled = settled_well }
 
 pub returns-in_default : goal.returns-in_default
 returns-in_default c =
@@ -28,6 +28,6 @@ returns-in_default c =
       code = 27;
       a = _;
       b = 0;
-      unpacks = unpacks_not _ c.kind_of.ensures (λ z. grind arith) (λ z. grind arith) (λ z. grind arith);
+      unpacks = unpacks_not _ c.kind_of.ensures c.in_default.not-Unknown c.in_default.not-List c.in_default.not-Tuple;
       settled = settled_ill (λ e. absurd (omega arith)) c.refuse-in_default.ensures;
     }
