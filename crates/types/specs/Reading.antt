@@ -5,6 +5,8 @@ use Rattle.meaning.specs.Base.{test◌then◌else◌, all}
 use Rattle.meaning.specs.Types.{Ty, kind, parts, part, common}
 use Rattle.meaning.specs.Rules.{element_of}
 use Rattle.meaning.specs.Walk.{agreed}
+use Rattle.types.specs.declared.Kind.{Kind}
+use Rattle.types.specs.Kinds.{kind_number}
 use Rattle.types.specs.Layout.{kind_in, first_in, second_in}
 use Rattle.types.specs.Table.{Tab, tab, capacity, Wf, Means, denote}
 
@@ -19,8 +21,8 @@ pub record Known (cs : List ℕ) (i : ℕ) : Type 0 where
 unfoldable pub type_at : List ℕ → ℕ → Ty
 type_at cs i = denote (tab cs (suc i) 0) i
 
-pub record KindOf (cs : List ℕ) (i r : ℕ) : Type 0 where
-  pub says : (t : Tab) → t.cells ≡ cs → Wf t → i < t.n → r ≡ kind (denote t i)
+pub record KindOf (cs : List ℕ) (i : ℕ) (r : Kind) : Type 0 where
+  pub says : (t : Tab) → t.cells ≡ cs → Wf t → i < t.n → kind_number r ≡ kind (denote t i)
 
 -- the part k, 0 or 1, of any type but a Tuple: Unknown where the type has no such part
 pub record PartOf (cs : List ℕ) (k i r : ℕ) : Type 0 where

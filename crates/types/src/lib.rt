@@ -11,6 +11,7 @@
 ghost use Rattle.std.specs.Prelude.{◌≡◌, map, length, get_or, take, drop, Bool, true, ℕ, ◌+◌, ◌*◌, ◌≤◌, ◌<◌};
 ghost use Rattle.meaning.specs.Types.{tuple, tys};
 ghost use Rattle.types.specs.Layout.{capacity, kind_cell, second_cell, link_cell, elements_from};
+ghost use Rattle.types.specs.Kinds.{kind_number, Numbered};
 ghost use Rattle.types.specs.Table.{step, tuple_hash, slot_of, Chains};
 ghost use Rattle.types.specs.Table.{Fresh, Wf, Made, tab, denote, built};
 ghost use Rattle.types.specs.Steps.{Asked, Listed, RecordAt, TupleAt, Told};
@@ -38,19 +39,34 @@ pub const FUNCTION: usize = 7;
 // The first number that is no plain type's.
 pub const STRUCTURED: usize = 8;
 
-// The kinds of the others: `List` is the first.
-pub const LIST: usize = 8;
+// What a type is built as: a plain type is its own kind, and stands here in the order of their numbers.
+#[derive(Clone, Copy, PartialEq, Eq)]
+pub enum Kind {
+    Unknown,
+    Int,
+    Bool,
+    String,
+    Float,
+    NoneType,
+    Range,
+    Function,
+    List,
+    Dict,
+    Tuple,
+    MapIter,
+    FilterIter,
+}
 
-pub const DICT: usize = 9;
-
-pub const TUPLE: usize = 10;
-
-pub const MAP_ITER: usize = 11;
-
-pub const FILTER_ITER: usize = 12;
+impl Kind {
+    pub fn number(self) -> usize
+        ensures { result ≡ kind_number self }
+    {
+        self as usize
+    }
+}
 
 // A Tuple's kind as a cell has it.
-const TUPLE_CELL: u16 = TUPLE as u16;
+const TUPLE_CELL: u16 = Kind::Tuple as u16;
 
 // The cells of a record: kind, p, q and its link. The kind is the first.
 const RECORD: usize = 4;
@@ -198,28 +214,32 @@ fn add(table: &mut [u16], slot: usize, i: usize, r: Record)
 }
 
 // The number of the List, Dict, MapIter or FilterIter of p (and q): the one it has, or the next one.
-pub fn form(table: &mut [u16], counts: Counts, kind: usize, p: usize, q: usize) -> Formed
-    requires { Asked (tab table.old counts.types counts.elements) kind p q }
+pub fn form(table: &mut [u16], counts: Counts, kind: Kind, p: usize, q: usize) -> Formed
+    requires { Asked (tab table.old counts.types counts.elements) (kind_number kind) p q }
     ensures { Made (tab table.old counts.types counts.elements)
         (tab table.new result.counts.types result.counts.elements)
         result.number
-        (built kind (denote (tab table.old counts.types counts.elements) p)
+        (built (kind_number kind) (denote (tab table.old counts.types counts.elements) p)
         (denote (tab table.old counts.types counts.elements) q))
         0 }
 {
     let types = counts.types;
+    let number = kind.number();
     let r = Record {
-        kind: kind as u16,
+        kind: number as u16,
         p: p as u16,
         q: q as u16,
     };
-    let slot = slot_of(table, mixed(mixed(kind, p), q));
+    let slot = slot_of(table, mixed(mixed(number, p), q));
     let is_it = |i: usize|
         requires { i < capacity table.now }
         ensures { Told (RecordAt table.entry.now r.kind r.p r.q i) result }
     { holds(table, i, r) };
-    if let Some(number) = find(table, slot, types, is_it) {
-        return Formed { number, counts };
+    if let Some(found) = find(table, slot, types, is_it) {
+        return Formed {
+            number: found,
+            counts,
+        };
     }
     add(table, slot, types, r);
     Formed {
@@ -257,7 +277,7 @@ fn matches(table: &[u16], first: usize, i: usize, elements: &[u16]) -> bool
 fn hash_of(elements: &[u16]) -> usize
     ensures { result ≡ tuple_hash elements.now }
 {
-    let mut h = TUPLE;
+    let mut h = Kind::Tuple as usize;
     for e in elements {
         h = mixed(h, usize::from(*e));
     }
@@ -306,12 +326,33 @@ pub fn tuple_of(table: &mut [u16], counts: Counts, stack: &[u16], from: usize, n
     }
 }
 
+// The kind of a number.
+pub fn numbered(number: usize) -> Kind
+    ensures { Numbered number result }
+{
+    match number {
+        0 => Kind::Unknown,
+        1 => Kind::Int,
+        2 => Kind::Bool,
+        3 => Kind::String,
+        4 => Kind::Float,
+        5 => Kind::NoneType,
+        6 => Kind::Range,
+        7 => Kind::Function,
+        8 => Kind::List,
+        9 => Kind::Dict,
+        10 => Kind::Tuple,
+        11 => Kind::MapIter,
+        _ => Kind::FilterIter,
+    }
+}
+
 // The kind of type i.
-pub fn kind_of(table: &[u16], i: usize) -> usize
+pub fn kind_of(table: &[u16], i: usize) -> Kind
     requires { i < capacity table.now }
     ensures { KindOf table.now i result }
 {
-    cell(table, RECORD * i)
+    numbered(cell(table, RECORD * i))
 }
 
 // The first part of type i, if that is no Tuple: 0, Unknown, if it has none.
@@ -344,10 +385,10 @@ pub fn parts_of(table: &[u16], i: usize) -> usize
     ensures { PartsOf table.now i result }
 {
     match kind_of(table, i) {
-        UNKNOWN..=FUNCTION => 0,
-        DICT => 2,
-        TUPLE => field(table, i, Q),
-        _ => 1,
+        Kind::Dict => 2,
+        Kind::Tuple => field(table, i, Q),
+        Kind::List | Kind::MapIter | Kind::FilterIter => 1,
+        _ => 0,
     }
 }
 
@@ -356,12 +397,10 @@ pub fn part_at(table: &[u16], i: usize, j: usize) -> usize
     requires { HasPart table.now i j }
     ensures { PartAt table.now i j result }
 {
-    if kind_of(table, i) == TUPLE {
-        element_at(table, i, j)
-    } else if j == 0 {
-        part_of(table, i)
-    } else {
-        second_of(table, i)
+    match kind_of(table, i) {
+        Kind::Tuple => element_at(table, i, j),
+        _ if j == 0 => part_of(table, i),
+        _ => second_of(table, i),
     }
 }
 
@@ -389,13 +428,13 @@ pub fn element_of(table: &[u16], i: usize) -> Option<usize>
     requires { IsNumber table.now i }
     ensures { ElementOf table.now i result }
 {
-    match cell(table, RECORD * i) {
-        UNKNOWN => Some(UNKNOWN),
-        STRING => Some(STRING),
-        RANGE => Some(INT),
-        TUPLE => Some(common_of(table, i)),
-        LIST..=FILTER_ITER => Some(part_of(table, i)),
-        _ => None,
+    match numbered(cell(table, RECORD * i)) {
+        Kind::Unknown => Some(UNKNOWN),
+        Kind::String => Some(STRING),
+        Kind::Range => Some(INT),
+        Kind::Tuple => Some(common_of(table, i)),
+        Kind::List | Kind::Dict | Kind::MapIter | Kind::FilterIter => Some(part_of(table, i)),
+        Kind::Int | Kind::Bool | Kind::Float | Kind::NoneType | Kind::Function => None,
     }
 }
 

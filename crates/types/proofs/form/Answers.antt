@@ -10,16 +10,20 @@ find-requires-clause-chains c =
 
 pub find-requires-clause-slot : goal.find-requires-clause-slot
 find-requires-clause-slot c =
-    slot_tested (λ i h q. q.yes refl) (form_slot c.requires (record_slot _ _ _ _ c.mixed.ensures.0 c.mixed-2.ensures.0 c.slot_of-slot.ensures))
+    let a = rw (← c.number-number.ensures) at c.requires in
+    slot_tested (λ i h q. q.yes refl) (form_slot a (record_slot _ _ _ _ c.mixed.ensures.0 c.mixed-2.ensures.0 c.slot_of-slot.ensures))
 
 pub add-requires : goal.add-requires
 add-requires c =
-    add_room _ refl c.requires.wf c.requires.room (form_slot c.requires (record_slot _ _ _ _ c.mixed.ensures.0 c.mixed-2.ensures.0 c.slot_of-slot.ensures))
+    let a = rw (← c.number-number.ensures) at c.requires in
+    add_room _ refl c.requires.wf c.requires.room (form_slot a (record_slot _ _ _ _ c.mixed.ensures.0 c.mixed-2.ensures.0 c.slot_of-slot.ensures))
 
 pub returns-in-Some : goal.returns-in-Some
 returns-in-Some c =
-    form_old _ _ _ _ c.requires (found_tested (λ i h q. q.yes refl) (λ i h q. told_yes q) c.find.ensures) c.in-Some.is
+    let a = rw (← c.number-number.ensures) at c.requires in
+    rw (← c.number-number.ensures) (form_old _ _ _ _ a (found_tested (λ i h q. q.yes refl) (λ i h q. told_yes q) c.find.ensures) c.in-Some.is)
 
 pub returns : goal.returns
 returns c =
-    form_new _ _ _ _ c.requires (found_tested (λ i h q. q.yes refl) (λ i h q. told_yes q) c.find.ensures) c.in_default.is (record_slot _ _ _ _ c.mixed.ensures.0 c.mixed-2.ensures.0 c.slot_of-slot.ensures) c.add.ensures
+    let a = rw (← c.number-number.ensures) at c.requires in
+    rw (← c.number-number.ensures) (form_new _ _ _ _ a (found_tested (λ i h q. q.yes refl) (λ i h q. told_yes q) c.find.ensures) c.in_default.is (record_slot _ _ _ _ c.mixed.ensures.0 c.mixed-2.ensures.0 c.slot_of-slot.ensures) c.add.ensures)
