@@ -3,9 +3,8 @@ use mathlib.Core.Path.{◌≡◌, refl, sym, ap, ◌∙◌}
 use mathlib.Core.Bool.{true, false}
 use mathlib.Core.Logic.{◌⊎◌, inl, inr}
 use mathlib.Core.List.{List, [], ◌∷◌}
-use Prim.Native.Nat.{ℕ, ◌<◌, ◌≤◌}
+use Prim.Native.Nat.{ℕ, ◌<◌}
 use native.Mathlib.Omega.{arith}
-use native.Mathlib.Decide.{ℕ_discrete}
 use borrow.Author.Tests.{eq-eqb, ne_eqb}
 use lib.Dec.{eqb}
 use Rattle.meaning.specs.Base.{◌or◌, test◌then◌else◌, is_in, base_open}
@@ -13,6 +12,10 @@ use Rattle.meaning.specs.Types.{int, maybe, plain}
 use Rattle.meaning.specs.Message.{a_type}
 use Rattle.meaning.specs.Operators.{ok, when}
 use Rattle.types.specs.Table.{Tab, Wf, denote}
+use Rattle.types.specs.declared.Kind.{Kind}
+use Rattle.types.specs.declared.Kind.TheVariants as kind
+use Rattle.types.proofs.OfKind.{same_kind}
+use Rattle.types.specs.Kinds.{kind_number}
 use Rattle.types.specs.Reading.{KindOf}
 use Rattle.types.proofs.Laws.{plain_number, same_number, same_unknown}
 use Rattle.std.specs.Prelude.{Ok, Err}
@@ -83,43 +86,33 @@ module _ {i : ℕ} {d : Decision} where
 
 -- ---- len
 
-module _ (k : ℕ) where
-  pub sized_single : (k ≡ 0) ⊎ (k ≡ 3) → true ≡ is_in k (0 ∷ 3 ∷ 8 ∷ 9 ∷ 10 ∷ [])
-  unfolding is_in ◌or◌
-  sized_single (inl e) = rw e
-  sized_single (inr e) = rw e
+pub sized_in : {k : Kind} → (k ≡ kind.Unknown) ⊎ ((k ≡ kind.String) ⊎ ((k ≡ kind.List) ⊎ ((k ≡ kind.Dict) ⊎ (k ≡ kind.Tuple))))
+    → true ≡ is_in (kind_number k) (0 ∷ 3 ∷ 8 ∷ 9 ∷ 10 ∷ [])
+unfolding is_in ◌or◌
+sized_in (inl e) = rw e
+sized_in (inr (inl e)) = rw e
+sized_in (inr (inr (inl e))) = rw e
+sized_in (inr (inr (inr (inl e)))) = rw e
+sized_in (inr (inr (inr (inr e)))) = rw e
 
-  pub sized_run : 8 ≤ k → k < 11 → true ≡ is_in k (0 ∷ 3 ∷ 8 ∷ 9 ∷ 10 ∷ [])
-  unfolding is_in ◌or◌
-  sized_run l m = elim (ℕ_discrete k 8) [
-    | yes e ↦ rw e
-    | no a ↦ elim (ℕ_discrete k 9) [
-      | yes e ↦ rw e
-      | no b ↦ let e : k ≡ 10 = omega arith in rw e
-    ]
-  ]
+pub sized_none : (k : Kind) → (k ≡ kind.Unknown → ⊥) → (k ≡ kind.String → ⊥) → (k ≡ kind.List → ⊥) → (k ≡ kind.Dict → ⊥) → (k ≡ kind.Tuple → ⊥)
+    → false ≡ is_in (kind_number k) (0 ∷ 3 ∷ 8 ∷ 9 ∷ 10 ∷ [])
+unfolding is_in ◌or◌
+sized_none k a b c d e =
+    rw (
+      ne_eqb (kind_number k) 0 (λ z. a (same_kind k kind.Unknown z)),
+      ne_eqb (kind_number k) 3 (λ z. b (same_kind k kind.String z)),
+      ne_eqb (kind_number k) 8 (λ z. c (same_kind k kind.List z)),
+      ne_eqb (kind_number k) 9 (λ z. d (same_kind k kind.Dict z)),
+      ne_eqb (kind_number k) 10 (λ z. e (same_kind k kind.Tuple z)),
+    )
 
-  outside : (k < 8) ⊎ (11 ≤ k) → (m : ℕ) → 8 ≤ m → m < 11 → k ≡ m → ⊥
-  outside (inl l) m a b e = absurd (omega arith)
-  outside (inr l) m a b e = absurd (omega arith)
-
-  pub sized_none : ((k ≡ 0) ⊎ (k ≡ 3) → ⊥) → (k < 8) ⊎ (11 ≤ k) → false ≡ is_in k (0 ∷ 3 ∷ 8 ∷ 9 ∷ 10 ∷ [])
-  unfolding is_in ◌or◌
-  sized_none d l =
-      rw (
-        ne_eqb k 0 (λ e. d (inl e)),
-        ne_eqb k 3 (λ e. d (inr e)),
-        ne_eqb k 8 (outside l 8 (omega arith) (omega arith)),
-        ne_eqb k 9 (outside l 9 (omega arith) (omega arith)),
-        ne_eqb k 10 (outside l 10 (omega arith) (omega arith)),
-      )
-
-module _ {cs : List ℕ} {i k : ℕ} (kind_is : KindOf cs i k) where
+module _ {cs : List ℕ} {i : ℕ} {k : Kind} (kind_is : KindOf cs i k) where
   sized_by : (t : Tab) (n : ℕ) → t.cells ≡ cs → Wf t → i < t.n
-      → sized_rule n (denote t i) ≡ when (is_in k (0 ∷ 3 ∷ 8 ∷ 9 ∷ 10 ∷ [])) int 40 n (a_type (denote t i) ∷ [])
+      → sized_rule n (denote t i) ≡ when (is_in (kind_number k) (0 ∷ 3 ∷ 8 ∷ 9 ∷ 10 ∷ [])) int 40 n (a_type (denote t i) ∷ [])
   sized_by t n s w h = rw (kind_is.says t s w h)
 
-  pub sized_yes : true ≡ is_in k (0 ∷ 3 ∷ 8 ∷ 9 ∷ 10 ∷ []) → OfOne cs sized_rule i (Ok 1)
+  pub sized_yes : true ≡ is_in (kind_number k) (0 ∷ 3 ∷ 8 ∷ 9 ∷ 10 ∷ []) → OfOne cs sized_rule i (Ok 1)
   unfolding when test◌then◌else◌ plain
   sized_yes e = record {
     says = λ ws t n s w h.
@@ -127,7 +120,7 @@ module _ {cs : List ℕ} {i k : ℕ} (kind_is : KindOf cs i k) where
         (sized_by t n s w h ∙ rw (sym e) (ap ok (sym (plain_number w 1 (omega arith)))));
   }
 
-  pub sized_no : false ≡ is_in k (0 ∷ 3 ∷ 8 ∷ 9 ∷ 10 ∷ []) → OfOne cs sized_rule i (Err (because Len i 0))
+  pub sized_no : false ≡ is_in (kind_number k) (0 ∷ 3 ∷ 8 ∷ 9 ∷ 10 ∷ []) → OfOne cs sized_rule i (Err (because Len i 0))
   unfolding when test◌then◌else◌
   sized_no e = record {
     says = λ ws t n s w h. refuses_one n Len i 0 names_sized h (sized_by t n s w h ∙ rw (sym e));

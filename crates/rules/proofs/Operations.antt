@@ -10,6 +10,8 @@ use Rattle.meaning.specs.Types.{plain}
 use Rattle.meaning.specs.Decode.{binary_of, unary_of}
 use Rattle.meaning.specs.Operators.{ok, when, operator_answer, unary_answer, binary_rule, unary_rule}
 use Rattle.types.specs.Table.{Tab, Wf, denote}
+use Rattle.types.specs.declared.Kind.{Kind}
+use Rattle.types.specs.Kinds.{kind_number}
 use Rattle.types.specs.Reading.{Known, KindOf}
 use Rattle.types.proofs.Laws.{plain_number, same_number}
 use Rattle.operators.proofs.Laws.{kind_below, BinaryMeans, binary_means, UnaryMeans, unary_means}
@@ -23,7 +25,7 @@ use Rattle.rules.specs.Leaves.{OfOne, OfTwo}
 use Rattle.rules.proofs.Outcomes.{accepts, refuses_one, refuses_two}
 
 -- the lookups take every kind that is read
-pub read_kind : {cs : List ℕ} {i k : ℕ} → Known cs i → KindOf cs i k → k < 13
+pub read_kind : {cs : List ℕ} {i : ℕ} {k : Kind} → Known cs i → KindOf cs i k → kind_number k < 13
 read_kind {cs} {i} d r = omega (arith, r.says d.table d.cells d.wf d.below, kind_below (denote d.table i))
 
 -- ---- one operand
@@ -35,7 +37,7 @@ unary_names x l m = elim (ℕ_discrete x 34) [
   | no n ↦ let e : x ≡ 35 = omega arith in rw e
 ]
 
-module _ {cs : List ℕ} {i k x : ℕ} (op : ℕ) (kind_is : KindOf cs i k) (answer : x ≡ unary_answer (unary_of op) k) where
+module _ {cs : List ℕ} {i x : ℕ} {k : Kind} (op : ℕ) (kind_is : KindOf cs i k) (answer : x ≡ unary_answer (unary_of op) (kind_number k)) where
   means : (t : Tab) (n : ℕ) → t.cells ≡ cs → Wf t → i < t.n → UnaryMeans n op (denote t i) x
   means t n s w h = unary_means n op (denote t i) (kind_is.says t s w h) answer
 
@@ -71,8 +73,8 @@ binary_names x l m = elim (ℕ_discrete x 29) [
   ]
 ]
 
-module _ {cs : List ℕ} {i j k l x : ℕ} (op : ℕ) (left : KindOf cs i k) (right : KindOf cs j l)
-    (answer : x ≡ operator_answer (binary_of op) k l) where
+module _ {cs : List ℕ} {i j x : ℕ} {k l : Kind} (op : ℕ) (left : KindOf cs i k) (right : KindOf cs j l)
+    (answer : x ≡ operator_answer (binary_of op) (kind_number k) (kind_number l)) where
   both_mean : (t : Tab) (n : ℕ) → t.cells ≡ cs → Wf t → i < t.n → j < t.n → BinaryMeans n op (denote t i) (denote t j) x
   both_mean t n s w hi hj = binary_means n op (denote t i) (denote t j) (left.says t s w hi) (right.says t s w hj) answer
 

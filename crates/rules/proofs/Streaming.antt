@@ -1,16 +1,20 @@
 -- The second argument of map and filter, and the type that they give.
 use mathlib.Core.Path.{◌≡◌, refl, sym, ap, ◌∙◌}
 use mathlib.Core.Bool.{Bool, true, false}
+use mathlib.Core.Logic.{◌⊎◌, inl, inr}
 use mathlib.Core.List.{List}
-use Prim.Native.Nat.{ℕ, ◌<◌, ◌≤◌}
+use Prim.Native.Nat.{ℕ}
 use native.Mathlib.Omega.{arith}
-use native.Mathlib.Decide.{ℕ_discrete}
 use borrow.Author.Tests.{ne_eqb}
 use Rattle.meaning.specs.Base.{◌or◌, test◌then◌else◌, choose, if_some, is_in, base_open}
 use Rattle.meaning.specs.Operators.{ok}
 use Rattle.meaning.specs.Rules.{streamed}
 use Rattle.types.specs.Table.{Tab, Wf, Made, shaped, built, denote}
 use Rattle.types.specs.Steps.{Asked}
+use Rattle.types.specs.declared.Kind.{Kind}
+use Rattle.types.specs.declared.Kind.TheVariants as kind
+use Rattle.types.proofs.OfKind.{same_kind}
+use Rattle.types.specs.Kinds.{kind_number}
 use Rattle.types.specs.Reading.{KindOf, perhaps, ElementOf}
 use Rattle.types.proofs.Laws.{unknown_number}
 use Rattle.types.proofs.Forming.{ask_map, ask_filter}
@@ -24,21 +28,21 @@ use Rattle.rules.proofs.Outcomes.{names_none, accepts, refuses_one}
 
 -- ---- what a walk gives, but for Dict and Tuple
 
-module _ {cs : List ℕ} {i k : ℕ} (kind_is : KindOf cs i k) where
-  pub stream_none : 9 ≤ k → k < 11 → StreamedOf cs i None
+module _ {cs : List ℕ} {i : ℕ} {k : Kind} (kind_is : KindOf cs i k) where
+  pub stream_none : (k ≡ kind.Dict) ⊎ (k ≡ kind.Tuple) → StreamedOf cs i None
   unfolding streamed is_in ◌or◌ test◌then◌else◌ perhaps
-  stream_none l m = record {
-    says = λ t s w h. elim (ℕ_discrete k 9) [
-      | yes e ↦ rw (sym (kind_is.says t s w h) ∙ e)
-      | no d ↦ let e : k ≡ 10 = omega arith in rw (sym (kind_is.says t s w h) ∙ e)
-    ];
-    below = λ t s w h k z. absurd (cc);
-  }
+  stream_none (inl e) = record { says = λ t s w h. rw (sym (kind_is.says t s w h) ∙ ap kind_number e); below = λ t s w h k z. absurd (cc) }
+  stream_none (inr e) = record { says = λ t s w h. rw (sym (kind_is.says t s w h) ∙ ap kind_number e); below = λ t s w h k z. absurd (cc) }
 
-  pub stream_other : {r : Option ℕ} → (k ≡ 9 → ⊥) → (k ≡ 10 → ⊥) → ElementOf cs i r → StreamedOf cs i r
+  pub stream_other : {r : Option ℕ} → (k ≡ kind.Dict → ⊥) → (k ≡ kind.Tuple → ⊥) → ElementOf cs i r → StreamedOf cs i r
   unfolding streamed is_in ◌or◌ test◌then◌else◌
   stream_other d f x = record {
-    says = λ t s w h. rw (sym (kind_is.says t s w h), ne_eqb k 9 d, ne_eqb k 10 f) (x.says t s w h);
+    says = λ t s w h.
+        rw (
+          sym (kind_is.says t s w h),
+          ne_eqb (kind_number k) 9 (λ z. d (same_kind k kind.Dict z)),
+          ne_eqb (kind_number k) 10 (λ z. f (same_kind k kind.Tuple z)),
+        ) (x.says t s w h);
     below = x.below;
   }
 

@@ -16,7 +16,7 @@ ghost use Rattle.rules.specs.Leaves.{StreamedOf, stream_type, second_code, Asks,
 use codes::Code;
 use operators::{Answer, answer_of, unary_answer_of};
 use types;
-use types::{Counts, Formed, common_of, element_of, form, kind_of, part_of, second_of};
+use types::{Counts, Formed, Kind, common_of, element_of, form, kind_of, part_of, second_of};
 
 // A refusal as it is decided: its code and the two numbers that its message needs.
 #[derive(Clone, Copy)]
@@ -42,7 +42,7 @@ pub fn unary(table: &[u16], op: u32, i: usize) -> Decision
     requires known { Known table.now i }
     ensures { OfOne table.now (λ n. unary_rule n (unary_of op)) i result }
 {
-    match unary_answer_of(op, kind_of(table, i) as u32) {
+    match unary_answer_of(op, kind_of(table, i).number() as u32) {
         Ok(ty) => Ok(ty),
         Err(code) => refused(code, i, 0),
     }
@@ -56,8 +56,8 @@ pub fn binary(table: &[u16], op: u32, left: usize, right: usize) -> Decision
 {
     let answer = answer_of(
         op,
-        kind_of(table, left) as u32,
-        kind_of(table, right) as u32,
+        kind_of(table, left).number() as u32,
+        kind_of(table, right).number() as u32,
     );
     match answer {
         Answer::Type(ty) => Ok(ty),
@@ -153,7 +153,7 @@ pub fn len(table: &[u16], a: usize) -> Decision
     ensures { OfOne table.now sized_rule a result }
 {
     match kind_of(table, a) {
-        types::UNKNOWN | types::STRING | types::LIST | types::DICT | types::TUPLE => Ok(types::INT),
+        Kind::Unknown | Kind::String | Kind::List | Kind::Dict | Kind::Tuple => Ok(types::INT),
         _ => refused(Code::Len, a, 0),
     }
 }
@@ -176,11 +176,11 @@ pub fn index(table: &[u16], object: usize, index: usize) -> Decision
     ensures { Indexed table.now object index result }
 {
     match kind_of(table, object) {
-        types::UNKNOWN => Ok(types::UNKNOWN),
-        types::STRING => expect(types::INT, index, Code::StringIndex, types::STRING),
-        types::LIST => expect(types::INT, index, Code::ListIndex, part_of(table, object)),
-        types::DICT => key(part_of(table, object), index, second_of(table, object)),
-        types::TUPLE => expect(
+        Kind::Unknown => Ok(types::UNKNOWN),
+        Kind::String => expect(types::INT, index, Code::StringIndex, types::STRING),
+        Kind::List => expect(types::INT, index, Code::ListIndex, part_of(table, object)),
+        Kind::Dict => key(part_of(table, object), index, second_of(table, object)),
+        Kind::Tuple => expect(
             types::INT,
             index,
             Code::TupleIndex,
@@ -198,7 +198,7 @@ fn streamed_of(table: &[u16], i: usize) -> Option<usize>
     ensures { StreamedOf table.now i result }
 {
     match kind_of(table, i) {
-        types::DICT | types::TUPLE => None,
+        Kind::Dict | Kind::Tuple => None,
         _ => element_of(table, i),
     }
 }
@@ -223,15 +223,9 @@ fn iterator(table: &mut [u16], counts: Counts, filters: bool, element: usize) ->
         0 }
 {
     if filters {
-        form(table, counts, types::FILTER_ITER, element, types::NO_PART)
+        form(table, counts, Kind::FilterIter, element, types::NO_PART)
     } else {
-        form(
-            table,
-            counts,
-            types::MAP_ITER,
-            types::UNKNOWN,
-            types::NO_PART,
-        )
+        form(table, counts, Kind::MapIter, types::UNKNOWN, types::NO_PART)
     }
 }
 

@@ -4,16 +4,20 @@ use Rattle.rules.proofs.binary.Goals as goal
 
 pub returns-in-Type : goal.returns-in-Type
 returns-in-Type c =
-    rw c.in-Type.ensures.0 (binary_gives _ c.kind_of.ensures c.kind_of-2.ensures refl c.in-Type.ensures.1)
+    let e = rw (c.number.ensures, c.number-2.ensures) at c.in-Type.ensures in
+    rw e.0 (binary_gives _ c.kind_of.ensures c.kind_of-2.ensures refl e.1)
 
 pub returns-in-Whole : goal.returns-in-Whole
 returns-in-Whole c =
-    binary_equal _ c.kind_of.ensures c.kind_of-2.ensures refl c.in-Whole.ensures c.if-left-right.true
+    let e = rw (c.number.ensures, c.number-2.ensures) at c.in-Whole.ensures in
+    binary_equal _ c.kind_of.ensures c.kind_of-2.ensures refl e c.if-left-right.true
 
 pub returns-in-Whole-2 : goal.returns-in-Whole-2
 returns-in-Whole-2 c =
-    rw c.refused.ensures (binary_differs _ c.kind_of.ensures c.kind_of-2.ensures refl c.in-Whole.ensures c.if-left-right.false)
+    let e = rw (c.number.ensures, c.number-2.ensures) at c.in-Whole.ensures in
+    rw c.refused.ensures (binary_differs _ c.kind_of.ensures c.kind_of-2.ensures refl e c.if-left-right.false)
 
 pub returns-in-Refused : goal.returns-in-Refused
 returns-in-Refused c =
-    rw c.refused-in-Refused.ensures (binary_refuses _ c.kind_of.ensures c.kind_of-2.ensures refl c.in-Refused.ensures)
+    let e = rw (c.number.ensures, c.number-2.ensures) at c.in-Refused.ensures in
+    rw c.refused-in-Refused.ensures (binary_refuses _ c.kind_of.ensures c.kind_of-2.ensures refl e)

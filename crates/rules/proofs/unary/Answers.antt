@@ -4,8 +4,8 @@ use Rattle.rules.proofs.unary.Goals as goal
 
 pub returns-in-Ok : goal.returns-in-Ok
 returns-in-Ok c =
-    rw c.in-Ok.ensures.0 (unary_gives _ c.kind_of.ensures refl c.in-Ok.ensures.1)
+    let e = rw c.number.ensures at c.in-Ok.ensures in rw e.0 (unary_gives _ c.kind_of.ensures refl e.1)
 
 pub returns-in-Err : goal.returns-in-Err
 returns-in-Err c =
-    rw c.refused.ensures (unary_refuses _ c.kind_of.ensures refl c.in-Err.ensures)
+    rw c.refused.ensures (unary_refuses _ c.kind_of.ensures refl (rw c.number.ensures at c.in-Err.ensures))
