@@ -1,4 +1,3 @@
-use mathlib.Core.Path.{sym}
 use native.Mathlib.Omega.{arith}
 use Rattle.sheet.proofs.Reading.{form_none, form_asked, form_made}
 use Rattle.sheet.proofs.reader.form_other.Goals as goal
