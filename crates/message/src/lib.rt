@@ -11,6 +11,7 @@ ghost use Rattle.meaning.specs.Types.{text};
 ghost use Rattle.meaning.proofs.Faults.{Headed};
 ghost use Rattle.image.specs.Parts.{name_means, record_of};
 ghost use Rattle.rules.specs.Outcome.{taken};
+ghost use Rattle.types.specs.Kinds.{kind_number};
 ghost use Rattle.types.specs.Table.{most_numbers, tab};
 ghost use Rattle.types.specs.Reading.{Known, type_at};
 ghost use Rattle.codes.specs.Codes.{code_number};
@@ -25,8 +26,7 @@ use codes::Code;
 use formats::format_of;
 use image::{NameAt, areas, name_at, roles};
 use limits::MOST_NODES;
-use types;
-use types::{Counts, kind_of, part_at, parts_of};
+use types::{Counts, Kind, STRUCTURED, kind_of, part_at, parts_of};
 use words::{decimal_length, put, put_decimal, text as part_of_text};
 
 // What a message names: a type, a part of the image, a number, two numbers with a dash, or any count of arguments.
@@ -42,35 +42,42 @@ enum Piece {
 
 // ---- what stands around the parts of a type, and between them
 
-fn opening(kind: usize) -> &'static [u8]
-    ensures { result.now ≡ opening kind }
+fn opening(kind: Kind) -> &'static [u8]
+    ensures { result.now ≡ opening (kind_number kind) }
 {
     match kind {
-        types::UNKNOWN => b"Unknown",
-        types::INT => b"Int",
-        types::BOOL => b"Bool",
-        types::STRING => b"String",
-        types::FLOAT => b"Float",
-        types::NONE_TYPE => b"NoneType",
-        types::RANGE => b"Range",
-        types::FUNCTION => b"Function",
-        types::LIST => b"List(",
-        types::DICT => b"Dict(",
-        types::TUPLE => b"Tuple([",
-        types::MAP_ITER => b"MapIter(",
-        types::FILTER_ITER => b"FilterIter(",
-        _ => b"",
+        Kind::Unknown => b"Unknown",
+        Kind::Int => b"Int",
+        Kind::Bool => b"Bool",
+        Kind::String => b"String",
+        Kind::Float => b"Float",
+        Kind::NoneType => b"NoneType",
+        Kind::Range => b"Range",
+        Kind::Function => b"Function",
+        Kind::List => b"List(",
+        Kind::Dict => b"Dict(",
+        Kind::Tuple => b"Tuple([",
+        Kind::MapIter => b"MapIter(",
+        Kind::FilterIter => b"FilterIter(",
     }
 }
 
-#[tactic(auto, unfolding(crate::proofs::Open::texts_open), using(std::proofs::lemmas::Bool::Decides::nat_tests))]
-fn closing(kind: usize) -> &'static [u8]
-    ensures { result.now ≡ closing kind }
+#[tactic(auto, unfolding(crate::proofs::Open::texts_open))]
+fn closing(kind: Kind) -> &'static [u8]
+    ensures { result.now ≡ closing (kind_number kind) }
 {
-    if kind < types::STRUCTURED {
-        return b"";
+    match kind {
+        Kind::Unknown
+        | Kind::Int
+        | Kind::Bool
+        | Kind::String
+        | Kind::Float
+        | Kind::NoneType
+        | Kind::Range
+        | Kind::Function => b"",
+        Kind::Tuple => b"])",
+        Kind::List | Kind::Dict | Kind::MapIter | Kind::FilterIter => b")",
     }
-    if kind == types::TUPLE { b"])" } else { b")" }
 }
 
 // Nothing stands before the first part.
@@ -236,7 +243,7 @@ struct Message<'a> {
 
 const FEW: usize = 64;
 
-const MANY: usize = types::STRUCTURED + MOST_NODES;
+const MANY: usize = STRUCTURED + MOST_NODES;
 
 impl Message<'_> {
     // Its length, up to the cap: the plain bytes of the format are known by its length and its gaps.

@@ -16,8 +16,12 @@ use Rattle.meaning.proofs.SheetWords.{words_length, laid_length}
 use Rattle.meaning.proofs.SheetTypes.{Known, number_plain, number_le}
 use Rattle.words.specs.Words.{put_at}
 use Rattle.words.proofs.Laws.{put_nil, put_put, put_length, words_append}
+use Rattle.types.specs.declared.Kind.{Kind}
+use Rattle.types.specs.declared.Kind.TheVariants as the_kind
+use Rattle.types.specs.Kinds.{kind_number}
 use Rattle.types.specs.Table.{Tab, most_numbers, capacity, denote}
 use Rattle.types.specs.Reading.{KindOf, PartOf, PartsOf, HasPart, PartAt}
+use Rattle.types.proofs.OfKind.{same_kind}
 use Rattle.types.proofs.Parts.{kind_most, parts_few}
 use Rattle.types.proofs.Readers.{in_room, has_part}
 use Rattle.sheet.specs.declared.writer.Marks.{Marks}
@@ -92,11 +96,11 @@ module _ {cs : List ℕ} {ms : Marks} {i : ℕ} (m : Met cs ms i) where
 
   -- ---- its record
 
-  pub record_tuple : {k q : ℕ} (from : ℕ) → KindOf cs i k → k ≡ 10 → PartsOf cs i q → record_bytes tt₀ ms from i ≡ words (10 ∷ from ∷ q ∷ [])
+  pub record_tuple : {k : Kind} {q : ℕ} (from : ℕ) → KindOf cs i k → k ≡ the_kind.Tuple → PartsOf cs i q → record_bytes tt₀ ms from i ≡ words (kind_number k ∷ from ∷ q ∷ [])
   unfolding type_record test◌then◌else◌ laid
   record_tuple from told h many =
-      let e : kind (denote tt₀ i) ≡ 10 = sym (told.says tt₀ refl m.marked.wf m.below) ∙ h in
-      rw (eq-eqb _ _ e, many.says tt₀ refl m.marked.wf m.below)
+      let e : kind (denote tt₀ i) ≡ 10 = sym (told.says tt₀ refl m.marked.wf m.below) ∙ ap kind_number h in
+      rw (h, eq-eqb _ _ e, many.says tt₀ refl m.marked.wf m.below)
 
   plain_zero : number (types_in tt₀ ms) unknown ≡ 0
   unfolding kind
@@ -108,19 +112,19 @@ module _ {cs : List ℕ} {ms : Marks} {i : ℕ} (m : Met cs ms i) where
       ap (get_or (map (number (types_in tt₀ ms)) (parts (denote tt₀ i))) j) (sym plain_zero)
       ∙ get_or-map (number (types_in tt₀ ms)) (parts (denote tt₀ i)) j unknown
 
-  module _ {k : ℕ} (told : KindOf cs i k) where
-    own_kind : k ≡ kind (denote tt₀ i)
+  module _ {k : Kind} (told : KindOf cs i k) where
+    own_kind : kind_number k ≡ kind (denote tt₀ i)
     own_kind = told.says tt₀ refl m.marked.wf m.below
 
-    pub kind_small : k < 4294967296
+    pub kind_small : kind_number k < 4294967296
     kind_small = omega (arith, own_kind, kind_most m.marked.wf i m.below)
 
-    module _ (n : k ≡ 10 → ⊥) where
+    module _ (n : k ≡ the_kind.Tuple → ⊥) where
       not_tuple : kind (denote tt₀ i) ≡ 10 → ⊥
-      not_tuple z = n (own_kind ∙ z)
+      not_tuple z = n (same_kind k the_kind.Tuple (own_kind ∙ z))
 
       pub record_other : {r s p q : ℕ} (from : ℕ) → PartOf cs 0 i r → NumberOf ms r p → PartOf cs 1 i s → NumberOf ms s q
-          → record_bytes tt₀ ms from i ≡ words (k ∷ p ∷ q ∷ [])
+          → record_bytes tt₀ ms from i ≡ words (kind_number k ∷ p ∷ q ∷ [])
       unfolding type_record test◌then◌else◌ laid
       record_other from a x b y =
           let ma = a.says tt₀ refl m.marked.wf m.below not_tuple in

@@ -11,8 +11,12 @@ use Rattle.meaning.specs.Base.{test◌then◌else◌}
 use Rattle.meaning.specs.Types.{Ty, unknown, kind, parts}
 use Rattle.meaning.specs.Sheet.{elements_in, elements_of}
 use Rattle.meaning.proofs.SheetTypes.{number_plain, number_above}
+use Rattle.types.specs.declared.Kind.{Kind}
+use Rattle.types.specs.declared.Kind.TheVariants as the_kind
+use Rattle.types.specs.Kinds.{kind_number}
 use Rattle.types.specs.Table.{Tab, most_numbers, capacity, denote, Wf}
 use Rattle.types.specs.Reading.{KindOf, PartsOf}
+use Rattle.types.proofs.OfKind.{same_kind}
 use Rattle.types.proofs.Parts.{plain_kind_of, structured, parts_few}
 use Rattle.sheet.specs.declared.writer.Marks.{Marks}
 use Rattle.sheet.specs.Counting.{most_written}
@@ -30,19 +34,19 @@ pub elements_none : (t : Ty) → (kind t ≡ 10 → ⊥) → elements_in t ≡ [
 unfolding elements_in test◌then◌else◌
 elements_none t n = rw (ne_eqb _ _ n)
 
-module _ {cs : List ℕ} {i k : ℕ} (told : KindOf cs i k) where
-  is : (t : Tab) → t.cells ≡ cs → Wf t → i < t.n → k ≡ 10 → kind (denote t i) ≡ 10
-  is t e w b h = sym (told.says t e w b) ∙ h
+module _ {cs : List ℕ} {i : ℕ} {k : Kind} (told : KindOf cs i k) where
+  is : (t : Tab) → t.cells ≡ cs → Wf t → i < t.n → k ≡ the_kind.Tuple → kind (denote t i) ≡ 10
+  is t e w b h = sym (told.says t e w b) ∙ ap kind_number h
 
-  pub elements_some : {r : ℕ} → k ≡ 10 → PartsOf cs i r → ElementsIn cs i r
+  pub elements_some : {r : ℕ} → k ≡ the_kind.Tuple → PartsOf cs i r → ElementsIn cs i r
   elements_some h p = record {
     says = λ t e w b. p.says t e w b ∙ ap length (sym (elements_tuple (denote t i) (is t e w b h)));
     small = λ t e w b. omega (arith, p.says t e w b, parts_few w i b);
   }
 
-  pub elements_no : (k ≡ 10 → ⊥) → ElementsIn cs i 0
+  pub elements_no : (k ≡ the_kind.Tuple → ⊥) → ElementsIn cs i 0
   elements_no n = record {
-    says = λ t e w b. ap length (sym (elements_none (denote t i) (λ z. n (told.says t e w b ∙ z))));
+    says = λ t e w b. ap length (sym (elements_none (denote t i) (λ z. n (same_kind k the_kind.Tuple (told.says t e w b ∙ z)))));
     small = λ t e w b. omega arith;
   }
 

@@ -3,6 +3,7 @@ ghost use Rattle.std.specs.Prelude.{◌≡◌, [], map, false, eqb, length, take
 ghost use Rattle.meaning.specs.Base.{word, test◌then◌else◌};
 ghost use Rattle.meaning.specs.Limits.{most_types};
 ghost use Rattle.meaning.specs.Read.{type_from, is_sheet};
+ghost use Rattle.types.specs.Kinds.{kind_number};
 ghost use Rattle.types.specs.Table.{most_numbers, capacity, Fresh, tab, denote, Wf, Made};
 ghost use Rattle.sheet.specs.Listing.{Listing, listed};
 ghost use Rattle.sheet.specs.Reading.{Headed, Told, number_in, Gathering, Gathered, Tupling, tuple_at, Forming};
@@ -16,8 +17,8 @@ use crate::records::{ELEMENT, NAME_RECORD, SECOND_WORD, THIRD_WORD, TYPE_RECORD}
 use crate::writer::write;
 use limits::{LARGEST_SHEET, LONGEST_NAME, MOST_ELEMENTS, MOST_NAMES, MOST_TYPES};
 use types::{
-    CELLS, Counts, DICT, FILTER_ITER, FRESH, Formed, LIST, NO_PART, STRUCTURED, TUPLE, UNKNOWN,
-    form, start, tuple_of,
+    CELLS, Counts, FRESH, Formed, Kind, NO_PART, STRUCTURED, UNKNOWN, form, numbered, start,
+    tuple_of,
 };
 use words::{get_word, same, text, text_stands};
 
@@ -126,13 +127,13 @@ fn form_tuple(
     tuple_of(table, counts, &stack, 0, q)
 }
 
-fn second_in(numbers: &[u16], kind: usize, q: usize) -> usize
-    ensures { result ≡ (test eqb kind 9 then number_in numbers.now q else 0) }
+fn second_in(numbers: &[u16], kind: Kind, q: usize) -> usize
+    ensures { result ≡ (test eqb (kind_number kind) 9 then number_in numbers.now q else 0) }
 {
-    if kind == DICT {
-        return number_in(numbers, q);
+    match kind {
+        Kind::Dict => number_in(numbers, q),
+        _ => NO_PART,
     }
-    NO_PART
 }
 
 // A kind that is none is read as Unknown.
@@ -152,12 +153,13 @@ fn form_other(
         numbers.now) (kind, p, q))
         0 }
 {
-    if kind < LIST || FILTER_ITER < kind {
+    if kind < STRUCTURED || kind > Kind::FilterIter as usize {
         return Formed {
             number: UNKNOWN,
             counts,
         };
     }
+    let kind = numbered(kind);
     let a = number_in(numbers, p);
     let b = second_in(numbers, kind, q);
     form(table, counts, kind, a, b)
@@ -182,7 +184,7 @@ fn read_type(
     let kind = word_at(sheet.bytes, at);
     let p = word_at(sheet.bytes, at + SECOND_WORD);
     let q = word_at(sheet.bytes, at + THIRD_WORD);
-    if kind != TUPLE {
+    if kind != Kind::Tuple as usize {
         let f = form_other(numbers, kind, p, q, table, counts);
         return Some(Typed {
             number: f.number,

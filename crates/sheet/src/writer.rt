@@ -17,7 +17,7 @@ use crate::layout::Areas;
 use crate::list::{ListedName, NameList};
 use crate::records::{ELEMENT, NAME_RECORD, SECOND_WORD, THIRD_WORD, TYPE_RECORD};
 use limits::MOST_TYPES;
-use types::{Counts, FRESH, STRUCTURED, TUPLE, kind_of, part_at, part_of, parts_of, second_of};
+use types::{Counts, FRESH, Kind, STRUCTURED, kind_of, part_at, part_of, parts_of, second_of};
 use words::{put, put_word, text};
 
 // A mark of a type that has no number yet: no structured type has this one. It is what the marks are filled with.
@@ -179,10 +179,10 @@ fn elements_in(table: &[u16], i: usize) -> usize
     requires { i < capacity table.now }
     ensures { ElementsIn table.now i result }
 {
-    if kind_of(table, i) == TUPLE {
-        return parts_of(table, i);
+    match kind_of(table, i) {
+        Kind::Tuple => parts_of(table, i),
+        _ => 0,
     }
-    0
 }
 
 // How many elements the types of the sheet have.
@@ -226,13 +226,14 @@ fn write_type(table: &[u16], marks: &Marks, i: usize, from: usize, out: &mut [u8
         (record_bytes (tab_of table.now marks.now) marks.now from i) }
 {
     let kind = kind_of(table, i);
-    if kind == TUPLE {
-        put_three(out, at, TUPLE, from, parts_of(table, i));
-    } else {
-        let p = marks.number_of(part_of(table, i));
-        let q = marks.number_of(second_of(table, i));
-        put_three(out, at, kind, p, q);
-    }
+    let (p, q) = match kind {
+        Kind::Tuple => (from, parts_of(table, i)),
+        _ => (
+            marks.number_of(part_of(table, i)),
+            marks.number_of(second_of(table, i)),
+        ),
+    };
+    put_three(out, at, kind.number(), p, q);
 }
 
 fn write_types(table: &[u16], marks: &Marks, out: &mut [u8])

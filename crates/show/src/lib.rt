@@ -9,6 +9,7 @@ ghost use Rattle.meaning.specs.Sheet.{sheet_of};
 ghost use Rattle.meaning.specs.Read.{entries_in};
 ghost use Rattle.meaning.specs.Show.{dotted, shown, entry_text, entries_text, came, went, turned, changes_text};
 ghost use Rattle.meaning.specs.Show.{changes as changes_of, in_words, show_answer, changes_answer};
+ghost use Rattle.types.specs.Kinds.{kind_number};
 ghost use Rattle.types.specs.Reading.{type_at};
 ghost use Rattle.words.specs.Words.{Wrote};
 ghost use Rattle.message.specs.Texts.{AllKnown};
@@ -23,8 +24,7 @@ use message::{measure, put_type};
 use sheet::list::{NO_ENTRIES, NameList, length_of, start_of, type_of};
 use sheet::records::NAME_RECORD;
 use sheet::{ReadSheet, TABLE_CELLS, read};
-use types;
-use types::{FRESH, kind_of};
+use types::{FRESH, Kind, STRUCTURED, kind_of};
 use words::{before, put, same, text as part_of_text};
 
 // Why nothing was told: code 10 for a text that does not fit, 12 for what is no sheet.
@@ -40,7 +40,7 @@ pub type Telling = Result<usize, Untold>;
 // ---- a type
 
 // Room for the length of each type's text.
-const MOST_NUMBERS: usize = types::STRUCTURED + MOST_NODES;
+const MOST_NUMBERS: usize = STRUCTURED + MOST_NODES;
 
 // Whether the text of type i is shown whole. One more than the longest stands for every longer one.
 fn is_short(table: &[u16], i: usize) -> bool
@@ -53,15 +53,15 @@ fn is_short(table: &[u16], i: usize) -> bool
 }
 
 // What a type of this kind is shown as where it is too long.
-fn dotted(kind: usize) -> &'static [u8]
-    ensures { result.now ≡ dotted kind }
+fn dotted(kind: Kind) -> &'static [u8]
+    ensures { result.now ≡ dotted (kind_number kind) }
 {
     match kind {
-        types::LIST => b"List(..)",
-        types::DICT => b"Dict(..)",
-        types::TUPLE => b"Tuple(..)",
-        types::MAP_ITER => b"MapIter(..)",
-        types::FILTER_ITER => b"FilterIter(..)",
+        Kind::List => b"List(..)",
+        Kind::Dict => b"Dict(..)",
+        Kind::Tuple => b"Tuple(..)",
+        Kind::MapIter => b"MapIter(..)",
+        Kind::FilterIter => b"FilterIter(..)",
         _ => b"",
     }
 }

@@ -1,62 +1,55 @@
-use borrow.Author.Tests.{ne_eqb}
 use Rattle.meaning.specs.Base.{bytes, choose, test◌then◌else◌}
 use Rattle.message.specs.Texts.{opening}
-use native.Mathlib.Omega.{arith}
 use Rattle.message.proofs.opening.Goals as goal
 
-pub returns-in-0 : goal.returns-in-0
+pub returns-in-Unknown : goal.returns-in-Unknown
 unfolding opening choose test◌then◌else◌ bytes
-returns-in-0 c = rw c.in-0.is
+returns-in-Unknown c = rw c.in-Unknown.is
 
-pub returns-in-1 : goal.returns-in-1
+pub returns-in-Int : goal.returns-in-Int
 unfolding opening choose test◌then◌else◌ bytes
-returns-in-1 c = rw c.in-1.is
+returns-in-Int c = rw c.in-Int.is
 
-pub returns-in-2 : goal.returns-in-2
+pub returns-in-Bool : goal.returns-in-Bool
 unfolding opening choose test◌then◌else◌ bytes
-returns-in-2 c = rw c.in-2.is
+returns-in-Bool c = rw c.in-Bool.is
 
-pub returns-in-3 : goal.returns-in-3
+pub returns-in-String : goal.returns-in-String
 unfolding opening choose test◌then◌else◌ bytes
-returns-in-3 c = rw c.in-3.is
+returns-in-String c = rw c.in-String.is
 
-pub returns-in-4 : goal.returns-in-4
+pub returns-in-Float : goal.returns-in-Float
 unfolding opening choose test◌then◌else◌ bytes
-returns-in-4 c = rw c.in-4.is
+returns-in-Float c = rw c.in-Float.is
 
-pub returns-in-5 : goal.returns-in-5
+pub returns-in-NoneType : goal.returns-in-NoneType
 unfolding opening choose test◌then◌else◌ bytes
-returns-in-5 c = rw c.in-5.is
+returns-in-NoneType c = rw c.in-NoneType.is
 
-pub returns-in-6 : goal.returns-in-6
+pub returns-in-Range : goal.returns-in-Range
 unfolding opening choose test◌then◌else◌ bytes
-returns-in-6 c = rw c.in-6.is
+returns-in-Range c = rw c.in-Range.is
 
-pub returns-in-7 : goal.returns-in-7
+pub returns-in-Function : goal.returns-in-Function
 unfolding opening choose test◌then◌else◌ bytes
-returns-in-7 c = rw c.in-7.is
+returns-in-Function c = rw c.in-Function.is
 
-pub returns-in-8 : goal.returns-in-8
+pub returns-in-List : goal.returns-in-List
 unfolding opening choose test◌then◌else◌ bytes
-returns-in-8 c = rw c.in-8.is
+returns-in-List c = rw c.in-List.is
 
-pub returns-in-9 : goal.returns-in-9
+pub returns-in-Dict : goal.returns-in-Dict
 unfolding opening choose test◌then◌else◌ bytes
-returns-in-9 c = rw c.in-9.is
+returns-in-Dict c = rw c.in-Dict.is
 
-pub returns-in-10 : goal.returns-in-10
+pub returns-in-Tuple : goal.returns-in-Tuple
 unfolding opening choose test◌then◌else◌ bytes
-returns-in-10 c = rw c.in-10.is
+returns-in-Tuple c = rw c.in-Tuple.is
 
-pub returns-in-11 : goal.returns-in-11
+pub returns-in-MapIter : goal.returns-in-MapIter
 unfolding opening choose test◌then◌else◌ bytes
-returns-in-11 c = rw c.in-11.is
+returns-in-MapIter c = rw c.in-MapIter.is
 
-pub returns-in-12 : goal.returns-in-12
+pub returns-in-FilterIter : goal.returns-in-FilterIter
 unfolding opening choose test◌then◌else◌ bytes
-returns-in-12 c = rw c.in-12.is
-
-pub returns-in_default : goal.returns-in_default
-unfolding opening choose test◌then◌else◌ bytes
-returns-in_default c =
-    rw (ne_eqb c.args.kind 0 (omega arith), ne_eqb c.args.kind 1 (omega arith), ne_eqb c.args.kind 2 (omega arith), ne_eqb c.args.kind 3 (omega arith), ne_eqb c.args.kind 4 (omega arith), ne_eqb c.args.kind 5 (omega arith), ne_eqb c.args.kind 6 (omega arith), ne_eqb c.args.kind 7 (omega arith), ne_eqb c.args.kind 8 (omega arith), ne_eqb c.args.kind 9 (omega arith), ne_eqb c.args.kind 10 (omega arith), ne_eqb c.args.kind 11 (omega arith), ne_eqb c.args.kind 12 (omega arith))
+returns-in-FilterIter c = rw c.in-FilterIter.is

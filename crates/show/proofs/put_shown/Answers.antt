@@ -1,6 +1,7 @@
 use mathlib.Core.Path.{sym, ◌∙◌}
 use Rattle.meaning.specs.Show.{dotted}
 use Rattle.meaning.specs.Types.{text}
+use Rattle.types.specs.Kinds.{kind_number}
 use Rattle.types.specs.Reading.{type_at}
 use Rattle.types.proofs.Readers.{known_room}
 use Rattle.words.proofs.Laws.{wrote}
@@ -38,4 +39,4 @@ pub returns : goal.returns
 returns c =
     let it = shown_dotted _ (sym c.is_short.ensures ∙ c.if-is_short.false) in
     let kind = known_kind (c.requires.all_known.each c.args.i (omega arith)) c.kind_of.ensures in
-    rw (it, ← kind) (wrote (dotted c.kind_of.result) (rw (kind, ← it) c.requires.i_in_bounds) (rw c.dotted.ensures at c.put.ensures.buf_after) (rw c.dotted.ensures at c.put.ensures.value))
+    rw (it, ← kind) (wrote (dotted (kind_number c.kind_of.result)) (rw (kind, ← it) c.requires.i_in_bounds) (rw c.dotted.ensures at c.put.ensures.buf_after) (rw c.dotted.ensures at c.put.ensures.value))
