@@ -601,7 +601,8 @@ fn judge_body(image: &[u8], l: Layout) -> Result<(), Fault>
     Ok(())
 }
 
-// Whether the bytes are a well-formed image.
+// Whether the bytes are a well-formed image. A call of its own: within `check` it would take that function's registers.
+#[inline(never)]
 pub fn judge(image: &[u8]) -> Result<(), Fault>
     ensures { fault_of result ≡ image_fault image.now }
 {

@@ -9,26 +9,6 @@ ghost use Rattle.words.specs.Words.{put_at};
 
 use limits::{LONGEST_NAME, WORD};
 
-// ---- numbers made wider, one function for each width: as a call of its own, a number asks no proof that it fits
-
-pub fn wide8(b: u8) -> u32
-    ensures { (result ≡ b) × (result < 256) }
-{
-    b as u32
-}
-
-pub fn wide16(x: u16) -> usize
-    ensures { (result ≡ x) × (result < 65536) }
-{
-    x as usize
-}
-
-pub fn wide32(x: u32) -> usize
-    ensures { (result ≡ x) × (result < 4294967296) }
-{
-    x as usize
-}
-
 // ---- words of four bytes, the lowest byte first
 
 pub fn get_word(s: &[u8], at: usize) -> u32
