@@ -13,9 +13,9 @@ ghost use Rattle.replay.specs.Lines.{line_room, fnv_of, hex_of, checksum, second
 ghost use Rattle.replay.specs.Lines.{read_line, sheet_line, line_for};
 
 use checker::{PLAIN, STRICT, cablebirch_write_sheet};
+use codes;
 use limits::{LARGEST_SHEET, MESSAGE_BUFFER, READ_AT_MOST, SHEET_BUFFER};
 use line::put_spaced;
-use codes;
 use sheet::header;
 use std::env::FillError;
 use std::fs::File;

@@ -20,11 +20,11 @@ ghost use Rattle.verbs.specs.Said.{show_said, compared_as, changes_said, names_i
 ghost use Rattle.verbs.specs.Said.{load_said, load_room};
 
 use checker::{PLAIN, STRICT, read_sheet, replied};
+use codes;
 use image::Fault;
 use limits::{LARGEST_CHANGES, MESSAGE_BUFFER, SHEET_BUFFER};
 use line::{put_spaced, refused_line};
 use load::{Loading, cablebirch_convert};
-use codes;
 use steady::{Def, steady};
 use words::{put, same, text};
 
