@@ -18,28 +18,28 @@ use Rattle.types.proofs.Parts.{type_is}
 use Rattle.message.specs.Texts.{AllKnown}
 use Rattle.sheet.specs.Listing.{start_at, length_at, type_at, listed, listed_from, Listing}
 use Rattle.sheet.specs.Listing.{entry_at as entry_in}
-use Rattle.show.specs.Words.{IsOpened, entry_of}
+use Rattle.show.specs.Words.{entry_of}
 use Rattle.show.specs.declared.Opened.{Opened}
 
-module _ {o : Opened} (w : IsOpened o) where
+module _ (o : Opened) where
   abbrev its : Tab
   its = tab o.table.now o.read.counts.types o.read.counts.elements
 
   pub its_names : Listing o.sheet.now its o.names.now o.read.names
-  its_names = w.reads.listing
+  its_names = o.reads.listing
 
   pub its_sheet : SheetOf o.sheet.now (entries_in o.sheet.now)
-  its_sheet = sheet_is o.sheet.now (sym w.reads.stands_is)
+  its_sheet = sheet_is o.sheet.now (sym o.reads.stands_is)
 
   pub names_many : length (entries_in o.sheet.now) ≡ o.read.names
   unfolding listed listed_from
-  names_many = ap length (sym w.reads.listed_is) ∙ length-map (count 0 o.read.names) (entry_in o.sheet.now its o.names.now) ∙ count_long 0 o.read.names
+  names_many = ap length (sym o.reads.listed_is) ∙ length-map (count 0 o.read.names) (entry_in o.sheet.now its o.names.now) ∙ count_long 0 o.read.names
 
   module _ {k : ℕ} (h : k < o.read.names) where
     pub entry_is : entry_of o.sheet.now k ≡ (take (length_at o.names.now k) (drop (start_at o.names.now k) o.sheet.now), denote its (type_at o.names.now k))
     unfolding listed listed_from entry_in
     entry_is =
-        ap (λ (es : List Entry). get_or es k ([], unknown)) (sym w.reads.listed_is) ∙ counted_at (entry_in o.sheet.now its o.names.now) ([], unknown) 0 o.read.names k h
+        ap (λ (es : List Entry). get_or es k ([], unknown)) (sym o.reads.listed_is) ∙ counted_at (entry_in o.sheet.now its o.names.now) ([], unknown) 0 o.read.names k h
         ∙ ap (entry_in o.sheet.now its o.names.now) (zero-add k)
 
     pub few_names : k < most_names

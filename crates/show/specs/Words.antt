@@ -1,15 +1,19 @@
 -- What the functions that tell a sheet in words need and leave.
+use mathlib.Core.HLevel.{hedberg}
+use Rattle.std.proofs.Props.{props}
 use Rattle.std.specs.Prelude.{◌≡◌, List, [], ◌∷◌, ◌++◌, ℕ, ◌+◌, ◌-◌, ◌*◌, ◌<◌, ◌≤◌, length, get_or, drop, Some, Result, Ok, Err}
 use Rattle.meaning.specs.Limits.{most_names, longest_name, largest_sheet}
 use Rattle.meaning.specs.Base.{bytes}
-use Rattle.meaning.specs.Types.{Ty, unknown}
+use Rattle.meaning.specs.Types.{Ty, Ty-discrete, unknown}
 use Rattle.meaning.specs.Sheet.{Entry}
 use Rattle.meaning.specs.Read.{entries_in}
 use Rattle.meaning.specs.Answer.{overlaid}
 use Rattle.meaning.specs.Show.{Change, came, went, turned, change_text, changes_text, retyped, changes, InWords}
 use Rattle.words.specs.Words.{Wrote}
+use Rattle.types.specs.Table.{Chained}
 use Rattle.sheet.specs.Reading.{Reads}
-use Rattle.show.specs.declared.Opened.{Opened}
+use Rattle.sheet.specs.declared.list.ListedName.{ListedName}
+use Rattle.sheet.specs.declared.reader.ReadSheet.{ReadSheet}
 use Rattle.show.specs.declared.Next.{Next}
 use Rattle.show.specs.declared.Next.TheVariants.{Came, Went, Both}
 use Rattle.show.specs.declared.Place.{Place}
@@ -18,8 +22,10 @@ use Rattle.show.specs.declared.Untold.TheVariants.{NoRoom, NoSheet}
 
 -- ---- a sheet that was read into a table and a list of names
 
-pub record IsOpened (o : Opened) : Type 0 where
-  pub reads : Reads o.sheet.now (Some o.read) o.table.now o.names.now
+-- that it was is so in one way only: a ghost field asks it
+pub Reads-prop : {bs cs : List ℕ} {s : ReadSheet} {cells : List ListedName} → IsProp (Reads bs (Some s) cs cells)
+unfolding Chained
+Reads-prop = Prim.hlevel (hedberg Ty-discrete, props)
 
 abbrev pub entry_at : List Entry → ℕ → Entry
 entry_at es k = get_or es k ([], unknown)

@@ -1,7 +1,7 @@
 // A sheet in words, for the people who approve it: its names with their types, and what changed between two sheets.
 #![tactic(auto)]
 
-ghost use Rattle.std.specs.Prelude.{◌≡◌, not, [], ◌∷◌, ◌++◌, ◌+◌, ◌<◌, ◌≤◌, leb, length, take};
+ghost use Rattle.std.specs.Prelude.{◌≡◌, Some, not, [], ◌∷◌, ◌++◌, ◌+◌, ◌<◌, ◌≤◌, leb, length, take};
 ghost use Rattle.meaning.specs.Limits.{longest_shown};
 ghost use Rattle.meaning.specs.Base.{bytes};
 ghost use Rattle.meaning.specs.Types.{text, same as same_type};
@@ -13,7 +13,8 @@ ghost use Rattle.types.specs.Kinds.{kind_number};
 ghost use Rattle.types.specs.Reading.{type_at};
 ghost use Rattle.words.specs.Words.{Wrote};
 ghost use Rattle.message.specs.Texts.{AllKnown};
-ghost use Rattle.show.specs.Words.{IsOpened, entry_of, largest_alone, retold, Follows, Ahead, Stepped};
+ghost use Rattle.sheet.specs.Reading.{Reads};
+ghost use Rattle.show.specs.Words.{Reads-prop, entry_of, largest_alone, retold, Follows, Ahead, Stepped};
 ghost use Rattle.show.specs.Words.{telling_code, telling_length, Tells};
 
 use limits::{
@@ -79,18 +80,19 @@ fn put_shown(table: &[u16], i: usize, out: &mut [u8], at: usize) -> usize
 
 // ---- a name with its type
 
-// A sheet with what was read from it: the table of its types, the list of its names, and how many there are of both.
+// A sheet that was read: the table of its types, the list of its names, and how many there are of both.
 #[derive(Clone, Copy)]
 struct Opened<'a> {
     sheet: &'a [u8],
     table: &'a [u16],
     names: &'a NameList,
     read: ReadSheet,
+    ghost reads: { Reads sheet.now (Some read) table.now names.now } by { Reads-prop },
 }
 
 impl<'a> Opened<'a> {
     fn name(&self, k: usize) -> &'a [u8]
-        requires { IsOpened self.now × (k < self.now.read.names) }
+        requires { k < self.now.read.names }
         ensures { result.now ≡ (entry_of self.now.sheet.now k).0 }
     {
         part_of_text(
@@ -102,7 +104,7 @@ impl<'a> Opened<'a> {
 
     // The number of the type of name k in the sheet's table.
     fn type_of(&self, k: usize) -> usize
-        requires { IsOpened self.now × (k < self.now.read.names) }
+        requires { k < self.now.read.names }
         ensures known { AllKnown self.now.table.now (result + 1) }
         ensures means { type_at self.now.table.now result ≡ (entry_of self.now.sheet.now k).1 }
     {
@@ -111,8 +113,8 @@ impl<'a> Opened<'a> {
 
     // As `step: Int`.
     fn put_entry(&self, k: usize, out: &mut [u8], at: usize) -> usize
-        requires opened { IsOpened self.now × (k < self.now.read.names) }
-        requires k_in_bounds { at + length (entry_text (entry_of self.now.sheet.now k)) ≤ length out.old }
+        requires k_bound { k < self.now.read.names }
+        requires in_bounds { at + length (entry_text (entry_of self.now.sheet.now k)) ≤ length out.old }
         ensures { Wrote out.old at (entry_text (entry_of self.now.sheet.now k)) out.new result }
     {
         let colon = put(out, at, self.name(k));
@@ -122,8 +124,7 @@ impl<'a> Opened<'a> {
 
     // All names, a line each.
     fn put_entries(&self, out: &mut [u8]) -> usize
-        requires opened { IsOpened self.now }
-        requires sheet_in_bounds { length (entries_text (entries_in self.now.sheet.now)) ≤ length out.old }
+        requires { length (entries_text (entries_in self.now.sheet.now)) ≤ length out.old }
         ensures { Wrote out.old 0 (entries_text (entries_in self.now.sheet.now)) out.new result }
     {
         let mut at = 0;
@@ -136,8 +137,8 @@ impl<'a> Opened<'a> {
 
     // Name k with what became of it: `+ mode: String`, `- laps: List(Int)`.
     fn put_signed(&self, sign: &[u8], k: usize, out: &mut [u8], at: usize) -> usize
-        requires opened { IsOpened self.now × (k < self.now.read.names) }
-        requires bytes_in_bounds { at
+        requires k_bound { k < self.now.read.names }
+        requires in_bounds { at
             + length (sign.now ++ entry_text (entry_of self.now.sheet.now k) ++ bytes "\n") ≤ length out.old }
         ensures { Wrote out.old at
             (sign.now ++ entry_text (entry_of self.now.sheet.now k) ++ bytes "\n") out.new result }
@@ -149,7 +150,7 @@ impl<'a> Opened<'a> {
 
     // The sheet of name k alone. Returns its length.
     fn write_alone(&self, k: usize, out: &mut [u8]) -> usize
-        requires opened { IsOpened self.now × (k < self.now.read.names) }
+        requires k_bound { k < self.now.read.names }
         requires out_len { length out.old ≡ largest_alone }
         ensures out_after { take result out.new ≡ sheet_of (entry_of self.now.sheet.now k ∷ []) }
         ensures upper_bound { result ≤ length out.new }
@@ -164,8 +165,8 @@ impl<'a> Opened<'a> {
 
 // Name i of the old sheet with the type that it has in the new one, as name j: `~ step: Int -> Float`.
 fn put_turned(old: &Opened, i: usize, new: &Opened, j: usize, out: &mut [u8], at: usize) -> usize
-    requires opened { IsOpened old.now × (i < old.now.read.names) }
-    requires opened_2 { IsOpened new.now × (j < new.now.read.names) }
+    requires i_bound { i < old.now.read.names }
+    requires j_bound { j < new.now.read.names }
     requires in_bounds { at + length (retold (entry_of old.now.sheet.now i) (entry_of new.now.sheet.now j).1)
         ≤ length out.old }
     ensures { Wrote out.old at
@@ -185,8 +186,8 @@ const LARGEST_ALONE: usize = LARGEST_SHEET - (MOST_NAMES - 1) * (NAME_RECORD + L
 // Whether a name that both sheets have turned from one type to another. Numbers of two tables tell nothing of it: the
 // types are equal exactly when the sheets of the name alone are.
 fn has_turned(old: &Opened, i: usize, new: &Opened, j: usize) -> bool
-    requires opened { IsOpened old.now × (i < old.now.read.names) }
-    requires opened_2 { IsOpened new.now × (j < new.now.read.names) }
+    requires i_bound { i < old.now.read.names }
+    requires j_bound { j < new.now.read.names }
     requires one_name { (entry_of old.now.sheet.now i).0 ≡ (entry_of new.now.sheet.now j).0 }
     ensures { result ≡ not (same_type (entry_of old.now.sheet.now i).1
         (entry_of new.now.sheet.now j).1) }
@@ -208,8 +209,7 @@ enum Next {
 
 // By the order of the first names that are left: the names of both sheets ascend.
 fn next_of(old: &Opened, i: usize, new: &Opened, j: usize) -> Next
-    requires opened { IsOpened old.now × IsOpened new.now }
-    requires left { (i ≤ old.now.read.names) × (j ≤ new.now.read.names)
+    requires { (i ≤ old.now.read.names) × (j ≤ new.now.read.names)
         × (i + j < old.now.read.names + new.now.read.names) }
     ensures { Follows (entries_in old.now.sheet.now) (entries_in new.now.sheet.now) i j result }
 {
@@ -240,8 +240,7 @@ struct Place {
 
 // Tells of the next name: nothing, if both sheets have it with one type.
 fn tell_next(old: &Opened, new: &Opened, from: Place, out: &mut [u8]) -> Place
-    requires opened { IsOpened old.now × IsOpened new.now }
-    requires ahead { Ahead (entries_in old.now.sheet.now) (entries_in new.now.sheet.now) from out.old }
+    requires { Ahead (entries_in old.now.sheet.now) (entries_in new.now.sheet.now) from out.old }
     ensures { Stepped (entries_in old.now.sheet.now) (entries_in new.now.sheet.now) from result
         out.old out.new }
 {
@@ -277,8 +276,7 @@ fn tell_next(old: &Opened, new: &Opened, from: Place, out: &mut [u8]) -> Place
 
 // All that changed, a line for each name that differs.
 fn put_changes(old: &Opened, new: &Opened, out: &mut [u8]) -> usize
-    requires opened { IsOpened old.now × IsOpened new.now }
-    requires in_bounds { length (changes_text (changes_of (entries_in old.now.sheet.now) (entries_in new.now.sheet.now)))
+    requires { length (changes_text (changes_of (entries_in old.now.sheet.now) (entries_in new.now.sheet.now)))
         ≤ length out.old }
     ensures { Wrote out.old 0
         (changes_text (changes_of (entries_in old.now.sheet.now) (entries_in new.now.sheet.now)))

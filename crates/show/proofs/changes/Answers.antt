@@ -19,8 +19,8 @@ read-requires-2 c = (refl, fresh_filled 12336 1 (omega arith) (omega arith) (ome
 pub returns-in_default-read : goal.returns-in_default-read
 returns-in_default-read c = new_none c.in_default-read.ensures _ _ _
 
-pub put_changes-n-requires-clause-in_bounds : goal.put_changes-n-requires-clause-in_bounds
-put_changes-n-requires-clause-in_bounds c = changes_room c.in-Some.ensures c.in-Some-read.ensures
+pub put_changes-n-requires : goal.put_changes-n-requires
+put_changes-n-requires c = changes_room c.in-Some.ensures c.in-Some-read.ensures
 
 pub returns : goal.returns
 returns c = rw (changes_all c.in-Some.ensures c.in-Some-read.ensures _ (front_is c.put_changes-n.ensures)) c.deliver.ensures

@@ -4,21 +4,21 @@ use native.Mathlib.Omega.{arith}
 use Rattle.show.proofs.put_changes.Goals as goal
 
 pub overflow_add-all : goal.overflow_add-all
-overflow_add-all c = omega (arith, (its_names c.requires.opened.0).few, (its_names c.requires.opened.1).few)
+overflow_add-all c = omega (arith, (its_names c.args.old.now).few, (its_names c.args.new.now).few)
 
 pub loop-place-init : goal.loop-place-init
-loop-place-init c = changes_first _ _ _ c.requires.in_bounds
+loop-place-init c = changes_first _ _ _ c.requires
 
 pub overflow_add-place : goal.overflow_add-place
 overflow_add-place c =
-    let olds = names_many c.requires.opened.0 in
-    let news = names_many c.requires.opened.1 in
-    omega (arith, (its_names c.requires.opened.0).few, (its_names c.requires.opened.1).few)
+    let olds = names_many c.args.old.now in
+    let news = names_many c.args.new.now in
+    omega (arith, (its_names c.args.old.now).few, (its_names c.args.new.now).few)
 
-pub tell_next-place-requires-clause-ahead : goal.tell_next-place-requires-clause-ahead
-tell_next-place-requires-clause-ahead c =
-    let olds = names_many c.requires.opened.0 in
-    let news = names_many c.requires.opened.1 in
+pub tell_next-place-requires : goal.tell_next-place-requires
+tell_next-place-requires c =
+    let olds = names_many c.args.old.now in
+    let news = names_many c.args.new.now in
     changes_ahead c.loop-place.invariant (omega arith)
 
 pub loop-place-smaller : goal.loop-place-smaller
@@ -29,6 +29,6 @@ loop-place-preserved c = changes_next c.loop-place.invariant c.tell_next-place.e
 
 pub returns : goal.returns
 returns c =
-    let olds = names_many c.requires.opened.0 in
-    let news = names_many c.requires.opened.1 in
+    let olds = names_many c.args.old.now in
+    let news = names_many c.args.new.now in
     changes_end c.loop-place.invariant (λ l. omega (arith, l))

@@ -8,9 +8,9 @@ unfolding bytes
 put-entry-requires c =
     tilde_fits c.args.out.now c.args.at (entry_of c.args.old.now.sheet.now c.args.i) (entry_of c.args.new.now.sheet.now c.args.j).1 c.requires.in_bounds
 
-pub put_entry-arrow-requires-clause-k_in_bounds : goal.put_entry-arrow-requires-clause-k_in_bounds
+pub put_entry-arrow-requires-clause-in_bounds : goal.put_entry-arrow-requires-clause-in_bounds
 unfolding bytes
-put_entry-arrow-requires-clause-k_in_bounds c =
+put_entry-arrow-requires-clause-in_bounds c =
     named_fits c.args.out.now c.args.at (entry_of c.args.old.now.sheet.now c.args.i) (entry_of c.args.new.now.sheet.now c.args.j).1 c.requires.in_bounds c.put-entry.ensures.buf_after c.put-entry.ensures.value
 
 pub put-ty-requires : goal.put-ty-requires

@@ -12,8 +12,8 @@ read-requires c = (refl, fresh_filled 12336 1 (omega arith) (omega arith) (omega
 pub returns-in_default : goal.returns-in_default
 returns-in_default c = not_shown c.in_default.ensures _ _
 
-pub put_entries-n-requires-clause-sheet_in_bounds : goal.put_entries-n-requires-clause-sheet_in_bounds
-put_entries-n-requires-clause-sheet_in_bounds c = shown_room c.in-Some.ensures
+pub put_entries-n-requires : goal.put_entries-n-requires
+put_entries-n-requires c = shown_room c.in-Some.ensures
 
 pub returns : goal.returns
 returns c = rw (shown_all c.in-Some.ensures _ (front_is c.put_entries-n.ensures)) c.deliver.ensures
