@@ -493,17 +493,15 @@ fn lands_on_end(image: &[u8], nodes: usize, i: usize) -> bool
 {
     let d = node_at(image, nodes, i);
     let mut at = i + 1;
-    let mut left = d.children;
-    while 0 < left {
+    for j in 0..d.children {
         if d.stop as usize <= at {
             return false;
         }
         let child = node_at(image, nodes, at);
-        if !has_business(d.kind, d.children, d.children - left, child.kind) {
+        if !has_business(d.kind, d.children, j, child.kind) {
             return false;
         }
         at = child.stop as usize;
-        left -= 1;
     }
     at == d.stop as usize
 }
