@@ -4,7 +4,8 @@
 // to descriptor 3 as one digit, and `main` ends with 0.
 #![tactic(auto)]
 
-ghost use Rattle.std.specs.Prelude.{◌≤◌, length, IfOk};
+ghost use denote.Ref.{Bor, MutBor};
+ghost use Rattle.std.specs.Prelude.{◌≡◌, ℕ, List, ◌^◌, ◌<◌, ◌≤◌, length, IfOk};
 
 use checker::read_sheet;
 use limits::{LARGEST_CHANGES, LARGEST_SHOW, READ_AT_MOST, SHEET_BUFFER};
@@ -13,8 +14,9 @@ use std::fs::File;
 use std::io::{Cursor, Error, Read, Write};
 use system::{read_full, word_at};
 use verbs::{
-    Asked, Command, Files, KNOWN, LINE, LOAD, Status, Verb, command_of, digit_of, kind_of, renew,
-    say_changes, say_check, say_known, say_load, say_show, verb_told, with_word, write_sheet,
+    Asked, Command, Done, Files, KNOWN, LINE, LOAD, Status, Verb, Written, command_of, digit_of,
+    kind_of, renew, say_changes, say_check, say_known, say_load, say_show, verb_told, with_word,
+    write_sheet,
 };
 
 // ---- the system's numbers of errors
@@ -166,30 +168,46 @@ fn print(rt: &HostRuntime, text: &[u8], status: Status) -> Status {
 
 // ---- the verbs
 
-fn run_check(rt: &HostRuntime, setting: u32, a: usize) -> Result<Status, Unread> {
-    let mut image = [0u8; READ_AT_MOST];
-    let image = read_file(rt, a, &mut image)?;
-    let mut out = [0u8; LINE];
-    let done = say_check(setting, image, &mut out);
+// Reads the file that argument a names, and prints what is said of it in a buffer of ROOM bytes.
+fn run_over<const ROOM: usize, F: FnOnce(&[u8], &mut [u8]) -> Done>(
+    rt: &HostRuntime,
+    a: usize,
+    tell: F,
+) -> Result<Status, Unread>
+    requires room_fits { ROOM < 2 ^ 63 }
+    requires takes_room { (file : Bor (List ℕ)) (out : MutBor (List ℕ))
+        → length out.now ≡ ROOM → F.pre tell file out }
+    requires stays_inside { (file : Bor (List ℕ)) (out out_after : MutBor (List ℕ)) (done : Done)
+        → F.post tell file out done out_after → done.length ≤ length out_after.now }
+{
+    let mut file = [0u8; READ_AT_MOST];
+    let file = read_file(rt, a, &mut file)?;
+    let mut out = [0u8; ROOM];
+    let done = tell(file, &mut out);
     Ok(print(rt, &out[..done.length], done.status))
 }
 
-fn run_known(rt: &HostRuntime, setting: u32, a: usize) -> Result<Status, Unread> {
+// Reads the image that argument a names, and prints what is made of it in a buffer of ROOM bytes; a refusal's lines go
+// to standard error.
+fn run_made<const ROOM: usize, F: FnOnce(&[u8], &mut [u8], &mut [u8]) -> Written>(
+    rt: &HostRuntime,
+    a: usize,
+    make: F,
+) -> Result<Status, Unread>
+    requires room_fits { ROOM < 2 ^ 63 }
+    requires takes_line { (image : Bor (List ℕ)) (made out : MutBor (List ℕ))
+        → length out.now ≡ LINE → F.pre make image made out }
+    requires stay_inside { (image : Bor (List ℕ)) (made out made_after out_after : MutBor (List ℕ)) (w : Written)
+        → F.post make image made out w made_after out_after
+        → (w.length ≤ length made_after.now) × (w.line ≤ length out_after.now) }
+{
     let mut image = [0u8; READ_AT_MOST];
     let image = read_file(rt, a, &mut image)?;
-    let mut out = [0u8; KNOWN];
-    let done = say_known(setting, image, &mut out);
-    Ok(print(rt, &out[..done.length], done.status))
-}
-
-fn run_sheet(rt: &HostRuntime, setting: u32, a: usize) -> Result<Status, Unread> {
-    let mut image = [0u8; READ_AT_MOST];
-    let image = read_file(rt, a, &mut image)?;
-    let mut sheet = [0u8; SHEET_BUFFER];
+    let mut made = [0u8; ROOM];
     let mut out = [0u8; LINE];
-    let w = write_sheet(setting, image, &mut sheet, &mut out);
+    let w = make(image, &mut made, &mut out);
     say(&out[..w.line]);
-    Ok(print(rt, &sheet[..w.length], w.status))
+    Ok(print(rt, &made[..w.length], w.status))
 }
 
 fn say_no_sheet(rt: &HostRuntime, a: usize) {
@@ -198,14 +216,12 @@ fn say_no_sheet(rt: &HostRuntime, a: usize) {
 }
 
 fn run_show(rt: &HostRuntime, a: usize) -> Result<Status, Unread> {
-    let mut sheet = [0u8; READ_AT_MOST];
-    let sheet = read_file(rt, a, &mut sheet)?;
-    if read_sheet(sheet).is_err() {
-        say_no_sheet(rt, a);
-    }
-    let mut out = [0u8; LARGEST_SHOW];
-    let done = say_show(sheet, &mut out);
-    Ok(print(rt, &out[..done.length], done.status))
+    run_over::<LARGEST_SHOW, _>(rt, a, |sheet, out| {
+        if read_sheet(sheet).is_err() {
+            say_no_sheet(rt, a);
+        }
+        say_show(sheet, out)
+    })
 }
 
 // The first of the two that is no sheet is told.
@@ -268,16 +284,6 @@ fn run_load(rt: &HostRuntime, setting: u32, a: usize, b: usize) -> Result<Status
         say_all_new(rt, a, was);
     }
     Ok(print(rt, &out[..done.length], done.status))
-}
-
-fn run_convert(rt: &HostRuntime, a: usize) -> Result<Status, Unread> {
-    let mut image = [0u8; READ_AT_MOST];
-    let image = read_file(rt, a, &mut image)?;
-    let mut new = [0u8; READ_AT_MOST];
-    let mut out = [0u8; LINE];
-    let w = renew(image, &mut new, &mut out);
-    say(&out[..w.line]);
-    Ok(print(rt, &new[..w.length], w.status))
 }
 
 fn run_help(rt: &HostRuntime) -> Status {
@@ -362,13 +368,23 @@ fn say_bad_words(verb: Verb) {
 
 fn run(rt: &HostRuntime, verb: Verb) -> Result<Status, Unread> {
     match command_of(verb, words_asked(rt)) {
-        Command::CheckImage(setting, a) => run_check(rt, setting, a),
-        Command::CheckKnown(setting, a) => run_known(rt, setting, a),
-        Command::WriteSheet(setting, a) => run_sheet(rt, setting, a),
+        Command::CheckImage(setting, a) => {
+            run_over::<LINE, _>(rt, a, |image, out| say_check(setting, image, out))
+        }
+        Command::CheckKnown(setting, a) => {
+            run_over::<KNOWN, _>(rt, a, |image, out| say_known(setting, image, out))
+        }
+        Command::WriteSheet(setting, a) => {
+            run_made::<SHEET_BUFFER, _>(
+                rt,
+                a,
+                |image, sheet, out| write_sheet(setting, image, sheet, out),
+            )
+        }
         Command::ShowSheet(a) => run_show(rt, a),
         Command::TellChanges(a, b) => run_changes(rt, a, b),
         Command::LoadImage(setting, a, b) => run_load(rt, setting, a, b),
-        Command::ConvertImage(a) => run_convert(rt, a),
+        Command::ConvertImage(a) => run_made::<READ_AT_MOST, _>(rt, a, renew),
         Command::Usage => Ok(run_help(rt)),
         Command::NoVerb => {
             say_no_verb(rt);

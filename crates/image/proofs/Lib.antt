@@ -3,6 +3,7 @@ pub mod Records
 pub mod Here
 pub mod Searches
 pub mod Builtins
+pub mod Texts
 pub mod Nesting
 pub mod Depth
 pub mod Answers

@@ -23,7 +23,7 @@ pub mod literals;
 pub mod roles;
 
 use limits::{DEEPEST, MOST_NAMES, MOST_NODES, MOST_TEXT};
-use words::{get_word, put_word, same, text, text_stands};
+use words::{get_word, put_word, text, text_stands};
 
 // "Name record, 5 words: text start, text length 1..64, role, p, q": the bytes at which all but the first start.
 const LEN: usize = 4;
@@ -308,21 +308,18 @@ fn broken_name(image: &[u8], l: Layout) -> Option<usize>
 
 // ---- 5: builtins whose rule looks at arguments that their role does not ask for
 
+#[tactic(auto, using(crate::proofs::Texts::one))]
 fn needs_one(t: &[u8]) -> bool
     ensures { result ≡ is_one_of t.now one_argument }
 {
-    same(t, b"int")
-        || same(t, b"float")
-        || same(t, b"bool")
-        || same(t, b"str")
-        || same(t, b"len")
-        || same(t, b"assert")
+    matches!(t, b"int" | b"float" | b"bool" | b"str" | b"len" | b"assert")
 }
 
+#[tactic(auto, using(crate::proofs::Texts::two))]
 fn needs_two(t: &[u8]) -> bool
     ensures { result ≡ is_one_of t.now two_arguments }
 {
-    same(t, b"map") || same(t, b"filter")
+    matches!(t, b"map" | b"filter")
 }
 
 // Whether a builtin of r's role takes k arguments; only the roles 1 to 3 are builtins.

@@ -26,7 +26,7 @@ use limits::{LARGEST_CHANGES, MESSAGE_BUFFER, SHEET_BUFFER};
 use line::{put_spaced, refused_line};
 use load::{Loading, cablebirch_convert};
 use steady::{Def, steady};
-use words::{put, same, text};
+use words::{put, text};
 
 // ---- the words
 
@@ -42,31 +42,20 @@ pub enum Verb {
     Nothing,
 }
 
+#[tactic(auto, using(crate::proofs::Texts::verbs))]
 pub fn verb_told(word: &[u8]) -> Verb
     ensures { result ≡ verb_of word.now }
 {
-    if same(word, b"check") {
-        return Verb::Check;
+    match word {
+        b"check" => Verb::Check,
+        b"sheet" => Verb::Sheet,
+        b"show" => Verb::Show,
+        b"changes" => Verb::Changes,
+        b"load" => Verb::Load,
+        b"convert" => Verb::Convert,
+        b"help" => Verb::Help,
+        _ => Verb::Nothing,
     }
-    if same(word, b"sheet") {
-        return Verb::Sheet;
-    }
-    if same(word, b"show") {
-        return Verb::Show;
-    }
-    if same(word, b"changes") {
-        return Verb::Changes;
-    }
-    if same(word, b"load") {
-        return Verb::Load;
-    }
-    if same(word, b"convert") {
-        return Verb::Convert;
-    }
-    if same(word, b"help") {
-        return Verb::Help;
-    }
-    Verb::Nothing
 }
 
 // What a word behind the verb is.
@@ -80,25 +69,17 @@ pub enum Kind {
 }
 
 // `-` alone is standard input. No name begins with a `-`, so that a misspelt `--strict` is not taken for a file.
+#[tactic(auto, using(crate::proofs::Texts::kinds))]
 pub fn kind_of(word: &[u8]) -> Kind
     ensures { result ≡ kind_told word.now }
 {
-    if same(word, b"--strict") {
-        return Kind::Strict;
+    match word {
+        b"--strict" => Kind::Strict,
+        b"--known" => Kind::Known,
+        b"-" => Kind::Input,
+        [b'-', ..] => Kind::Unknown,
+        _ => Kind::Name,
     }
-    if same(word, b"--known") {
-        return Kind::Known;
-    }
-    if same(word, b"-") {
-        return Kind::Input;
-    }
-    if word.len() == 0 {
-        return Kind::Name;
-    }
-    if word[0] == b'-' {
-        return Kind::Unknown;
-    }
-    Kind::Name
 }
 
 // The numbers of the arguments that name files; no verb takes three.
