@@ -17,8 +17,8 @@
 //! ```
 //!
 //! The functions keep no state: any number of threads may call them at once. They work on the caller's stack: [`check`] was seen to
-//! need 208,320 bytes at most, [`load`] 208,288, [`read_sheet`] 89,640, [`write_sheet`] 89,752, [`show`] 123,848, [`changes`] 252,216,
-//! [`steady`] 4,248 and [`convert`] 4,296, with a message buffer of more than [`MESSAGE_ROOM`] too (measured, not proved: `bench/stack`).
+//! need 197,640 bytes at most, [`load`] 197,656, [`read_sheet`] 89,744, [`write_sheet`] 89,856, [`show`] 123,952, [`changes`] 252,304,
+//! [`steady`] 4,264 and [`convert`] 4,328, with a message buffer of more than [`MESSAGE_ROOM`] too (measured, not proved: `bench/stack`).
 
 #![warn(missing_docs)]
 

@@ -27,8 +27,7 @@ fn mark_target(image: &[u8], nodes: usize, from: usize, end: usize, marks: &mut 
     let mut j = from;
     while j < end {
         let node = node_at(image, nodes, j);
-        let kind = node.kind;
-        match kind {
+        match node.kind {
             kinds::TUPLE => {
                 j += 1;
             }
@@ -51,8 +50,7 @@ fn mark_node(image: &[u8], nodes: usize, i: usize, marks: &mut Marks) -> usize
     ensures { Stepped image.now i marks.old marks.new result }
 {
     let node = node_at(image, nodes, i);
-    let kind = node.kind;
-    match kind {
+    match node.kind {
         kinds::ASSIGN => {
             let target = node_at(image, nodes, i + 1);
             mark_target(image, nodes, i + 1, target.stop as usize, marks);

@@ -4,19 +4,20 @@
 // to descriptor 3 as one digit, and `main` ends with 0.
 #![tactic(auto)]
 
-ghost use Rattle.std.specs.Prelude.{◌≡◌, ◌≤◌, length};
-ghost use Rattle.cablebirch.specs.Files.{length_read};
+ghost use denote.Ref.{Bor, MutBor};
+ghost use Rattle.std.specs.Prelude.{◌≡◌, ℕ, List, ◌^◌, ◌<◌, ◌≤◌, length, IfOk};
 
-use checker::{Reading, read_sheet};
+use checker::read_sheet;
 use limits::{LARGEST_CHANGES, LARGEST_SHOW, READ_AT_MOST, SHEET_BUFFER};
+use std::env::FillError;
 use std::fs::File;
 use std::io::{Cursor, Error, Read, Write};
-use system::{Word, read_full, word_at, word_given};
+use system::{read_full, word_at};
 use verbs::{
-    Asked, Command, Files, KNOWN, LINE, LOAD, Status, Verb, command_of, digit_of, kind_of, renew,
-    say_changes, say_check, say_known, say_load, say_show, verb_told, with_word, write_sheet,
+    Asked, Command, Done, Files, KNOWN, LINE, LOAD, Status, Verb, Written, command_of, digit_of,
+    kind_of, renew, say_changes, say_check, say_known, say_load, say_show, verb_told, with_word,
+    write_sheet,
 };
-use words::{same, text};
 
 // ---- the system's numbers of errors
 
@@ -39,10 +40,7 @@ const EILSEQ: i32 = 84;
 const EIO: i32 = 5;
 
 fn number_of(error: &Error) -> i32 {
-    match error.raw_os_error() {
-        Some(number) => number,
-        None => EIO,
-    }
+    error.raw_os_error().unwrap_or(EIO)
 }
 
 // ---- files
@@ -57,18 +55,16 @@ fn say(text: &[u8]) {
 fn words_end(text: &[u8]) -> usize
     ensures { result ≤ length text.now }
 {
-    let mark = b" (os error ";
     for i in 0..text.len() {
-        if mark.len() <= text.len() - i && same(&text[i..i + mark.len()], mark) {
+        if text[i..].starts_with(b" (os error ") {
             return i;
         }
     }
     text.len()
 }
 
-// What failed, a colon and the system's words for the error.
-fn say_failed(what: &[u8], number: i32) {
-    say(what);
+// Behind what failed, a colon and the system's words for the error.
+fn say_failed(number: i32) {
     say(b": ");
     let mut words = Cursor::new([0u8; 256]);
     if write!(words, "{}", Error::from_raw_os_error(number)).is_ok() {
@@ -83,100 +79,78 @@ fn say_failed(what: &[u8], number: i32) {
     say(b"\n");
 }
 
-// A file was read, and so many bytes of it stand at the front of the buffer; or it was not, by the error of the system;
-// or it grew behind the end that was read.
+// Why a file could not be read: by the error of the system, or since it grew behind the end that was read.
 #[derive(Clone, Copy)]
-pub enum Got {
-    Read(usize),
+enum Why {
     Failed(i32),
     Grew,
 }
 
-// How much of a file stands in the buffer.
-fn length_of(got: Got) -> usize
-    ensures { result ≡ length_read got }
-{
-    match got {
-        Got::Read(n) => n,
-        Got::Failed(_) => 0,
-        Got::Grew => 0,
+impl From<Error> for Why {
+    fn from(error: Error) -> Why {
+        Why::Failed(number_of(&error))
     }
 }
 
-// Why a file could not be read, if so: in the system's words, while it knows them.
-fn say_unread(name: &[u8], got: Got) {
-    match got {
-        Got::Read(_) => {}
-        Got::Failed(number) => {
-            say(b"cablebirch: ");
-            say_failed(name, number);
-        }
-        Got::Grew => {
-            say(b"cablebirch: ");
-            say(name);
-            say(b": it grew while it was read\n");
-        }
-    }
-}
-
-// `read_full` stops short at the end and at a read that fails: one more read tells them apart.
-fn read_from<R: Read>(from: &mut R, buf: &mut [u8]) -> Got
-    ensures { length_read result ≤ length buf.new }
-{
-    let length = read_full(from, buf);
-    if length == buf.len() {
-        return Got::Read(length);
-    }
-    let mut more = [0u8; 1];
-    match from.read(&mut more) {
-        Ok(0) => Got::Read(length),
-        Ok(_) => Got::Grew,
-        Err(e) => Got::Failed(number_of(&e)),
-    }
-}
-
-// Reads the file of this name.
-fn read_named(rt: &HostRuntime, name: &[u8], buf: &mut [u8]) -> Got
-    ensures { length_read result ≤ length buf.new }
-{
-    let Ok(path) = str::from_utf8(name) else {
-        return Got::Failed(EILSEQ);
-    };
-    match File::open(rt, path) {
-        Ok(mut file) => read_from(&mut file, buf),
-        Err(e) => Got::Failed(number_of(&e)),
-    }
-}
-
-// Reads the file that an argument names. If it cannot be read, `tells` asks to say why at once.
-fn read_file(rt: &HostRuntime, a: usize, buf: &mut [u8], tells: bool) -> Got
-    ensures { length_read result ≤ length buf.new }
-{
-    let mut name = io::buffer();
-    let n = word_at(rt, a, &mut name);
-    if same(&name[..n], b"-") {
-        let got = read_from(&mut rt.stdin(), buf);
-        if tells {
-            say_unread(b"standard input", got);
-        }
-        return got;
-    }
-    let got = read_named(rt, &name[..n], buf);
-    if tells {
-        say_unread(&name[..n], got);
-    }
-    got
+// A file that could not be read, by the number of the argument that names it.
+#[derive(Clone, Copy)]
+struct Unread {
+    file: usize,
+    why: Why,
 }
 
 // The name of a file as it was given, for standard error.
 fn say_name(rt: &HostRuntime, a: usize) {
     let mut name = io::buffer();
-    let n = word_at(rt, a, &mut name);
     say(b"cablebirch: ");
-    if same(&name[..n], b"-") {
-        say(b"standard input");
-    } else {
-        say(&name[..n]);
+    match word_at(rt, a, &mut name).unwrap_or(b"") {
+        b"-" => say(b"standard input"),
+        name => say(name),
+    }
+}
+
+// In the system's words, while it knows them.
+fn say_unread(rt: &HostRuntime, unread: Unread) {
+    say_name(rt, unread.file);
+    match unread.why {
+        Why::Failed(number) => say_failed(number),
+        Why::Grew => say(b": it grew while it was read\n"),
+    }
+}
+
+// How much of it stands in the buffer. `read_full` stops short at the end and at a read that fails: one more read tells
+// them apart.
+fn read_from<R: Read>(from: &mut R, buf: &mut [u8]) -> Result<usize, Why>
+    ensures { IfOk result (λ n. n ≤ length buf.new) }
+{
+    let length = read_full(from, buf);
+    let mut more = [0u8; 1];
+    if length < buf.len() && 0 < from.read(&mut more)? {
+        return Err(Why::Grew);
+    }
+    Ok(length)
+}
+
+// Reads the file of this name, or standard input.
+fn read_named(rt: &HostRuntime, name: &[u8], buf: &mut [u8]) -> Result<usize, Why>
+    ensures { IfOk result (λ n. n ≤ length buf.new) }
+{
+    match str::from_utf8(name) {
+        Ok("-") => read_from(&mut rt.stdin(), buf),
+        Ok(path) => read_from(&mut File::open(rt, path)?, buf),
+        Err(_) => Err(Why::Failed(EILSEQ)),
+    }
+}
+
+// The bytes of the file that argument a names.
+fn read_file<'a>(rt: &HostRuntime, a: usize, buf: &'a mut [u8]) -> Result<&'a [u8], Unread>
+    ensures { IfOk result (λ bytes. length bytes.now ≤ length buf.old) }
+{
+    let mut name = io::buffer();
+    let name = word_at(rt, a, &mut name).unwrap_or(b"");
+    match read_named(rt, name, buf) {
+        Ok(n) => Ok(&buf[..n]),
+        Err(why) => Err(Unread { file: a, why }),
     }
 }
 
@@ -185,7 +159,8 @@ fn print(rt: &HostRuntime, text: &[u8], status: Status) -> Status {
     match rt.stdout().write_all(text) {
         Ok(()) => status,
         Err(e) => {
-            say_failed(b"cablebirch: standard output", number_of(&e));
+            say(b"cablebirch: standard output");
+            say_failed(number_of(&e));
             Status::Misused
         }
     }
@@ -193,55 +168,46 @@ fn print(rt: &HostRuntime, text: &[u8], status: Status) -> Status {
 
 // ---- the verbs
 
-fn run_check(rt: &HostRuntime, setting: u32, a: usize) -> Status {
+// Reads the file that argument a names, and prints what is said of it in a buffer of ROOM bytes.
+fn run_over<const ROOM: usize, F: FnOnce(&[u8], &mut [u8]) -> Done>(
+    rt: &HostRuntime,
+    a: usize,
+    tell: F,
+) -> Result<Status, Unread>
+    requires room_fits { ROOM < 2 ^ 63 }
+    requires takes_room { (file : Bor (List ℕ)) (out : MutBor (List ℕ))
+        → length out.now ≡ ROOM → F.pre tell file out }
+    requires stays_inside { (file : Bor (List ℕ)) (out out_after : MutBor (List ℕ)) (done : Done)
+        → F.post tell file out done out_after → done.length ≤ length out_after.now }
+{
+    let mut file = [0u8; READ_AT_MOST];
+    let file = read_file(rt, a, &mut file)?;
+    let mut out = [0u8; ROOM];
+    let done = tell(file, &mut out);
+    Ok(print(rt, &out[..done.length], done.status))
+}
+
+// Reads the image that argument a names, and prints what is made of it in a buffer of ROOM bytes; a refusal's lines go
+// to standard error.
+fn run_made<const ROOM: usize, F: FnOnce(&[u8], &mut [u8], &mut [u8]) -> Written>(
+    rt: &HostRuntime,
+    a: usize,
+    make: F,
+) -> Result<Status, Unread>
+    requires room_fits { ROOM < 2 ^ 63 }
+    requires takes_line { (image : Bor (List ℕ)) (made out : MutBor (List ℕ))
+        → length out.now ≡ LINE → F.pre make image made out }
+    requires stay_inside { (image : Bor (List ℕ)) (made out made_after out_after : MutBor (List ℕ)) (w : Written)
+        → F.post make image made out w made_after out_after
+        → (w.length ≤ length made_after.now) × (w.line ≤ length out_after.now) }
+{
     let mut image = [0u8; READ_AT_MOST];
-    let got = read_file(rt, a, &mut image, true);
-    let Got::Read(_) = got else {
-        return Status::Misused;
-    };
+    let image = read_file(rt, a, &mut image)?;
+    let mut made = [0u8; ROOM];
     let mut out = [0u8; LINE];
-    let done = say_check(setting, text(&image, 0, length_of(got)), &mut out);
-    let status = done.status;
-    print(rt, text(&out, 0, done.length), status)
-}
-
-fn run_known(rt: &HostRuntime, setting: u32, a: usize) -> Status {
-    let mut image = [0u8; READ_AT_MOST];
-    let got = read_file(rt, a, &mut image, true);
-    let Got::Read(_) = got else {
-        return Status::Misused;
-    };
-    let mut out = [0u8; KNOWN];
-    let done = say_known(setting, text(&image, 0, length_of(got)), &mut out);
-    let status = done.status;
-    print(rt, text(&out, 0, done.length), status)
-}
-
-fn run_sheet(rt: &HostRuntime, setting: u32, a: usize) -> Status {
-    let mut image = [0u8; READ_AT_MOST];
-    let got = read_file(rt, a, &mut image, true);
-    let Got::Read(_) = got else {
-        return Status::Misused;
-    };
-    let mut sheet = [0u8; SHEET_BUFFER];
-    let mut out = [0u8; LINE];
-    let w = write_sheet(
-        setting,
-        text(&image, 0, length_of(got)),
-        &mut sheet,
-        &mut out,
-    );
-    say(text(&out, 0, w.line));
-    let status = w.status;
-    print(rt, text(&sheet, 0, w.sheet), status)
-}
-
-fn is_sheet(bytes: &[u8]) -> bool {
-    let reading = read_sheet(bytes);
-    match reading {
-        Reading::Sheet => true,
-        Reading::NoSheet => false,
-    }
+    let w = make(image, &mut made, &mut out);
+    say(&out[..w.line]);
+    Ok(print(rt, &made[..w.length], w.status))
 }
 
 fn say_no_sheet(rt: &HostRuntime, a: usize) {
@@ -249,49 +215,33 @@ fn say_no_sheet(rt: &HostRuntime, a: usize) {
     say(b" is no type sheet (12)\n");
 }
 
-fn run_show(rt: &HostRuntime, a: usize) -> Status {
-    let mut sheet = [0u8; READ_AT_MOST];
-    let got = read_file(rt, a, &mut sheet, true);
-    let Got::Read(_) = got else {
-        return Status::Misused;
-    };
-    let shown = text(&sheet, 0, length_of(got));
-    if !is_sheet(shown) {
-        say_no_sheet(rt, a);
-    }
-    let mut out = [0u8; LARGEST_SHOW];
-    let done = say_show(shown, &mut out);
-    let status = done.status;
-    print(rt, text(&out, 0, done.length), status)
+fn run_show(rt: &HostRuntime, a: usize) -> Result<Status, Unread> {
+    run_over::<LARGEST_SHOW, _>(rt, a, |sheet, out| {
+        if read_sheet(sheet).is_err() {
+            say_no_sheet(rt, a);
+        }
+        say_show(sheet, out)
+    })
 }
 
 // The first of the two that is no sheet is told.
 fn say_if_no_sheet(rt: &HostRuntime, a: usize, old: &[u8], b: usize, new: &[u8]) {
-    if !is_sheet(old) {
+    if read_sheet(old).is_err() {
         say_no_sheet(rt, a);
-    } else if !is_sheet(new) {
+    } else if read_sheet(new).is_err() {
         say_no_sheet(rt, b);
     }
 }
 
-fn run_changes(rt: &HostRuntime, a: usize, b: usize) -> Status {
+fn run_changes(rt: &HostRuntime, a: usize, b: usize) -> Result<Status, Unread> {
     let mut old = [0u8; READ_AT_MOST];
-    let was = read_file(rt, a, &mut old, true);
-    let Got::Read(_) = was else {
-        return Status::Misused;
-    };
+    let old = read_file(rt, a, &mut old)?;
     let mut new = [0u8; READ_AT_MOST];
-    let is = read_file(rt, b, &mut new, true);
-    let Got::Read(_) = is else {
-        return Status::Misused;
-    };
-    let before = text(&old, 0, length_of(was));
-    let after = text(&new, 0, length_of(is));
-    say_if_no_sheet(rt, a, before, b, after);
+    let new = read_file(rt, b, &mut new)?;
+    say_if_no_sheet(rt, a, old, b, new);
     let mut out = [0u8; LARGEST_CHANGES];
-    let done = say_changes(before, after, &mut out);
-    let status = done.status;
-    print(rt, text(&out, 0, done.length), status)
+    let done = say_changes(old, new, &mut out);
+    Ok(print(rt, &out[..done.length], done.status))
 }
 
 // The system's words for what keeps an approved sheet from being read. The line goes on behind them.
@@ -306,56 +256,34 @@ fn say_reason(error: i32) {
 }
 
 // Why every name counts as new: nothing was approved yet, or what was is no sheet.
-fn say_all_new(rt: &HostRuntime, a: usize, was: Got) {
+fn say_all_new(rt: &HostRuntime, a: usize, was: Result<&[u8], Unread>) {
     say_name(rt, a);
     match was {
-        Got::Read(_) => say(b" is no type sheet (12)"),
-        Got::Failed(error) => {
-            say(b": ");
-            say_reason(error);
-        }
-        Got::Grew => say(b": it grew while it was read"),
+        Ok(_) => say(b" is no type sheet (12)"),
+        Err(unread) => match unread.why {
+            Why::Failed(error) => {
+                say(b": ");
+                say_reason(error);
+            }
+            Why::Grew => say(b": it grew while it was read"),
+        },
     }
     say(b": every name is new\n");
 }
 
-fn run_load(rt: &HostRuntime, setting: u32, a: usize, b: usize) -> Status {
+// An approved sheet that cannot be read counts as none.
+fn run_load(rt: &HostRuntime, setting: u32, a: usize, b: usize) -> Result<Status, Unread> {
     let mut image = [0u8; READ_AT_MOST];
-    let got = read_file(rt, b, &mut image, true);
-    let Got::Read(_) = got else {
-        return Status::Misused;
-    };
+    let image = read_file(rt, b, &mut image)?;
     let mut sheet = [0u8; READ_AT_MOST];
-    let was = read_file(rt, a, &mut sheet, false);
-    let approved = text(&sheet, 0, length_of(was));
+    let was = read_file(rt, a, &mut sheet);
+    let approved = was.unwrap_or(b"");
     let mut out = [0u8; LOAD];
-    let done = say_load(setting, text(&image, 0, length_of(got)), approved, &mut out);
-    let status = done.status;
-    if is_changed(status) && !is_sheet(approved) {
+    let done = say_load(setting, image, approved, &mut out);
+    if matches!(done.status, Status::Changed) && read_sheet(approved).is_err() {
         say_all_new(rt, a, was);
     }
-    print(rt, text(&out, 0, done.length), status)
-}
-
-fn is_changed(status: Status) -> bool {
-    match status {
-        Status::Changed => true,
-        _ => false,
-    }
-}
-
-fn run_convert(rt: &HostRuntime, a: usize) -> Status {
-    let mut image = [0u8; READ_AT_MOST];
-    let got = read_file(rt, a, &mut image, true);
-    let Got::Read(_) = got else {
-        return Status::Misused;
-    };
-    let mut new = [0u8; READ_AT_MOST];
-    let mut out = [0u8; LINE];
-    let w = renew(text(&image, 0, length_of(got)), &mut new, &mut out);
-    say(text(&out, 0, w.line));
-    let status = w.status;
-    print(rt, text(&new, 0, w.image), status)
+    Ok(print(rt, &out[..done.length], done.status))
 }
 
 fn run_help(rt: &HostRuntime) -> Status {
@@ -380,45 +308,39 @@ fn run_help(rt: &HostRuntime) -> Status {
 // What the word at this place adds, if there is one.
 fn asked_at(rt: &HostRuntime, w: Asked, a: usize) -> Asked {
     let mut word = io::buffer();
-    if let Word::Absent = word_given(rt, a, &mut word) {
-        return w;
+    match word_at(rt, a, &mut word) {
+        Err(FillError::NotPresent) => w,
+        word => with_word(w, a, kind_of(word.unwrap_or(b""))),
     }
-    let n = word_at(rt, a, &mut word);
-    with_word(w, a, kind_of(&word[..n]))
 }
 
 // The words behind the verb. No verb takes more than three, so that a fourth settles it (`five_words` in `verbs`).
 fn words_asked(rt: &HostRuntime) -> Asked {
-    let none = Asked {
+    let mut asked = Asked {
         strict: false,
         known: false,
         input: false,
         files: Files::None,
     };
-    asked_at(
-        rt,
-        asked_at(rt, asked_at(rt, asked_at(rt, none, 2), 3), 4),
-        5,
-    )
+    for a in 2..=5 {
+        asked = asked_at(rt, asked, a);
+    }
+    asked
 }
 
 fn is_too_long(rt: &HostRuntime, a: usize) -> bool {
     let mut word = io::buffer();
-    match word_given(rt, a, &mut word) {
-        Word::Long => true,
-        _ => false,
-    }
+    matches!(word_at(rt, a, &mut word), Err(FillError::TooLong))
 }
 
 fn verb_given(rt: &HostRuntime) -> Verb {
     let mut word = io::buffer();
-    let n = word_at(rt, 1, &mut word);
-    verb_told(&word[..n])
+    verb_told(word_at(rt, 1, &mut word).unwrap_or(b""))
 }
 
 fn say_no_verb(rt: &HostRuntime) {
     let mut word = io::buffer();
-    if let Word::Absent = word_given(rt, 1, &mut word) {
+    if let Err(FillError::NotPresent) = word_at(rt, 1, &mut word) {
         say(b"cablebirch: a verb is missing; try cablebirch help\n");
     } else {
         say_name(rt, 1);
@@ -444,33 +366,49 @@ fn say_bad_words(verb: Verb) {
     }
 }
 
-fn run(rt: &HostRuntime, verb: Verb) -> Status {
+fn run(rt: &HostRuntime, verb: Verb) -> Result<Status, Unread> {
     match command_of(verb, words_asked(rt)) {
-        Command::CheckImage(setting, a) => run_check(rt, setting, a),
-        Command::CheckKnown(setting, a) => run_known(rt, setting, a),
-        Command::WriteSheet(setting, a) => run_sheet(rt, setting, a),
+        Command::CheckImage(setting, a) => {
+            run_over::<LINE, _>(rt, a, |image, out| say_check(setting, image, out))
+        }
+        Command::CheckKnown(setting, a) => {
+            run_over::<KNOWN, _>(rt, a, |image, out| say_known(setting, image, out))
+        }
+        Command::WriteSheet(setting, a) => {
+            run_made::<SHEET_BUFFER, _>(
+                rt,
+                a,
+                |image, sheet, out| write_sheet(setting, image, sheet, out),
+            )
+        }
         Command::ShowSheet(a) => run_show(rt, a),
         Command::TellChanges(a, b) => run_changes(rt, a, b),
         Command::LoadImage(setting, a, b) => run_load(rt, setting, a, b),
-        Command::ConvertImage(a) => run_convert(rt, a),
-        Command::Usage => run_help(rt),
+        Command::ConvertImage(a) => run_made::<READ_AT_MOST, _>(rt, a, renew),
+        Command::Usage => Ok(run_help(rt)),
         Command::NoVerb => {
             say_no_verb(rt);
-            Status::Misused
+            Ok(Status::Misused)
         }
         Command::BadWords => {
             say_bad_words(verb);
-            Status::Misused
+            Ok(Status::Misused)
         }
     }
 }
 
 fn status_told(rt: &HostRuntime) -> Status {
-    if is_too_long(rt, 1) || is_too_long(rt, 2) || is_too_long(rt, 3) || is_too_long(rt, 4) {
+    if (1..=4).any(|a| is_too_long(rt, a)) {
         say(b"cablebirch: a word is longer than 4,096 bytes; try cablebirch help\n");
         return Status::Misused;
     }
-    run(rt, verb_given(rt))
+    match run(rt, verb_given(rt)) {
+        Ok(status) => status,
+        Err(unread) => {
+            say_unread(rt, unread);
+            Status::Misused
+        }
+    }
 }
 
 // Where the status goes.

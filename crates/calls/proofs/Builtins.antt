@@ -5,13 +5,17 @@ use mathlib.Core.List.{List, [], ◌∷◌}
 use Prim.Native.Nat.{ℕ, ◌<◌}
 use Prim.Native.String.{String}
 use native.Mathlib.Omega.{arith}
+use borrow.Author.Rules.{rules}
+use lib.Chars.{codes}
+use lib.ListN.{length}
+use Rattle.std.proofs.lemmas.Slice.Eq.{HasBytesAt, text_from_reads}
 use native.Mathlib.Decide.{ℕ_discrete}
-use Rattle.meaning.specs.Base.{◌or◌, test◌then◌else◌, bytes, same_text, is_one_of}
+use Rattle.meaning.specs.Base.{◌and◌, ◌or◌, test◌then◌else◌, bytes, same_text, is_one_of}
 use Rattle.meaning.specs.Types.{plain}
 use Rattle.meaning.specs.Image.{Name, allows, safe}
 use Rattle.meaning.specs.Operators.{Checked}
 use Rattle.meaning.specs.Rules.{Children, choose_text, builtin_rule}
-use Rattle.meaning.proofs.Choices.{and_left, and_right, both}
+use Rattle.meaning.proofs.Choices.{and_left, and_right, both, same_text_lem}
 use Rattle.image.specs.Parts.{one_argument, two_arguments}
 use Rattle.calls.specs.declared.Rule.{Rule}
 use Rattle.calls.specs.declared.Rule.TheVariants.{Each, First, Input, Len, Range, Map, Filter}
@@ -36,21 +40,6 @@ builtins =
 unfoldable pub rule_in : List ℕ → List (List ℕ × Rule) → Rule
 rule_in s [] = Each 0
 rule_in s (r ∷ rs) = let later = rule_in s rs in test same_text s r.0 then r.1 else later
-
--- ---- the code's way through the rows
-
-module _ (s x : List ℕ) (k : Rule) (ks : List (List ℕ × Rule)) {q : Bool} (compared : q ≡ same_text s x) where
-  pub row_is : q ≡ true → k ≡ rule_in s ((x, k) ∷ ks)
-  unfolding rule_in test◌then◌else◌
-  row_is e = rw (sym compared ∙ e)
-
-  pub row_not : q ≡ false → {r : Rule} → r ≡ rule_in s ks → r ≡ rule_in s ((x, k) ∷ ks)
-  unfolding rule_in test◌then◌else◌
-  row_not e h = rw (sym compared ∙ e) h
-
-pub no_rows : (s : List ℕ) → Each 0 ≡ rule_in s []
-unfolding rule_in
-no_rows s = refl
 
 -- ---- each row's rule is what `builtin_rule` has for its text
 
@@ -163,3 +152,86 @@ chosen {s} {k} e = record {
   says = λ n cs. builtin_rule_lem n s cs ∙ ap (λ r. rule_of r n cs) (sym e);
   enough = λ w c h stands allowed. rw (e, sym h) (enough_there w c stands allowed);
 }
+
+-- ---- what the code reads, by which a match on the text is proved
+
+-- s has the bytes of p, as the code reads them
+abbrev pub Reads : List ℕ → List ℕ → Type 0
+Reads s p = (length s ≡ length p) × HasBytesAt s 0 p
+
+pub chosen_print : (s : List ℕ) → Reads s (codes "print") → Chosen s (Each 5)
+unfolding builtins rule_in bytes same_text test◌then◌else◌ ◌and◌
+chosen_print s r = chosen (rw (text_from_reads s (codes "print") r.0 r.1))
+
+pub chosen_input : (s : List ℕ) → Reads s (codes "input") → Chosen s Input
+unfolding builtins rule_in bytes same_text test◌then◌else◌ ◌and◌
+chosen_input s r = chosen (rw (text_from_reads s (codes "input") r.0 r.1))
+
+pub chosen_int : (s : List ℕ) → Reads s (codes "int") → Chosen s (First 1)
+unfolding builtins rule_in bytes same_text test◌then◌else◌ ◌and◌
+chosen_int s r = chosen (rw (text_from_reads s (codes "int") r.0 r.1))
+
+pub chosen_float : (s : List ℕ) → Reads s (codes "float") → Chosen s (First 4)
+unfolding builtins rule_in bytes same_text test◌then◌else◌ ◌and◌
+chosen_float s r = chosen (rw (text_from_reads s (codes "float") r.0 r.1))
+
+pub chosen_bool : (s : List ℕ) → Reads s (codes "bool") → Chosen s (First 2)
+unfolding builtins rule_in bytes same_text test◌then◌else◌ ◌and◌
+chosen_bool s r = chosen (rw (text_from_reads s (codes "bool") r.0 r.1))
+
+pub chosen_str : (s : List ℕ) → Reads s (codes "str") → Chosen s (First 3)
+unfolding builtins rule_in bytes same_text test◌then◌else◌ ◌and◌
+chosen_str s r = chosen (rw (text_from_reads s (codes "str") r.0 r.1))
+
+pub chosen_len : (s : List ℕ) → Reads s (codes "len") → Chosen s Len
+unfolding builtins rule_in bytes same_text test◌then◌else◌ ◌and◌
+chosen_len s r = chosen (rw (text_from_reads s (codes "len") r.0 r.1))
+
+pub chosen_range : (s : List ℕ) → Reads s (codes "range") → Chosen s Range
+unfolding builtins rule_in bytes same_text test◌then◌else◌ ◌and◌
+chosen_range s r = chosen (rw (text_from_reads s (codes "range") r.0 r.1))
+
+pub chosen_assert : (s : List ℕ) → Reads s (codes "assert") → Chosen s (First 5)
+unfolding builtins rule_in bytes same_text test◌then◌else◌ ◌and◌
+chosen_assert s r = chosen (rw (text_from_reads s (codes "assert") r.0 r.1))
+
+pub chosen_map : (s : List ℕ) → Reads s (codes "map") → Chosen s Map
+unfolding builtins rule_in bytes same_text test◌then◌else◌ ◌and◌
+chosen_map s r = chosen (rw (text_from_reads s (codes "map") r.0 r.1))
+
+pub chosen_filter : (s : List ℕ) → Reads s (codes "filter") → Chosen s Filter
+unfolding builtins rule_in bytes same_text test◌then◌else◌ ◌and◌
+chosen_filter s r = chosen (rw (text_from_reads s (codes "filter") r.0 r.1))
+
+-- none of the eleven
+pub chosen_other : (s : List ℕ)
+    → (Reads s (codes "print") → ⊥)
+    → (Reads s (codes "input") → ⊥)
+    → (Reads s (codes "int") → ⊥)
+    → (Reads s (codes "float") → ⊥)
+    → (Reads s (codes "bool") → ⊥)
+    → (Reads s (codes "str") → ⊥)
+    → (Reads s (codes "len") → ⊥)
+    → (Reads s (codes "range") → ⊥)
+    → (Reads s (codes "assert") → ⊥)
+    → (Reads s (codes "map") → ⊥)
+    → (Reads s (codes "filter") → ⊥)
+    → Chosen s (Each 0)
+unfolding builtins bytes
+chosen_other s n0 n1 n2 n3 n4 n5 n6 n7 n8 n9 n10 =
+    let P : Rule → Type 0 = λ k. Each 0 ≡ k in
+    chosen (
+    by_row P s _ (Each 5) _ (λ e. absurd (n0 (rw (same_text_lem s _ e) (search rules)))) (
+    by_row P s _ Input _ (λ e. absurd (n1 (rw (same_text_lem s _ e) (search rules)))) (
+    by_row P s _ (First 1) _ (λ e. absurd (n2 (rw (same_text_lem s _ e) (search rules)))) (
+    by_row P s _ (First 4) _ (λ e. absurd (n3 (rw (same_text_lem s _ e) (search rules)))) (
+    by_row P s _ (First 2) _ (λ e. absurd (n4 (rw (same_text_lem s _ e) (search rules)))) (
+    by_row P s _ (First 3) _ (λ e. absurd (n5 (rw (same_text_lem s _ e) (search rules)))) (
+    by_row P s _ Len _ (λ e. absurd (n6 (rw (same_text_lem s _ e) (search rules)))) (
+    by_row P s _ Range _ (λ e. absurd (n7 (rw (same_text_lem s _ e) (search rules)))) (
+    by_row P s _ (First 5) _ (λ e. absurd (n8 (rw (same_text_lem s _ e) (search rules)))) (
+    by_row P s _ Map _ (λ e. absurd (n9 (rw (same_text_lem s _ e) (search rules)))) (
+    by_row P s _ Filter _ (λ e. absurd (n10 (rw (same_text_lem s _ e) (search rules)))) (by_none P s refl))))))))))))
+
+-- for builtin_of
+pub ruleset texts = (chosen_print, chosen_input, chosen_int, chosen_float, chosen_bool, chosen_str, chosen_len, chosen_range, chosen_assert, chosen_map, chosen_filter, chosen_other)

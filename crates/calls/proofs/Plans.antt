@@ -1,7 +1,8 @@
 -- The plan of a call: what a name's role and count admit.
 use mathlib.Core.Path.{◌≡◌, refl, sym, ap, ◌∙◌}
-use mathlib.Core.Bool.{Bool, true, false, false≢true}
+use mathlib.Core.Bool.{Bool, true, false}
 use mathlib.Core.List.{List, [], ◌∷◌}
+use Rattle.std.specs.Prelude.{Ok, Err}
 use Prim.Native.Nat.{ℕ, ◌≤◌, ◌<◌}
 use native.Mathlib.Omega.{arith}
 use native.Mathlib.Decide.{ℕ_discrete}
@@ -17,6 +18,9 @@ use Rattle.meaning.specs.Rules.{Children, each_then, builtin_rule, described, bu
 use Rattle.meaning.proofs.Choices.{all_pass}
 use Rattle.meaning.proofs.Faults.{Sound}
 use Rattle.types.specs.Table.{Tab}
+use Rattle.codes.specs.declared.Code.{Code}
+use Rattle.codes.specs.declared.Code.TheVariants.{BuiltinArity, FunctionArity}
+use Rattle.codes.specs.Codes.{code_number}
 use Rattle.rules.specs.Outcome.{types_named, taken, pieces}
 use Rattle.image.specs.Parts.{record_of, name_means}
 use Rattle.image.specs.declared.NameAt.{NameAt}
@@ -24,35 +28,18 @@ use Rattle.meaning.proofs.Nesting.{names_many}
 use Rattle.image.proofs.Records.{role_of_lem}
 use Rattle.calls.specs.declared.Rule.{Rule}
 use Rattle.calls.specs.declared.Rule.TheVariants.{Each}
-use Rattle.calls.specs.declared.Plan.{Plan}
-use Rattle.calls.specs.declared.Plan.TheVariants.{By, Refused}
-use Rattle.calls.specs.Planning.{rule_of, Enough, Chosen, Planned}
+use Rattle.calls.specs.Planning.{rule_of, Enough, Chosen, Plan, Planned}
 
 -- ---- the two cases of a plan
 
-plan_rule : Plan → Rule
-plan_rule (By k) = k
-plan_rule (Refused c) = Each 0
+pub same_rule : {j k : Rule} → ◌≡◌ {A = Plan} (Ok j) (Ok k) → j ≡ k
+same_rule e = cc
 
-plan_code : Plan → ℕ
-plan_code (By k) = 0
-plan_code (Refused c) = c
+pub same_code : {c d : Code} → ◌≡◌ {A = Plan} (Err c) (Err d) → c ≡ d
+same_code e = cc
 
-is_by : Plan → Bool
-is_by (By k) = true
-is_by (Refused c) = false
-
-pub same_rule : {j k : Rule} → By j ≡ By k → j ≡ k
-unfolding plan_rule
-same_rule e = ap plan_rule e
-
-pub same_code : {c d : ℕ} → Refused c ≡ Refused d → c ≡ d
-unfolding plan_code
-same_code e = ap plan_code e
-
-pub by_not_refused : {A : Type 0} {k : Rule} {c : ℕ} → By k ≡ Refused c → A
-unfolding is_by
-by_not_refused e = absurd (false≢true (sym (ap is_by e)))
+pub by_not_refused : {A : Type 0} {k : Rule} {c : Code} → Ok k ≡ Err c → A
+by_not_refused e = absurd (cc)
 
 -- ---- a call's count comes before its rule
 
@@ -126,7 +113,7 @@ module _ (ws : List Name) (t : Tab) (a b : ℕ) where
 
 module _ (ws : List Name) (x count : ℕ) where
   planned_by : {k : Rule} → ((n : ℕ) (cs : Children) → length cs ≡ count → name_rule n (name_of ws x) (name_of ws x).role cs ≡ rule_of k n cs)
-      → Enough k count → Planned ws x count (By k)
+      → Enough k count → Planned ws x count (Ok k)
   planned_by f h = record {
     well = λ j e n cs l. f n cs l ∙ ap (λ r. rule_of r n cs) (same_rule e);
     enough = λ j e. rw (sym (same_rule e)) h;
@@ -134,10 +121,10 @@ module _ (ws : List Name) (x count : ℕ) where
     codes = λ c e. by_not_refused e;
   }
 
-  planned_refused : (code : ℕ) → 37 ≤ code → code ≤ 38
+  planned_refused : (code : Code) → 37 ≤ code_number code → code_number code ≤ 38
       → ((t : Tab) (n : ℕ) (cs : Children) → length cs ≡ count
-      → name_rule n (name_of ws x) (name_of ws x).role cs ≡ refused (refusal code n (pieces ws t code x count)))
-      → Planned ws x count (Refused code)
+      → name_rule n (name_of ws x) (name_of ws x).role cs ≡ refused (refusal (code_number code) n (pieces ws t (code_number code) x count)))
+      → Planned ws x count (Err code)
   planned_refused code l m f = record {
     well = λ k e. by_not_refused (sym e);
     enough = λ k e. by_not_refused (sym e);
@@ -162,7 +149,7 @@ module _ (bs : List ℕ) (x count : ℕ) {r : NameAt} (e : name_means r ≡ reco
   -- a builtin whose role allows the count
   pub plan_builtin : Sound bs → x < name_count bs → 1 ≤ r.role → r.role ≤ 3
       → {b : Bool} → b ≡ allows (role_of (name_means r)) count → b ≡ true
-      → {text : List ℕ} {k : Rule} → text ≡ (name_of (names_of bs) x).spelling → Chosen text k → Planned (names_of bs) x count (By k)
+      → {text : List ℕ} {k : Rule} → text ≡ (name_of (names_of bs) x).spelling → Chosen text k → Planned (names_of bs) x count (Ok k)
   plan_builtin s h l m a y t k =
       let w : Name = name_of (names_of bs) x in
       let allowed : allows w.role count ≡ true = sym (own_allows a) ∙ y in
@@ -175,33 +162,33 @@ module _ (bs : List ℕ) (x count : ℕ) {r : NameAt} (e : name_means r ≡ reco
 
   -- and one whose role does not
   pub plan_37 : 1 ≤ r.role → r.role ≤ 3 → {b : Bool} → b ≡ allows (role_of (name_means r)) count → b ≡ false
-      → Planned (names_of bs) x count (Refused 37)
+      → Planned (names_of bs) x count (Err BuiltinArity)
   plan_37 l m a y =
       let w : Name = name_of (names_of bs) x in
-      planned_refused (names_of bs) x count 37 (omega arith) (omega arith)
+      planned_refused (names_of bs) x count BuiltinArity (omega arith) (omega arith)
       (λ t n cs q.
       own n cs (role_builtin n w cs (name_means r) l m)
       ∙ builtin_miscounted n w cs (ap (allows w.role) q ∙ sym (own_allows a) ∙ y)
       ∙ ap (λ ps. refused (refusal 37 n ps)) (rw q (sym (pieces_37 (names_of bs) t x count))))
 
-  pub plan_function : r.role ≡ 4 → count ≡ r.p → Planned (names_of bs) x count (By (Each 0))
+  pub plan_function : r.role ≡ 4 → count ≡ r.p → Planned (names_of bs) x count (Ok (Each 0))
   plan_function f c =
       planned_by (names_of bs) x count
       (λ n cs q. own n cs (role_function n _ cs (name_means r) f) ∙ function_counted n _ cs r.p (q ∙ c) ∙ each_unknown n cs)
       (omega arith)
 
-  pub plan_38 : r.role ≡ 4 → (count ≡ r.p → ⊥) → Planned (names_of bs) x count (Refused 38)
+  pub plan_38 : r.role ≡ 4 → (count ≡ r.p → ⊥) → Planned (names_of bs) x count (Err FunctionArity)
   plan_38 f d =
-      planned_refused (names_of bs) x count 38 (omega arith) (omega arith)
+      planned_refused (names_of bs) x count FunctionArity (omega arith) (omega arith)
       (λ t n cs q.
       own n cs (role_function n _ cs (name_means r) f) ∙ function_miscounted n _ cs r.p (λ z. d (sym q ∙ z))
       ∙ ap (λ ps. refused (refusal 38 n ps)) (rw q (sym (pieces_38 (names_of bs) t x count r.p (sym (role_of_lem bs x e) ∙ role_takes (name_means r) f)))))
 
   -- a name that is neither
-  pub plan_none : r.role < 1 → Planned (names_of bs) x count (By (Each 0))
+  pub plan_none : r.role < 1 → Planned (names_of bs) x count (Ok (Each 0))
   plan_none l =
       planned_by (names_of bs) x count (λ n cs q. own n cs (role_none n _ cs (name_means r) l) ∙ each_unknown n cs) (omega arith)
 
-  pub plan_other : 4 < r.role → Planned (names_of bs) x count (By (Each 0))
+  pub plan_other : 4 < r.role → Planned (names_of bs) x count (Ok (Each 0))
   plan_other l =
       planned_by (names_of bs) x count (λ n cs q. own n cs (role_other n _ cs (name_means r) l) ∙ each_unknown n cs) (omega arith)

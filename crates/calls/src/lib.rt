@@ -6,10 +6,9 @@ ghost use Rattle.meaning.specs.Image.{name_count, names_of};
 ghost use Rattle.meaning.proofs.Faults.{Sound};
 ghost use Rattle.calls.specs.Planning.{Chosen, Planned};
 
+use codes::Code;
 use image::{admits, areas, name_at, name_text, roles};
-use rules::codes;
 use types;
-use words::same;
 
 // What T's match on a builtin's name does with the arguments of its call.
 #[derive(Clone, Copy)]
@@ -24,51 +23,28 @@ pub enum Rule {
 }
 
 // The rule of a builtin's text, in T's order: "A builtin's rule is chosen by its text, compared byte by byte."
+#[tactic(auto, using(crate::proofs::Builtins::texts))]
 pub fn builtin_of(text: &[u8]) -> Rule
     ensures { Chosen text.now result }
 {
-    if same(text, b"print") {
-        return Rule::Each(types::NONE_TYPE);
+    match text {
+        b"print" => Rule::Each(types::NONE_TYPE),
+        b"input" => Rule::Input,
+        b"int" => Rule::First(types::INT),
+        b"float" => Rule::First(types::FLOAT),
+        b"bool" => Rule::First(types::BOOL),
+        b"str" => Rule::First(types::STRING),
+        b"len" => Rule::Len,
+        b"range" => Rule::Range,
+        b"assert" => Rule::First(types::NONE_TYPE),
+        b"map" => Rule::Map,
+        b"filter" => Rule::Filter,
+        _ => Rule::Each(types::UNKNOWN),
     }
-    if same(text, b"input") {
-        return Rule::Input;
-    }
-    if same(text, b"int") {
-        return Rule::First(types::INT);
-    }
-    if same(text, b"float") {
-        return Rule::First(types::FLOAT);
-    }
-    if same(text, b"bool") {
-        return Rule::First(types::BOOL);
-    }
-    if same(text, b"str") {
-        return Rule::First(types::STRING);
-    }
-    if same(text, b"len") {
-        return Rule::Len;
-    }
-    if same(text, b"range") {
-        return Rule::Range;
-    }
-    if same(text, b"assert") {
-        return Rule::First(types::NONE_TYPE);
-    }
-    if same(text, b"map") {
-        return Rule::Map;
-    }
-    if same(text, b"filter") {
-        return Rule::Filter;
-    }
-    Rule::Each(types::UNKNOWN)
 }
 
-// What becomes of a call of a name: its rule, or 37 or 38 where the count is refused.
-#[derive(Clone, Copy)]
-pub enum Plan {
-    By(Rule),
-    Refused(u32),
-}
+// What becomes of a call of a name: its rule, or the refusal of its count.
+pub type Plan = Result<Rule, Code>;
 
 // "Role, then arity, then the rule of the text": the call of name x with so many arguments.
 pub fn plan_of(image: &[u8], x: usize, count: u32) -> Plan
@@ -77,21 +53,15 @@ pub fn plan_of(image: &[u8], x: usize, count: u32) -> Plan
     ensures { Planned (names_of image.now) x count result }
 {
     let name = name_at(image, x);
-    let role = name.role;
-    match role {
+    match name.role {
         roles::EXACTLY | roles::BETWEEN | roles::ANY => {
-            if admits(name, count) {
-                let layout = areas(image);
-                return Plan::By(builtin_of(name_text(image, layout.texts, x)));
+            if !admits(name, count) {
+                return Err(Code::BuiltinArity);
             }
-            Plan::Refused(codes::BUILTIN_ARITY)
+            let layout = areas(image);
+            Ok(builtin_of(name_text(image, layout.texts, x)))
         }
-        roles::FUNCTION => {
-            if count == name.p {
-                return Plan::By(Rule::Each(types::UNKNOWN));
-            }
-            Plan::Refused(codes::FUNCTION_ARITY)
-        }
-        _ => Plan::By(Rule::Each(types::UNKNOWN)),
+        roles::FUNCTION if count != name.p => Err(Code::FunctionArity),
+        _ => Ok(Rule::Each(types::UNKNOWN)),
     }
 }

@@ -9,6 +9,8 @@ use native.Mathlib.Omega.{arith}
 use native.Mathlib.Decide.{ℕ_discrete}
 use borrow.Author.Tests.{eq-eqb, ne_eqb}
 use lib.ListN.{length, get_or}
+use Rattle.codes.specs.Codes.{code_number}
+use Rattle.std.specs.Prelude.{Option, Some, None, Ok, Err, ok_or}
 use Rattle.meaning.specs.Base.{test◌then◌else◌, if_some}
 use Rattle.meaning.specs.Image.{node_count, nodes_of, node_of, names_of}
 use Rattle.meaning.specs.Image.{Node as ImageNode}
@@ -25,22 +27,22 @@ use Rattle.meaning.proofs.Kept.{refused_typing}
 use Rattle.meaning.proofs.SecondSpan.{refused_pointed, makes_inside}
 use Rattle.meaning.proofs.Listed.{listing_of}
 use Rattle.types.specs.Table.{Tab}
-use Rattle.frames.specs.Env.{Rows, frame_of, frames_of, below, first_node, first_number, FirstBelow}
-use Rattle.frames.specs.declared.First.{First}
-use Rattle.frames.specs.declared.First.TheVariants.{Nowhere, At}
+use Rattle.frames.specs.Env.{First, Rows, frame_of, frames_of, below, first_node, FirstBelow}
 use Rattle.rules.specs.Outcome.{pieces}
-use Rattle.state.specs.Notes.{places}
+use Rattle.state.specs.Notes.{code_in, Places, places_in}
+use Rattle.state.specs.declared.Notes.{Notes}
 use Rattle.targets.specs.Ending.{first_at, ended}
 use Rattle.targets.proofs.Endings.{first_none}
 use Rattle.stmt.specs.Contract.{Ran}
 use Rattle.message.specs.Told.{told, Tells}
+use Rattle.sheet.specs.declared.list.ListedName.{ListedName}
 use Rattle.sheet.specs.Listing.{Listing, listed}
 use Rattle.sheet.specs.Listing.{Wrote as Laid}
 use Rattle.names.specs.Names.{Names}
 use Rattle.checker.specs.Answers.{Wrote, Told}
-use Rattle.checker.specs.Steps.{Accepting, Refusing, first_start, first_end, refused_as}
+use Rattle.checker.specs.Steps.{Accepting, Refusing, second_place, first_start, first_end, refused_as}
 use Rattle.checker.specs.declared.Refusal.{Refusal}
-use Rattle.checker.specs.declared.Answer.TheVariants.{Accepted, ShortBuffer, Typing}
+use Rattle.checker.specs.declared.Refused.TheVariants.{ShortBuffer, Typing}
 
 -- ---- an accepted program
 
@@ -52,66 +54,52 @@ if_yes : (b : Bool) (x y : Answer) → b ≡ true → (test b then x else y) ≡
 unfolding test◌then◌else◌
 if_yes b x y e = rw e
 
-module _ {bs : List ℕ} {t : Tab} {fs : Rows} {top : ℕ} {cells : List ℕ} {n : ℕ} (a : Accepting bs t fs top) (l : Names bs fs top cells n) where
+module _ {bs : List ℕ} {t : Tab} {fs : Rows} {top : ℕ} {cells : List ListedName} {n : ℕ} (a : Accepting bs t fs top) (l : Names bs fs top cells n) where
   pub accept_listing : Listing bs t cells n
   accept_listing = l.stands t a.wf a.fit
 
   same : listed bs t cells n ≡ listing_of bs (newest (frames_of t fs top))
   same = l.listed_is t a.wf a.fit
 
-  module _ {fits : Bool} {long : ℕ} {old new : List ℕ} (w : Laid (listed bs t cells n) fits long old new) where
-    pub accepted : fits ≡ true → Wrote (written (length old) (sheet_of (listing_of bs (newest (frames_of t fs top))))) (Accepted long) old new
-    unfolding written test◌then◌else◌
-    accepted e =
-        let f = sym w.fits_is ∙ e in
-        record {
-          numbers = rw (← same, w.length_is, f);
-          stands = tt;
-          sheet = rw (← same) w.out_is;
-        }
-
-    pub short : fits ≡ false → Wrote (written (length old) (sheet_of (listing_of bs (newest (frames_of t fs top))))) ShortBuffer old new
-    unfolding written test◌then◌else◌
-    short e =
-        let f = sym w.fits_is ∙ e in
-        record {
-          numbers = rw (← same, f);
-          stands = tt;
-          sheet = rw (← same) w.out_is;
-        }
+  pub accepted : (o : Option ℕ) {old new : List ℕ} → Laid (listed bs t cells n) o old new
+      → Wrote (written (length old) (sheet_of (listing_of bs (newest (frames_of t fs top))))) (ok_or o ShortBuffer) old new
+  unfolding written test◌then◌else◌
+  accepted (Some k) w = record { numbers = rw (← same, w.length_is, sym w.fits_is); stands = tt; sheet = rw (← same) w.out_is }
+  accepted None w = record { numbers = rw (← same, sym w.fits_is); stands = tt; sheet = rw (← same) w.out_is }
 
 -- ---- a typing refusal
 
-module _ {bs : List ℕ} {nodes : ℕ} {t : Tab} {code place a b : ℕ} {first : First} (r : Refusing bs nodes t code place first a b) where
-  pub refuse_tells : Tells t code a b
+module _ {bs : List ℕ} {nodes : ℕ} {t : Tab} {ns : Notes} (r : Refusing bs nodes t ns) where
+  pub refuse_tells : Tells t (code_in ns) ns.first ns.second
   refuse_tells = record { wf = r.wf; first = r.named.first; second = r.named.second; small = r.named.small }
 
-  pub refuse_there : place < node_count bs
+  pub refuse_there : ns.place < node_count bs
   refuse_there = r.named.placed (λ e. absurd (omega (arith, r.typing)))
 
-  pub refused : {node : ImageNode} {q : Refusal} {old new : List ℕ} → node ≡ node_of (nodes_of bs) place → q.code ≡ code → q.place ≡ place
-      → q.begins ≡ node.span_start → q.ends ≡ node.span_end
-      → q.second_begins ≡ first_start (nodes_of bs) (first_node first) → q.second_ends ≡ first_end (nodes_of bs) (first_node first) → q.message ≡ length (told bs t code a b (length old))
-      → new ≡ overlaid (told bs t code a b (length old)) old → Told (refused_as bs t code place (first_node first) a b (length old)) (Typing q) old new
+  pub refused : {node : ImageNode} (first : First) {q : Refusal} {old new : List ℕ} → node ≡ node_of (nodes_of bs) ns.place → first_node first ≡ second_place ns
+      → code_number q.code ≡ code_in ns → q.place ≡ ns.place → q.begins ≡ node.span_start → q.ends ≡ node.span_end
+      → q.second_begins ≡ first_start (nodes_of bs) (first_node first) → q.second_ends ≡ first_end (nodes_of bs) (first_node first)
+      → q.message ≡ length (told bs t (code_in ns) ns.first ns.second (length old))
+      → new ≡ overlaid (told bs t (code_in ns) ns.first ns.second (length old)) old → Told (refused_as bs t ns (length old)) (Err (Typing q)) old new
   unfolding refused_as told message
-  refused e c p s f s₂ f₂ m o = record {
-    numbers = rw (c, p, s, f, s₂, f₂, m, e);
+  refused first e g c p s f s₂ f₂ m o = record {
+    numbers = rw (c, p, s, f, s₂, f₂, m, g, e);
     stands = rw c r.typing;
     message = o;
   }
 
 -- the span of a first node
-pub span_nowhere : (ds : List ImageNode) {first : First} → first ≡ Nowhere → (0 ≡ first_start ds (first_node first)) × (0 ≡ first_end ds (first_node first))
+pub span_nowhere : (ds : List ImageNode) {first : First} → first ≡ None → (0 ≡ first_start ds (first_node first)) × (0 ≡ first_end ds (first_node first))
 unfolding if_some
 span_nowhere ds e = rw e (refl, refl)
 
-pub span_at : (ds : List ImageNode) {first : First} {m : ℕ} {node : ImageNode} → first ≡ At m → node ≡ node_of ds m
+pub span_at : (ds : List ImageNode) {first : First} {m : ℕ} {node : ImageNode} → first ≡ Some m → node ≡ node_of ds m
     → (node.span_start ≡ first_start ds (first_node first)) × (node.span_end ≡ first_end ds (first_node first))
 unfolding if_some
 span_at ds e f = rw e (ap (λ (n : ImageNode). n.span_start) f, ap (λ (n : ImageNode). n.span_end) f)
 
 -- a code that points is 23 or 25
-points_code : (code n m : ℕ) → first_at code n ≡ some m → (code ≡ 23) ⊎ (code ≡ 25)
+points_code : (code : ℕ) (n : First) (m : ℕ) → first_at code n ≡ some m → (code ≡ 23) ⊎ (code ≡ 25)
 points_code code n m e = elim (ℕ_discrete code 23) [
   | yes z ↦ inl z
   | no y ↦ elim (ℕ_discrete code 25) [
@@ -122,43 +110,35 @@ points_code code n m e = elim (ℕ_discrete code 23) [
 
 -- ---- the whole
 
-module _ {bs : List ℕ} {setting : Setting} {t u : Tab} {gs : Rows} {top : ℕ} {su : List ℕ} {code place a b : ℕ} (first : First) (s : Sound bs)
-    (r : Ran bs setting t u gs top su code (places place (first_number first)) a b) where
+module _ {bs : List ℕ} {setting : Setting} {t u : Tab} {gs : Rows} {top code a b : ℕ} {place : Places} (r : Ran bs setting t u gs top code place a b) where
   pub ran_well : code ≡ 0 → (x y : ℕ) → walk_answer setting bs x y ≡ written x (sheet_of (listing_of bs (newest (frames_of u gs top))))
   unfolding walk_answer concluded ended test◌then◌else◌
   ran_well z x y = rw (r.says, eq-eqb code 0 z)
 
-  pub ran_deep : (code ≡ 0 → ⊥) → code ≡ 9 → (x y : ℕ) → walk_answer setting bs x y ≡ bare 9 place
+  pub ran_deep : code ≡ 9 → (x y : ℕ) → walk_answer setting bs x y ≡ bare 9 place.here
   unfolding walk_answer concluded ended test◌then◌else◌
-  ran_deep z n x y = rw (r.says, ne_eqb code 0 z, eq-eqb code 9 n)
+  ran_deep n x y = rw (r.says, ne_eqb code 0 (λ e. absurd (omega arith)), eq-eqb code 9 n)
 
-  module _ (z : code ≡ 0 → ⊥) (n : code ≡ 9 → ⊥) where
-    wrong_is : walked setting bs
-        ≡ wrong (conflict code place (first_at code (first_number first)) (pieces (names_of bs) u code a b)) (state (frames_of u gs top) r.returns)
-    unfolding ended test◌then◌else◌
-    wrong_is = r.says ∙ rw (ne_eqb code 0 z, ne_eqb code 9 n)
+module _ {bs : List ℕ} {setting : Setting} {t u : Tab} {gs : Rows} {top : ℕ} (ns : Notes) (s : Sound bs)
+    (r : Ran bs setting t u gs top (code_in ns) (places_in ns) ns.first ns.second) (z : (code_in ns) ≡ 0 → ⊥) (n : (code_in ns) ≡ 9 → ⊥) where
+  wrong_is : walked setting bs
+      ≡ wrong (conflict (code_in ns) ns.place (second_place ns) (pieces (names_of bs) u (code_in ns) ns.first ns.second)) (state (frames_of u gs top) r.returns)
+  unfolding ended test◌then◌else◌
+  wrong_is = r.says ∙ rw (ne_eqb (code_in ns) 0 z, ne_eqb (code_in ns) 9 n)
 
-    -- a refusal of the walk has a typing code
-    pub ran_typing : 20 ≤ code
-    unfolding walked
-    ran_typing = (refused_typing (names_of bs) setting (tree_of (nodes_of bs)) _ _ wrong_is).above
+  -- a refusal of the walk has a typing code
+  pub ran_typing : 20 ≤ (code_in ns)
+  unfolding walked
+  ran_typing = (refused_typing (names_of bs) setting (tree_of (nodes_of bs)) _ _ wrong_is).above
 
-    -- the first node is the one that the code points at
-    module _ (p : first_node first ≡ first_at code (first_number first)) where
-      pub ran_ill : (x y : ℕ) → walk_answer setting bs x y ≡ refused_as bs u code place (first_node first) a b y
-      unfolding walk_answer concluded refused_as
-      ran_ill x y = rw (wrong_is, ← p)
+  pub ran_ill : (x y : ℕ) → walk_answer setting bs x y ≡ refused_as bs u ns y
+  unfolding walk_answer concluded refused_as
+  ran_ill x y = rw wrong_is
 
-      -- and is one of the image's: "a known type always has a node"
-      pub ran_near : FirstBelow (node_count bs) first
-      ran_near = by first p
-        where
-          inside : (m : ℕ) → some m ≡ first_at code (first_number first) → m < node_count bs
-          inside m e =
-              let w = refused_pointed setting bs _ _ wrong_is in
-              let h = w.there (points_code code (first_number first) m (sym e)) in
-              omega (arith, makes_inside (sound_nested s) h.node h.holds, nodes_many bs, some-injective _ _ (sym h.is ∙ sym e))
-
-          by : (f : First) → first_node f ≡ first_at code (first_number first) → FirstBelow (node_count bs) f
-          by Nowhere e = tt
-          by (At m) e = inside m e
+  -- the first node is one of the image's: "a known type always has a node"
+  pub ran_near : (f : First) → first_node f ≡ second_place ns → FirstBelow (node_count bs) f
+  ran_near None e = tt
+  ran_near (Some m) e =
+      let w = refused_pointed setting bs _ _ wrong_is in
+      let h = w.there (points_code (code_in ns) ns.since m (sym e)) in
+      omega (arith, makes_inside (sound_nested s) h.node h.holds, nodes_many bs, some-injective _ _ (sym h.is ∙ sym e))

@@ -15,9 +15,9 @@ use Rattle.meaning.specs.Answer.{Answer as Meant, bare, written, write_answer, r
 use Rattle.meaning.proofs.Choices.{and_left}
 use Rattle.meaning.proofs.SheetForm.{sheet_is, is_sheet_lem}
 use Rattle.meaning.proofs.SheetSame.{told_by_members}
-use Rattle.checker.specs.Answers.{Numbers, bare_numbers, sheet_numbers, numbers_in, reading_numbers, rewritten, Relaid}
-use Rattle.checker.specs.declared.Reading.{Reading}
-use Rattle.checker.specs.declared.Reading.TheVariants.{Sheet, NoSheet}
+use Rattle.std.specs.Prelude.{Ok, Err}
+use Rattle.checker.specs.Answers.{Numbers, bare_numbers, sheet_numbers, numbers_in, reading_numbers, rewritten, Relaid, no_sheet}
+use Rattle.checker.proofs.Sheets.{Reading}
 use Rattle.checker.proofs.Written.{by_room}
 
 -- the bytes are the sheet of some names with their types, within the limits
@@ -43,8 +43,8 @@ module _ (bs : List ℕ) where
   unfolding rewritten read_sheet if_some test◌then◌else◌
   again_no e room = rw e
 
-  no_sheet : is_sheet bs ≡ false → IsSheet bs → ⊥
-  no_sheet e s = false≢true (sym e ∙ is_sheet_lem bs s.0 s.1)
+  not_one : is_sheet bs ≡ false → IsSheet bs → ⊥
+  not_one e s = false≢true (sym e ∙ is_sheet_lem bs s.0 s.1)
 
 -- ---- reading
 
@@ -52,9 +52,9 @@ module _ (bs : List ℕ) where
 pub read_number : (bs : List ℕ) (r : Reading) → reading_numbers r ≡ numbers_in (read_answer bs) → (reading_numbers r).code ≡ (read_answer bs).code
 read_number bs r e = ap (λ (n : Numbers). n.code) e
 
-pub read_answer_lem : (r : Reading) → (((reading_numbers r).code ≡ 0) ↔ (r ≡ Sheet)) × (((reading_numbers r).code ≡ 12) ↔ (r ≡ NoSheet))
-read_answer_lem Sheet = ((λ e. refl, λ e. refl), (λ e. absurd (omega (arith, e)), λ e. ap (λ (r : Reading). (reading_numbers r).code) e))
-read_answer_lem NoSheet = ((λ e. absurd (omega (arith, e)), λ e. ap (λ (r : Reading). (reading_numbers r).code) e), (λ e. refl, λ e. refl))
+pub read_answer_lem : (r : Reading) → (((reading_numbers r).code ≡ 0) ↔ (r ≡ Ok tt)) × (((reading_numbers r).code ≡ 12) ↔ (r ≡ Err no_sheet))
+read_answer_lem (Ok tt) = ((λ e. refl, λ e. refl), (λ e. absurd (omega (arith, e)), λ e. ap (λ (r : Reading). (reading_numbers r).code) e))
+read_answer_lem (Err u) = ((λ e. absurd (omega (arith, e)), λ e. ap (λ (r : Reading). (reading_numbers r).code) e), (λ e. refl, λ e. refl))
 
 -- "it takes every sheet of this form, and gives one refusal, 12, .. for anything else". (False of a reader that refuses everything, and of one
 -- that takes a type which no name reaches.)
@@ -73,18 +73,18 @@ read_exactly bs c x = by (is_sheet bs) refl
         record { takes = (λ p. s, λ p. z); refuses = (λ p. absurd (omega (arith, z, p)), λ n. absurd (n s)); only = inl z }
     by false e =
         let z : c ≡ 12 = x ∙ ap (λ (a : Meant). a.code) (read_no bs e) in
-        let n = no_sheet bs e in
+        let n = not_one bs e in
         record { takes = (λ p. absurd (omega (arith, z, p)), λ s. absurd (n s)); refuses = (λ p. n, λ p. z); only = inr z }
 
 -- the same of the answer of `read_sheet`
 module _ (bs : List ℕ) (r : Reading) (x : reading_numbers r ≡ numbers_in (read_answer bs)) where
-  pub reads_sheet : (r ≡ Sheet) ↔ IsSheet bs
+  pub reads_sheet : (r ≡ Ok tt) ↔ IsSheet bs
   reads_sheet =
       let e = (read_exactly bs _ (read_number bs r x)).takes in
       let a = (read_answer_lem r).0 in
       (λ p. e.0 (a.1 p), λ s. a.0 (e.1 s))
 
-  pub reads_none : (r ≡ NoSheet) ↔ (IsSheet bs → ⊥)
+  pub reads_none : (r ≡ Err no_sheet) ↔ (IsSheet bs → ⊥)
   reads_none =
       let e = (read_exactly bs _ (read_number bs r x)).refuses in
       let a = (read_answer_lem r).1 in
@@ -128,7 +128,7 @@ write_same bs {n} {old} {new} x = by (is_sheet bs) refl
         (subst (λ (a : Meant). Relaid a n old new) (again_yes bs e (length old)) x)
     by false e =
         let w = subst (λ (a : Meant). Relaid a n old new) (again_no bs e (length old)) x in
-        inr (inr (record { none = no_sheet bs e; numbers = w.numbers; left = w.sheet }))
+        inr (inr (record { none = not_one bs e; numbers = w.numbers; left = w.sheet }))
 
 -- ---- two sheets
 

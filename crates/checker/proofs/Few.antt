@@ -54,8 +54,8 @@ below_formed {t} {fs} a (suc n) h f m ty i =
 
 -- ---- a walk from the plain types on
 
-module _ {bs : List ℕ} {setting : Setting} {fs gs : Rows} {t u : Tab} {st su : List ℕ} {top code : ℕ} {place : Places} {a b : ℕ} (s : Started bs fs t st)
-    (r : Ran bs setting t u gs top su code place a b) where
+module _ {bs : List ℕ} {setting : Setting} {fs gs : Rows} {t u : Tab} {top code : ℕ} {place : Places} {a b : ℕ} (s : Started bs fs t)
+    (r : Ran bs setting t u gs top code place a b) where
   -- what had a number keeps it
   pub none_forgotten : Grown t u
   none_forgotten = elim (ℕ_discrete code 9) [ yes n ↦ (r.deep n).grown | no n ↦ (r.left n).grown ]

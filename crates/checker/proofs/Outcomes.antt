@@ -8,8 +8,9 @@ use native.Mathlib.Omega.{arith}
 use borrow.Author.Tests.{ne_eqb}
 use lib.Dec.{eqb}
 use lib.ListN.{length}
+use Rattle.std.specs.Prelude.{Result, Ok, Err}
 use Rattle.meaning.specs.Base.{choose, test◌then◌else◌, all}
-use Rattle.meaning.specs.Image.{Fault, image_fault, first_tree_set, nodes_from}
+use Rattle.meaning.specs.Image.{image_fault, first_tree_set, nodes_from}
 use Rattle.meaning.specs.Frames.{newest}
 use Rattle.meaning.specs.Sheet.{sheet_of, within_limits}
 use Rattle.meaning.specs.Walk.{Setting}
@@ -18,16 +19,22 @@ use Rattle.meaning.proofs.Faults.{Sound, sizes, fault_told}
 use Rattle.meaning.proofs.Listed.{listing_of}
 use Rattle.meaning.proofs.Answers.{overlaid_none, plain_is, strict_is, no_setting, fault_first, tree_set_next, walk_last}
 use Rattle.types.specs.Table.{Tab}
-use Rattle.frames.specs.Env.{Rows, frames_of, first_node, first_number}
-use Rattle.frames.specs.declared.First.{First}
-use Rattle.state.specs.Notes.{places}
-use Rattle.targets.specs.Ending.{first_at}
-use Rattle.stmt.specs.Contract.{setting_if, Ran}
-use Rattle.checker.specs.Answers.{Answers, Wrote, Told, Numbers, bare_numbers, numbers_of, Stands, Replies, reply_means}
-use Rattle.checker.specs.Steps.{Accepting, Refusing, refused_as}
+use Rattle.frames.specs.Env.{Rows, frames_of}
+use Rattle.codes.specs.Codes.{code_number}
+use Rattle.codes.proofs.Laws.{code_of, code_again}
+use Rattle.state.specs.Notes.{code_in, Places, places_in}
+use Rattle.state.specs.declared.Notes.{Notes}
+use Rattle.stmt.specs.Contract.{Ran}
+use Rattle.image.specs.Outcome.{fault_in}
+use Rattle.image.specs.declared.Fault.{Fault}
+use Rattle.image.specs.declared.Fault.TheVariants.{BadHead, BadCount, BadOffset, BadName, UnsafeName, BadNode, BadNesting, TooDeep}
+use Rattle.checker.specs.Answers.{Answer, setting_meant, SettingOf, Answers, Wrote, Told, Numbers, bare_numbers, numbers_of, Stands, Replies, reply_means}
+use Rattle.checker.specs.Steps.{Accepting, Refusing, second_place, refused_as}
 use Rattle.checker.specs.declared.Reply.{Reply}
-use Rattle.checker.specs.declared.Answer.{Answer}
-use Rattle.checker.specs.declared.Answer.TheVariants.{Accepted, BadHead, BadCount, BadOffset, BadName, UnsafeName, BadNode, BadNesting, TooDeep, NinthFrame, ShortBuffer, NoSetting, Retired, Typing}
+use Rattle.checker.specs.declared.Setting.{Setting as Chosen}
+use Rattle.checker.specs.declared.Setting.TheVariants.{Plain, Strict}
+use Rattle.checker.specs.declared.Refused.{Refused}
+use Rattle.checker.specs.declared.Refused.TheVariants.{Faulty, NinthFrame, ShortBuffer, NoSetting, Retired, Typing}
 use Rattle.checker.proofs.Places.{fault_near, tree_set_near}
 use Rattle.checker.proofs.Limited.{sheet_within}
 use Rattle.checker.proofs.Readable.{message_legible}
@@ -51,28 +58,27 @@ bare_replies c p s m e h l z = record {
   message = kept m;
 }
 
-pub answers_fault : (setting : Setting) (bs : List ℕ) (x y : ℕ) {f : Fault} {q : Answer} {s m : List ℕ} → image_fault bs ≡ some f → numbers_of q ≡ bare_numbers f.code f.place
-    → Stands q → Answers (answer_under setting bs x y) q s s m m
-answers_fault setting bs x y {f} {q} {s} {m} e n t =
-    let k = fault_told bs f e in
-    rw (fault_first setting bs x y f e) record {
-      replies = bare_replies f.code f.place s m n (fault_near bs f e) k.above (λ t. omega (arith, t, k.below));
-      stands = t;
-    }
+-- what comes of an image under one of the two settings: the image's fault, or its first TreeSet, or what the walk says
+module _ (setting : Setting) (bs : List ℕ) (x y : ℕ) where
+  answers_fault : (f : Fault) {s m : List ℕ} → some (fault_in f) ≡ image_fault bs → Answers (answer_under setting bs x y) (Err (Faulty f)) s s m m
+  answers_fault f {s} {m} e =
+      let k = fault_told bs (fault_in f) (sym e) in
+      rw (fault_first setting bs x y (fault_in f) (sym e)) record {
+        replies = bare_replies (fault_in f).code (fault_in f).place s m refl (fault_near bs (fault_in f) (sym e)) k.above (λ t. omega (arith, t, k.below));
+        stands = tt;
+      }
 
-pub answers_retired : (setting : Setting) (bs : List ℕ) (x y i : ℕ) {s m : List ℕ} → Sound bs → first_tree_set bs ≡ some i
-    → Answers (answer_under setting bs x y) (Retired i) s s m m
-answers_retired setting bs x y i {s} {m} h e =
-    rw (tree_set_next setting bs x y i h e)
-    record { replies = bare_replies 14 i s m refl (tree_set_near bs h.headed i e) (omega arith) (λ t. omega (arith, t)); stands = tt }
+  answers_retired : (i : ℕ) {s m : List ℕ} → Sound bs → some i ≡ first_tree_set bs → Answers (answer_under setting bs x y) (Err (Retired i)) s s m m
+  answers_retired i {s} {m} h e =
+      rw (tree_set_next setting bs x y i h (sym e))
+      record { replies = bare_replies 14 i s m refl (tree_set_near bs h.headed i (sym e)) (omega arith) (λ t. omega (arith, t)); stands = tt }
 
--- an image with no fault and no TreeSet has the walk's answer
-pub answers_walked : (setting : Setting) (bs : List ℕ) (x y : ℕ) {q : Answer} {s s₁ m m₁ : List ℕ} → Sound bs → first_tree_set bs ≡ none
-    → Answers (walk_answer setting bs x y) q s s₁ m m₁ → Answers (answer_under setting bs x y) q s s₁ m m₁
-answers_walked setting bs x y h e a = rw (walk_last setting bs x y h e) a
+  answers_walked : {q : Answer} {s s₁ m m₁ : List ℕ} → Sound bs → none ≡ first_tree_set bs
+      → Answers (walk_answer setting bs x y) q s s₁ m m₁ → Answers (answer_under setting bs x y) q s s₁ m m₁
+  answers_walked h e a = rw (walk_last setting bs x y h (sym e)) a
 
-module _ {bs : List ℕ} {setting : Setting} {t u : Tab} {gs : Rows} {top : ℕ} {su : List ℕ} {code place a b : ℕ} (first : First) (h : Sound bs)
-    (r : Ran bs setting t u gs top su code (places place (first_number first)) a b) where
+module _ {bs : List ℕ} {setting : Setting} {t u : Tab} {gs : Rows} {top code a b : ℕ} {place : Places} (h : Sound bs)
+    (r : Ran bs setting t u gs top code place a b) where
   pub ran_accepting : t.m ≡ 0 → code ≡ 0 → Accepting bs u gs top
   ran_accepting m z =
       let l = r.left (λ n. absurd (omega arith)) in
@@ -90,7 +96,7 @@ module _ {bs : List ℕ} {setting : Setting} {t u : Tab} {gs : Rows} {top : ℕ}
       let es = listing_of bs (newest (frames_of u gs top)) in
       let a = ran_accepting k z in
       let l : within_limits es ≡ true = rw (newest_row u gs top) (sheet_within a.sound a.wf a.fit a.few) in
-      rw (ran_well first h r z (length old) (length m)) record {
+      rw (ran_well r z (length old) (length m)) record {
         replies = record {
           numbers = w.numbers;
           near = rw (no_place (length old) (sheet_of es)) (omega arith);
@@ -103,59 +109,65 @@ module _ {bs : List ℕ} {setting : Setting} {t u : Tab} {gs : Rows} {top : ℕ}
         stands = w.stands;
       }
 
-  pub answers_deep : (x y : ℕ) {s m : List ℕ} → (code ≡ 0 → ⊥) → code ≡ 9 → Answers (walk_answer setting bs x y) (NinthFrame place) s s m m
-  answers_deep x y {s} {m} z n =
-      rw (ran_deep first h r z n x y) record {
-        replies = bare_replies 9 place s m refl (omega (arith, (r.deep n).placed, (sizes h.headed).nodes)) (omega arith) (λ t. omega (arith, t));
+  pub answers_deep : (x y : ℕ) {s m : List ℕ} → code ≡ 9 → Answers (walk_answer setting bs x y) (Err (NinthFrame place.here)) s s m m
+  answers_deep x y {s} {m} n =
+      rw (ran_deep r n x y) record {
+        replies = bare_replies 9 place.here s m refl (omega (arith, (r.deep n).placed, (sizes h.headed).nodes)) (omega arith) (λ t. omega (arith, t));
         stands = tt;
       }
 
-  pub ran_refusing : {nodes : ℕ} → nodes ≡ nodes_from bs → (code ≡ 0 → ⊥) → (code ≡ 9 → ⊥) → first_node first ≡ first_at code (first_number first)
-      → Refusing bs nodes u code place first a b
-  ran_refusing e z n p = record {
+module _ {bs : List ℕ} {setting : Setting} {t u : Tab} {gs : Rows} {top : ℕ} (ns : Notes) (h : Sound bs)
+    (r : Ran bs setting t u gs top (code_in ns) (places_in ns) ns.first ns.second) (z : (code_in ns) ≡ 0 → ⊥) (n : (code_in ns) ≡ 9 → ⊥) where
+  pub ran_refusing : {nodes : ℕ} → nodes ≡ nodes_from bs → Refusing bs nodes u ns
+  ran_refusing e = record {
     sound = h;
     nodes_at = e;
     wf = (r.left n).grown.wf;
     named = r.named n;
-    near = ran_near first h r z n p;
-    typing = ran_typing first h r z n;
+    near = ran_near ns h r z n;
+    typing = ran_typing ns h r z n;
   }
 
-  pub answers_refused : (x : ℕ) {q : Answer} {s old new : List ℕ} → (code ≡ 0 → ⊥) → (code ≡ 9 → ⊥) → first_node first ≡ first_at code (first_number first)
-      → Told (refused_as bs u code place (first_node first) a b (length old)) q old new
+  pub answers_refused : (x : ℕ) {q : Answer} {s old new : List ℕ} → Told (refused_as bs u ns (length old)) q old new
       → Answers (walk_answer setting bs x (length old)) q s s old new
   unfolding refused_as
-  answers_refused x {q} {s} {old} {new} z n p w =
-      let k = ran_typing first h r z n in
-      rw (ran_ill first h r z n p x (length old)) record {
+  answers_refused x {q} {s} {old} {new} w =
+      let k = ran_typing ns h r z n in
+      rw (ran_ill ns h r z n x (length old)) record {
         replies = record {
           numbers = w.numbers;
           near = omega (arith, (r.named n).placed z, (sizes h.headed).nodes);
           roomy = λ l t. omega (arith, t, k);
           form = λ t. absurd (omega (arith, t, k));
-          legible = message_legible h u code place (first_node first) a b (length old);
+          legible = message_legible h u (code_in ns) ns.place (second_place ns) ns.first ns.second (length old);
           sheet = kept s;
           message = w.message;
         };
         stands = w.stands;
       }
 
--- ---- the setting, by its number
+-- ---- the whole, by the setting's number: "before code 1", whatever the image, one that is none of the two
 
-module _ {n : ℕ} (bs : List ℕ) (x y : ℕ) {q : Answer} {s s₁ m m₁ : List ℕ} where
-  pub answers_plain : n ≡ 0 → Answers (answer_under (setting_if true) bs x y) q s s₁ m m₁ → Answers (answer n bs x y) q s s₁ m m₁
-  unfolding test◌then◌else◌
-  answers_plain e a = rw (e, plain_is bs x y) a
+module _ (n : ℕ) (bs : List ℕ) (x y : ℕ) where
+  chosen : (c : Chosen) → SettingOf n (Ok c) → answer n bs x y ≡ answer_under (setting_meant c) bs x y
+  chosen Plain e = rw e (plain_is bs x y)
+  chosen Strict e = rw e (strict_is bs x y)
 
-  pub answers_strict : n ≡ 1 → Answers (answer_under (setting_if false) bs x y) q s s₁ m m₁ → Answers (answer n bs x y) q s s₁ m m₁
-  unfolding test◌then◌else◌
-  answers_strict e a = rw (e, strict_is bs x y) a
+  pub check_none : {s m : List ℕ} (r : Refused) → SettingOf n (Err r) → Answers (answer n bs x y) (Err r) s s m m
+  check_none {s} {m} r e =
+      rw (e.0, no_setting bs x y n e.1)
+      record { replies = bare_replies 13 0 s m refl (omega arith) (omega arith) (λ t. omega (arith, t)); stands = tt }
 
--- "before code 1": whatever the image
-pub answers_none : (n : ℕ) (bs : List ℕ) (x y : ℕ) {s m : List ℕ} → (n ≡ 0 → ⊥) → (n ≡ 1 → ⊥) → Answers (answer n bs x y) NoSetting s s m m
-answers_none n bs x y {s} {m} p q =
-    rw (no_setting bs x y n (omega (arith, p, q)))
-    record { replies = bare_replies 13 0 s m refl (omega arith) (omega arith) (λ t. omega (arith, t)); stands = tt }
+  module _ (c : Chosen) (k : SettingOf n (Ok c)) where
+    pub check_fault : (f : Fault) {s m : List ℕ} → some (fault_in f) ≡ image_fault bs → Answers (answer n bs x y) (Err (Faulty f)) s s m m
+    check_fault f e = rw (chosen c k) (answers_fault (setting_meant c) bs x y f e)
+
+    pub check_retired : (i : ℕ) {s m : List ℕ} → Sound bs → some i ≡ first_tree_set bs → Answers (answer n bs x y) (Err (Retired i)) s s m m
+    check_retired i h e = rw (chosen c k) (answers_retired (setting_meant c) bs x y i h e)
+
+    pub check_walked : {q : Answer} {s s₁ m m₁ : List ℕ} → Sound bs → none ≡ first_tree_set bs
+        → Answers (walk_answer (setting_meant c) bs x y) q s s₁ m m₁ → Answers (answer n bs x y) q s s₁ m m₁
+    check_walked h e a = rw (chosen c k) (answers_walked (setting_meant c) bs x y h e a)
 
 -- ---- no second outcome fits
 
@@ -163,30 +175,31 @@ answers_none n bs x y {s} {m} p q =
 unfoldable answer_from : Numbers → Answer
 answer_from n =
     choose n.code
-    (Typing (record { code = n.code; place = n.place; begins = n.span_start; ends = n.span_end; second_begins = n.second_start; second_ends = n.second_end; message = n.message }))
-    ((0, Accepted n.sheet) ∷ (1, BadHead) ∷ (2, BadCount) ∷ (3, BadOffset) ∷ (4, BadName n.place) ∷ (5, UnsafeName n.place) ∷ (6, BadNode n.place)
-    ∷ (7, BadNesting n.place) ∷ (8, TooDeep n.place) ∷ (9, NinthFrame n.place) ∷ (10, ShortBuffer) ∷ (13, NoSetting) ∷ (14, Retired n.place) ∷ [])
+    (Err (Typing (record { code = code_of n.code; place = n.place; begins = n.span_start; ends = n.span_end; second_begins = n.second_start; second_ends = n.second_end; message = n.message })))
+    ((0, Ok n.sheet) ∷ (1, Err (Faulty BadHead)) ∷ (2, Err (Faulty BadCount)) ∷ (3, Err (Faulty BadOffset)) ∷ (4, Err (Faulty (BadName n.place)))
+    ∷ (5, Err (Faulty (UnsafeName n.place))) ∷ (6, Err (Faulty (BadNode n.place))) ∷ (7, Err (Faulty (BadNesting n.place))) ∷ (8, Err (Faulty (TooDeep n.place)))
+    ∷ (9, Err (NinthFrame n.place)) ∷ (10, Err ShortBuffer) ∷ (13, Err NoSetting) ∷ (14, Err (Retired n.place)) ∷ [])
 
 not_below : (c k : ℕ) → 20 ≤ c → k ≤ 14 → eqb c k ≡ false
 not_below c k h l = ne_eqb c k (λ e. absurd (omega arith))
 
 answer_back : (r : Answer) → Stands r → answer_from (numbers_of r) ≡ r
 unfolding answer_from choose test◌then◌else◌
-answer_back (Accepted n) s = refl
-answer_back BadHead s = refl
-answer_back BadCount s = refl
-answer_back BadOffset s = refl
-answer_back (BadName i) s = refl
-answer_back (UnsafeName i) s = refl
-answer_back (BadNode i) s = refl
-answer_back (BadNesting i) s = refl
-answer_back (TooDeep i) s = refl
-answer_back (NinthFrame i) s = refl
-answer_back ShortBuffer s = refl
-answer_back NoSetting s = refl
-answer_back (Retired i) s = refl
-answer_back (Typing q) s =
-    let n : (k : ℕ) → k ≤ 14 → eqb q.code k ≡ false = λ k l. not_below q.code k s l in
+answer_back (Ok n) s = refl
+answer_back (Err (Faulty BadHead)) s = refl
+answer_back (Err (Faulty BadCount)) s = refl
+answer_back (Err (Faulty BadOffset)) s = refl
+answer_back (Err (Faulty (BadName i))) s = refl
+answer_back (Err (Faulty (UnsafeName i))) s = refl
+answer_back (Err (Faulty (BadNode i))) s = refl
+answer_back (Err (Faulty (BadNesting i))) s = refl
+answer_back (Err (Faulty (TooDeep i))) s = refl
+answer_back (Err (NinthFrame i)) s = refl
+answer_back (Err ShortBuffer) s = refl
+answer_back (Err NoSetting) s = refl
+answer_back (Err (Retired i)) s = refl
+answer_back (Err (Typing q)) s =
+    let n : (k : ℕ) → k ≤ 14 → eqb (code_number q.code) k ≡ false = λ k l. not_below (code_number q.code) k s l in
     rw (
       n 0 (omega arith),
       n 1 (omega arith),
@@ -201,6 +214,7 @@ answer_back (Typing q) s =
       n 10 (omega arith),
       n 13 (omega arith),
       n 14 (omega arith),
+      code_again q.code,
     )
 
 -- answers with the same numbers are equal

@@ -12,8 +12,8 @@ use Rattle.meaning.specs.Read.{is_sheet}
 use Rattle.meaning.specs.Answer.{Answer as Meant, bare, answer, read_answer, overlaid}
 use Rattle.checker.specs.Answers.{Numbers, numbers_in, reading_numbers, readable, Replies}
 use Rattle.checker.specs.Module.{sheet_in}
-use Rattle.checker.specs.declared.Reading.{Reading}
-use Rattle.checker.specs.declared.Reading.TheVariants.{Sheet}
+use Rattle.std.specs.Prelude.{Ok}
+use Rattle.checker.proofs.Sheets.{Reading}
 use Rattle.checker.proofs.Demand.{reply_most, sheet_there}
 use Rattle.checker.proofs.Exactly.{read_yes, read_number, read_answer_lem}
 
@@ -49,7 +49,7 @@ module _ (setting : ℕ) (image : List ℕ) (room told : ℕ) {n : Numbers} {old
     writes_a_sheet = read_yes (sheet_in n new) writes_form
 
     -- so every run of `read_sheet` on these bytes, and of its C twin
-    pub read_as_sheet : (r : Reading) → reading_numbers r ≡ numbers_in (read_answer (sheet_in n new)) → r ≡ Sheet
+    pub read_as_sheet : (r : Reading) → reading_numbers r ≡ numbers_in (read_answer (sheet_in n new)) → r ≡ Ok tt
     read_as_sheet r e = (read_answer_lem r).0.0 (read_number (sheet_in n new) r e ∙ ap (λ (a : Meant). a.code) writes_a_sheet)
 
     pub read_as_zero : (k : ℕ) → k ≡ (read_answer (sheet_in n new)).code → k ≡ 0

@@ -1,18 +1,40 @@
 -- The answers of the public functions in the document's numbers, and what they leave of the lent bytes.
-use Rattle.std.specs.Prelude.{◌≡◌, Bool, true, List, ℕ, ◌≤◌, ◌<◌, leb, length}
+use Rattle.std.specs.Prelude.{◌≡◌, Bool, true, List, ℕ, ◌≤◌, ◌<◌, leb, length, Result, Ok, Err}
 use Rattle.meaning.specs.Limits.{largest_sheet}
 use Rattle.meaning.specs.Base.{◌and◌, all, if_some}
 use Rattle.meaning.specs.Read.{is_sheet, read_sheet}
-use Rattle.meaning.specs.Answer.{overlaid, bare, write_answer, walk_answer, answer_under}
+use Rattle.meaning.specs.Answer.{overlaid, bare, write_answer, walk_answer}
 use Rattle.meaning.specs.Answer.{Answer as Meant}
-use Rattle.stmt.specs.Contract.{setting_if}
+use Rattle.meaning.specs.Walk.{plain, strict}
+use Rattle.meaning.specs.Walk.{Setting as MeantSetting}
+use Rattle.codes.specs.Codes.{code_number}
+use Rattle.image.specs.Outcome.{fault_in}
+use Rattle.checker.specs.declared.Setting.{Setting}
+use Rattle.checker.specs.declared.Setting.TheVariants.{Plain, Strict}
 use Rattle.checker.specs.declared.Reply.{Reply}
-use Rattle.checker.specs.declared.Reading.{Reading}
-use Rattle.checker.specs.declared.Reading.TheVariants.{Sheet, NoSheet}
-use Rattle.checker.specs.declared.Rewriting.{Rewriting}
-use Rattle.checker.specs.declared.Rewriting.TheVariants.{Written, NoRoom, NotRead}
-use Rattle.checker.specs.declared.Answer.{Answer}
-use Rattle.checker.specs.declared.Answer.TheVariants.{Accepted, BadHead, BadCount, BadOffset, BadName, UnsafeName, BadNode, BadNesting, TooDeep, NinthFrame, ShortBuffer, NoSetting, Retired, Typing}
+use Rattle.checker.specs.declared.NoSheet.{NoSheet}
+use Rattle.checker.specs.declared.Unwritten.{Unwritten}
+use Rattle.checker.specs.declared.Unwritten.TheVariants.{NoRoom, NotRead}
+use Rattle.checker.specs.declared.Refused.{Refused}
+use Rattle.checker.specs.declared.Refused.TheVariants.{Faulty, NinthFrame, ShortBuffer, NoSetting, Retired, Typing}
+
+-- ---- the setting
+
+abbrev pub setting_meant : Setting → MeantSetting
+setting_meant Plain = plain
+setting_meant Strict = strict
+
+-- by its number: 0 plain, 1 strict, and there is no other
+abbrev pub SettingOf : ℕ → Result Setting Refused → Type 0
+SettingOf n (Ok Plain) = n ≡ 0
+SettingOf n (Ok Strict) = n ≡ 1
+SettingOf n (Err r) = (r ≡ NoSetting) × (1 < n)
+
+-- ---- the answer
+
+-- the sheet's length, or why there is none
+abbrev pub Answer : Type 0
+Answer = Result ℕ Refused
 
 -- "Code, place, span, sheet length, message length", and the second span of document 02
 pub record Numbers : Type 0 where
@@ -34,22 +56,15 @@ sheet_numbers n = record { code = 0; place = 0; span_start = 0; span_end = 0; se
 
 -- the numbers of each case
 abbrev pub numbers_of : Answer → Numbers
-numbers_of (Accepted n) = sheet_numbers n
-numbers_of BadHead = bare_numbers 1 0
-numbers_of BadCount = bare_numbers 2 0
-numbers_of BadOffset = bare_numbers 3 0
-numbers_of (BadName i) = bare_numbers 4 i
-numbers_of (UnsafeName i) = bare_numbers 5 i
-numbers_of (BadNode i) = bare_numbers 6 i
-numbers_of (BadNesting i) = bare_numbers 7 i
-numbers_of (TooDeep i) = bare_numbers 8 i
-numbers_of (NinthFrame i) = bare_numbers 9 i
-numbers_of ShortBuffer = bare_numbers 10 0
-numbers_of NoSetting = bare_numbers 13 0
-numbers_of (Retired i) = bare_numbers 14 i
-numbers_of (Typing r) =
+numbers_of (Ok n) = sheet_numbers n
+numbers_of (Err (Faulty f)) = bare_numbers (fault_in f).code (fault_in f).place
+numbers_of (Err (NinthFrame i)) = bare_numbers 9 i
+numbers_of (Err ShortBuffer) = bare_numbers 10 0
+numbers_of (Err NoSetting) = bare_numbers 13 0
+numbers_of (Err (Retired i)) = bare_numbers 14 i
+numbers_of (Err (Typing r)) =
     record {
-      code = r.code;
+      code = code_number r.code;
       place = r.place;
       span_start = r.begins;
       span_end = r.ends;
@@ -61,20 +76,13 @@ numbers_of (Typing r) =
 
 -- a typing refusal has a typing code
 abbrev pub Stands : Answer → Type 0
-Stands (Accepted n) = Unit {0}
-Stands BadHead = Unit {0}
-Stands BadCount = Unit {0}
-Stands BadOffset = Unit {0}
-Stands (BadName i) = Unit {0}
-Stands (UnsafeName i) = Unit {0}
-Stands (BadNode i) = Unit {0}
-Stands (BadNesting i) = Unit {0}
-Stands (TooDeep i) = Unit {0}
-Stands (NinthFrame i) = Unit {0}
-Stands ShortBuffer = Unit {0}
-Stands NoSetting = Unit {0}
-Stands (Retired i) = Unit {0}
-Stands (Typing r) = 20 ≤ r.code
+Stands (Ok n) = Unit {0}
+Stands (Err (Faulty f)) = Unit {0}
+Stands (Err (NinthFrame i)) = Unit {0}
+Stands (Err ShortBuffer) = Unit {0}
+Stands (Err NoSetting) = Unit {0}
+Stands (Err (Retired i)) = Unit {0}
+Stands (Err (Typing r)) = 20 ≤ code_number r.code
 
 -- the numbers of an answer of `meaning`
 abbrev pub numbers_in : Meant → Numbers
@@ -112,15 +120,10 @@ pub record Answers (a : Meant) (r : Answer) (old_sheet new_sheet old_message new
   pub replies : Replies a (numbers_of r) old_sheet new_sheet old_message new_message
   pub stands : Stands r
 
--- what comes of an image under one of the two settings
-abbrev pub AnswersUnder : Bool → List ℕ → Answer → List ℕ → List ℕ → List ℕ → List ℕ → Type 0
-AnswersUnder plain bs r old_sheet new_sheet old_message new_message =
-    Answers (answer_under (setting_if plain) bs (length old_sheet) (length old_message)) r old_sheet new_sheet old_message new_message
-
 -- what the walk says of a well-formed image
-abbrev pub AnswersByWalk : Bool → List ℕ → Answer → List ℕ → List ℕ → List ℕ → List ℕ → Type 0
-AnswersByWalk plain bs r old_sheet new_sheet old_message new_message =
-    Answers (walk_answer (setting_if plain) bs (length old_sheet) (length old_message)) r old_sheet new_sheet old_message new_message
+abbrev pub AnswersByWalk : MeantSetting → List ℕ → Answer → List ℕ → List ℕ → List ℕ → List ℕ → Type 0
+AnswersByWalk setting bs r old_sheet new_sheet old_message new_message =
+    Answers (walk_answer setting bs (length old_sheet) (length old_message)) r old_sheet new_sheet old_message new_message
 
 -- the same where only the sheet's buffer is lent, or only the message's
 pub record Wrote (a : Meant) (r : Answer) (old new : List ℕ) : Type 0 where
@@ -135,14 +138,18 @@ pub record Told (a : Meant) (r : Answer) (old new : List ℕ) : Type 0 where
 
 -- ---- the sheet's reader and writer
 
-abbrev pub reading_numbers : Reading → Numbers
-reading_numbers Sheet = bare_numbers 0 0
-reading_numbers NoSheet = bare_numbers 12 0
+-- there is one refusal, and it holds nothing
+abbrev pub no_sheet : NoSheet
+no_sheet = record {}
 
-abbrev pub rewriting_numbers : Rewriting → Numbers
-rewriting_numbers (Written n) = sheet_numbers n
-rewriting_numbers NoRoom = bare_numbers 10 0
-rewriting_numbers NotRead = bare_numbers 12 0
+abbrev pub reading_numbers : Result (Unit {0}) NoSheet → Numbers
+reading_numbers (Ok u) = bare_numbers 0 0
+reading_numbers (Err e) = bare_numbers 12 0
+
+abbrev pub rewriting_numbers : Result ℕ Unwritten → Numbers
+rewriting_numbers (Ok n) = sheet_numbers n
+rewriting_numbers (Err NoRoom) = bare_numbers 10 0
+rewriting_numbers (Err NotRead) = bare_numbers 12 0
 
 -- what was read, written into so much room: "Writing what was read into too short a buffer gives 10."
 unfoldable pub rewritten : List ℕ → ℕ → Meant

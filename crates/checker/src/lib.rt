@@ -1,5 +1,5 @@
 // The public face: an image checked, a sheet read, a sheet written again. Nothing is asked of the caller, and each
-// answer is one of an enum whose numbers `specs/Answers.antt` gives.
+// answer is a Result whose numbers `specs/Answers.antt` gives.
 #![tactic(auto)]
 
 ghost use Rattle.std.specs.Prelude.{◌≡◌, length};
@@ -10,24 +10,27 @@ ghost use Rattle.meaning.specs.Sheet.{sheet_of};
 ghost use Rattle.meaning.specs.Answer.{answer, written, read_answer};
 ghost use Rattle.meaning.proofs.Faults.{Headed, Sound};
 ghost use Rattle.meaning.proofs.Listed.{listing_of};
-ghost use Rattle.types.specs.Table.{tab};
 ghost use Rattle.frames.specs.Env.{frames_of, first_node, FirstBelow};
-ghost use Rattle.checker.specs.Answers.{Answers, AnswersUnder, AnswersByWalk, Wrote, Told};
+ghost use Rattle.stmt.specs.Contract.{setting_if};
+ghost use Rattle.checker.specs.declared.Refused.TheVariants.{Faulty};
+ghost use Rattle.checker.specs.Answers.{setting_meant, SettingOf, Answers, AnswersByWalk, Wrote, Told};
 ghost use Rattle.checker.specs.Answers.{numbers_of, numbers_in, bare_numbers};
 ghost use Rattle.checker.specs.Answers.{reading_numbers, rewriting_numbers, rewritten, reply_means};
 ghost use Rattle.checker.specs.Answers.{Replies, Relaid, sheet_numbers};
+ghost use Rattle.state.specs.Notes.{tab_in, top_in};
 ghost use Rattle.checker.specs.Steps.{Sized, Lent, Accepting, Refusing, refused_as};
 ghost use Rattle.checker.specs.Steps.{first_start, first_end};
 
+use codes::Code;
 use frames::{EMPTY, First, Frames};
-use image::{Found, Judged, areas, first_tree_set, judge, node_at};
+use image::{Fault, Numbers, areas, first_tree_set, judge, node_at};
 use limits::MOST_NODES;
 use names::list_names;
-use rules::codes;
 use sheet::list::NO_ENTRIES;
 use sheet::{TABLE_CELLS, read};
-use stmt::{End, typecheck_program};
-use types::{CELLS, Counts, FRESH, STRUCTURED, start};
+use state::Notes;
+use stmt::{Stop, first_place, typecheck_program};
+use types::{CELLS, FRESH, STRUCTURED, start};
 
 // The two settings (document 02). On a race weekend no typing error in a body of an If or a While may pass: strict
 // returns what plain drops.
@@ -35,11 +38,39 @@ pub const PLAIN: u32 = 0;
 
 pub const STRICT: u32 = 1;
 
+#[derive(Clone, Copy, PartialEq, Eq)]
+pub enum Setting {
+    Plain,
+    Strict,
+}
+
+impl TryFrom<u32> for Setting {
+    type Error = Refused;
+
+    ghost try_from_gives = { SettingOf };
+
+    fn try_from(setting: u32) -> Result<Setting, Refused> {
+        match setting {
+            PLAIN => Ok(Setting::Plain),
+            STRICT => Ok(Setting::Strict),
+            _ => Err(Refused::NoSetting),
+        }
+    }
+}
+
+impl Setting {
+    fn is_plain(self) -> bool
+        ensures { setting_if result ≡ setting_meant self }
+    {
+        matches!(self, Setting::Plain)
+    }
+}
+
 // A typing refusal: its code, 20 to 50, its node with its span, and the length of its message, 0 if that did not fit.
 // For 25 and 23, the second span is that of the node which first made the old type known; for every other code, 0,0.
-#[derive(Clone, Copy)]
+#[derive(Clone, Copy, PartialEq, Eq)]
 pub struct Refusal {
-    pub code: u32,
+    pub code: Code,
     pub place: usize,
     pub begins: u32,
     pub ends: u32,
@@ -48,19 +79,10 @@ pub struct Refusal {
     pub message: usize,
 }
 
-// Code 0 with the sheet's length; 1 to 8, those of a name or a node with its number; 9 with the Def; 10; 13; 14 with
-// the first TreeSet; or a typing refusal.
-#[derive(Clone, Copy)]
-pub enum Answer {
-    Accepted(usize),
-    BadHead,
-    BadCount,
-    BadOffset,
-    BadName(usize),
-    UnsafeName(usize),
-    BadNode(usize),
-    BadNesting(usize),
-    TooDeep(usize),
+// 1 to 8, as the image's reader judged; 9 with the Def; 10; 13; 14 with the first TreeSet; or a typing refusal.
+#[derive(Clone, Copy, PartialEq, Eq)]
+pub enum Refused {
+    Faulty(Fault),
     NinthFrame(usize),
     ShortBuffer,
     NoSetting,
@@ -68,29 +90,29 @@ pub enum Answer {
     Typing(Refusal),
 }
 
+impl From<Fault> for Refused {
+    ghost from_gives = { λ f e. e ≡ Faulty f };
+
+    fn from(f: Fault) -> Refused {
+        Refused::Faulty(f)
+    }
+}
+
+// The sheet's length, for code 0; or why there is none.
+pub type Answer = Result<usize, Refused>;
+
 // ---- an accepted program
 
-// Code 0 and the sheet of what the program lists, its module frame being the row `top`, or 10.
-fn accept(
-    image: &[u8],
-    table: &[u16],
-    counts: Counts,
-    frames: &Frames,
-    top: usize,
-    sheet: &mut [u8],
-) -> Answer
-    requires { Accepting image.now (tab table.now counts.types counts.elements) frames.now top }
-    ensures { Wrote (written (length sheet.old) (sheet_of (listing_of image.now
-        (newest (frames_of (tab table.now counts.types counts.elements) frames.now top)))))
+// Code 0 and the sheet of what the program lists, its module frame being the newest, or 10.
+fn accept(image: &[u8], table: &[u16], notes: &Notes, frames: &Frames, sheet: &mut [u8]) -> Answer
+    requires { Accepting image.now (tab_in table.now notes.now) frames.now (top_in notes.now) }
+    ensures { Wrote (written (length sheet.old) (sheet_of (listing_of image.now (newest
+        (frames_of (tab_in table.now notes.now) frames.now (top_in notes.now))))))
         result sheet.old sheet.new }
 {
     let mut names = NO_ENTRIES;
-    let count = list_names(image, frames, top, &mut names);
-    let w = sheet::write(image, table, counts, &names, count, sheet);
-    if w.fits {
-        return Answer::Accepted(w.length);
-    }
-    Answer::ShortBuffer
+    let count = list_names(image, frames, notes.top, &mut names);
+    sheet::write(image, table, notes.counts, &names, count, sheet).ok_or(Refused::ShortBuffer)
 }
 
 // ---- a typing refusal
@@ -110,8 +132,8 @@ fn span_of(image: &[u8], nodes: usize, first: First) -> Span
         × (result.ends ≡ first_end (nodes_of image.now) (first_node first)) }
 {
     match first {
-        First::Nowhere => Span { begins: 0, ends: 0 },
-        First::At(i) => {
+        None => Span { begins: 0, ends: 0 },
+        Some(i) => {
             let node = node_at(image, nodes, i);
             Span {
                 begins: node.begins,
@@ -121,28 +143,24 @@ fn span_of(image: &[u8], nodes: usize, first: First) -> Span
     }
 }
 
-fn refuse(
-    image: &[u8],
-    nodes: usize,
-    table: &[u16],
-    counts: Counts,
-    code: u32,
-    place: usize,
-    first: First,
-    a: usize,
-    b: usize,
-    message: &mut [u8],
-) -> Answer
-    requires { Refusing image.now nodes (tab table.now counts.types counts.elements)
-        code place first a b }
-    ensures { Told (refused_as image.now (tab table.now counts.types counts.elements)
-        code place (first_node first) a b (length message.old))
+fn refuse(image: &[u8], nodes: usize, table: &[u16], notes: &Notes, message: &mut [u8]) -> Answer
+    requires { Refusing image.now nodes (tab_in table.now notes.now) notes.now }
+    ensures { Told (refused_as image.now (tab_in table.now notes.now) notes.now (length message.old))
         result message.old message.new }
 {
+    let (code, place) = (notes.code.unwrap(), notes.place);
     let node = node_at(image, nodes, place);
-    let second = span_of(image, nodes, first);
-    let length = message::write(image, table, counts, code, a, b, message);
-    Answer::Typing(Refusal {
+    let second = span_of(image, nodes, first_place(notes));
+    let length = message::write(
+        image,
+        table,
+        notes.counts,
+        code,
+        notes.first,
+        notes.second,
+        message,
+    );
+    Err(Refused::Typing(Refusal {
         code,
         place,
         begins: node.begins,
@@ -150,7 +168,7 @@ fn refuse(
         second_begins: second.begins,
         second_ends: second.ends,
         message: length,
-    })
+    }))
 }
 
 // ---- the whole
@@ -162,24 +180,20 @@ fn walk_in(
     table: &mut [u16],
     sheet: &mut [u8],
     message: &mut [u8],
-    plain: bool,
+    setting: Setting,
 ) -> Answer
     requires { Lent image.now nodes table.old }
-    ensures { AnswersByWalk plain image.now result
+    ensures { AnswersByWalk (setting_meant setting) image.now result
         sheet.old sheet.new message.old message.new }
 {
     start(table);
     let mut frames = EMPTY;
-    let mut stack = [FRESH; MOST_NODES];
-    let w = typecheck_program(image, &mut frames, table, &mut stack, plain);
+    let w = typecheck_program(image, &mut frames, table, setting.is_plain());
     let end = w.end;
-    let first = w.first;
     match end {
-        End::Done => accept(image, table, w.counts, &frames, w.top, sheet),
-        End::Wrong => refuse(
-            image, nodes, table, w.counts, w.code, w.place, first, w.a, w.b, message,
-        ),
-        End::TooDeep => Answer::NinthFrame(w.place),
+        Ok(()) => accept(image, table, &w.notes, &frames, sheet),
+        Err(Stop::Wrong) => refuse(image, nodes, table, &w.notes, message),
+        Err(Stop::TooDeep) => Err(Refused::NinthFrame(w.notes.place)),
     }
 }
 
@@ -196,152 +210,89 @@ const SOME_CELLS: usize = CELLS * (STRUCTURED + SOME);
 const MANY_CELLS: usize = CELLS * (STRUCTURED + MOST_NODES);
 
 // Each size has its own function, and so its own frame.
-fn walk_few(image: &[u8], nodes: usize, sheet: &mut [u8], message: &mut [u8], plain: bool) -> Answer
-    requires { Sized image.now nodes 64 }
-    ensures { AnswersByWalk plain image.now result
-        sheet.old sheet.new message.old message.new }
-{
-    let mut table = [FRESH; FEW_CELLS];
-    walk_in(image, nodes, &mut table, sheet, message, plain)
-}
-
-fn walk_some(
+fn walk_sized<const ROOM: usize>(
     image: &[u8],
     nodes: usize,
     sheet: &mut [u8],
     message: &mut [u8],
-    plain: bool,
+    setting: Setting,
 ) -> Answer
-    requires { Sized image.now nodes 512 }
-    ensures { AnswersByWalk plain image.now result
+    requires { Sized image.now nodes ROOM }
+    ensures { AnswersByWalk (setting_meant setting) image.now result
         sheet.old sheet.new message.old message.new }
 {
-    let mut table = [FRESH; SOME_CELLS];
-    walk_in(image, nodes, &mut table, sheet, message, plain)
-}
-
-fn walk_many(
-    image: &[u8],
-    nodes: usize,
-    sheet: &mut [u8],
-    message: &mut [u8],
-    plain: bool,
-) -> Answer
-    requires { Sized image.now nodes most_nodes }
-    ensures { AnswersByWalk plain image.now result
-        sheet.old sheet.new message.old message.new }
-{
-    let mut table = [FRESH; MANY_CELLS];
-    walk_in(image, nodes, &mut table, sheet, message, plain)
+    let mut table = [FRESH; ROOM];
+    walk_in(image, nodes, &mut table, sheet, message, setting)
 }
 
 // The walk's answer for a well-formed image.
-fn walk_image(image: &[u8], sheet: &mut [u8], message: &mut [u8], plain: bool) -> Answer
+fn walk_image(image: &[u8], sheet: &mut [u8], message: &mut [u8], setting: Setting) -> Answer
     requires { Sound image.now }
-    ensures { AnswersByWalk plain image.now result
+    ensures { AnswersByWalk (setting_meant setting) image.now result
         sheet.old sheet.new message.old message.new }
 {
     let l = areas(image);
     if l.count <= FEW {
-        return walk_few(image, l.nodes, sheet, message, plain);
-    }
-    if l.count <= SOME {
-        return walk_some(image, l.nodes, sheet, message, plain);
-    }
-    walk_many(image, l.nodes, sheet, message, plain)
-}
-
-// The answer for a well-formed image: "14 at the first TreeSet node .. before 9 and all typing codes", or the walk's.
-fn answer_well_formed(image: &[u8], sheet: &mut [u8], message: &mut [u8], plain: bool) -> Answer
-    requires { Sound image.now }
-    ensures { AnswersUnder plain image.now result
-        sheet.old sheet.new message.old message.new }
-{
-    match first_tree_set(image) {
-        Found::At(i) => Answer::Retired(i),
-        Found::Nowhere => walk_image(image, sheet, message, plain),
-    }
-}
-
-// The answer for any bytes, under a setting that is one of the two.
-fn answer_under(image: &[u8], sheet: &mut [u8], message: &mut [u8], plain: bool) -> Answer
-    ensures { AnswersUnder plain image.now result
-        sheet.old sheet.new message.old message.new }
-{
-    match judge(image) {
-        Judged::WellFormed => answer_well_formed(image, sheet, message, plain),
-        Judged::BadHead => Answer::BadHead,
-        Judged::BadCount => Answer::BadCount,
-        Judged::BadOffset => Answer::BadOffset,
-        Judged::BadName(i) => Answer::BadName(i),
-        Judged::UnsafeName(i) => Answer::UnsafeName(i),
-        Judged::BadNode(i) => Answer::BadNode(i),
-        Judged::BadNesting(i) => Answer::BadNesting(i),
-        Judged::TooDeep(i) => Answer::TooDeep(i),
+        walk_sized::<FEW_CELLS>(image, l.nodes, sheet, message, setting)
+    } else if l.count <= SOME {
+        walk_sized::<SOME_CELLS>(image, l.nodes, sheet, message, setting)
+    } else {
+        walk_sized::<MANY_CELLS>(image, l.nodes, sheet, message, setting)
     }
 }
 
 // Checks an image under a setting: the one answer, the sheet at the front of its buffer if the program is accepted and
 // the sheet fits, the message at the front of its buffer if there is a typing refusal and the message fits, and no
-// other byte changed.
+// other byte changed. "14 at the first TreeSet node .. before 9 and all typing codes".
 pub fn check(setting: u32, image: &[u8], sheet: &mut [u8], message: &mut [u8]) -> Answer
     ensures { Answers
         (answer setting image.now (length sheet.old) (length message.old))
         result sheet.old sheet.new message.old message.new }
 {
-    match setting {
-        PLAIN => answer_under(image, sheet, message, true),
-        STRICT => answer_under(image, sheet, message, false),
-        _ => Answer::NoSetting,
+    let setting = Setting::try_from(setting)?;
+    judge(image)?;
+    if let Some(i) = first_tree_set(image) {
+        return Err(Refused::Retired(i));
     }
+    walk_image(image, sheet, message, setting)
 }
 
 // ---- the type sheet
 
-// What the reader says: code 0, or 12.
-#[derive(Clone, Copy)]
-pub enum Reading {
-    Sheet,
-    NoSheet,
-}
+// The bytes are no sheet: 12.
+#[derive(Clone, Copy, PartialEq, Eq)]
+pub struct NoSheet;
 
 // Whether the bytes are a sheet.
-pub fn read_sheet(sheet: &[u8]) -> Reading
+pub fn read_sheet(sheet: &[u8]) -> Result<(), NoSheet>
     ensures { reading_numbers result ≡ numbers_in (read_answer sheet.now) }
 {
     let mut table = [FRESH; TABLE_CELLS];
     let mut names = NO_ENTRIES;
-    let r = read(sheet, &mut table, &mut names);
-    if r.stands {
-        return Reading::Sheet;
+    match read(sheet, &mut table, &mut names) {
+        Some(_) => Ok(()),
+        None => Err(NoSheet),
     }
-    Reading::NoSheet
 }
 
-// Code 0 with the sheet's length, 10, or 12.
-#[derive(Clone, Copy)]
-pub enum Rewriting {
-    Written(usize),
+// Why no sheet was written: 10, or 12.
+#[derive(Clone, Copy, PartialEq, Eq)]
+pub enum Unwritten {
     NoRoom,
     NotRead,
 }
 
-// Reads a sheet and writes what was read with the check's own writer: the same bytes, if they fit.
-pub fn write_sheet(sheet: &[u8], out: &mut [u8]) -> Rewriting
+// Reads a sheet and writes what was read with the check's own writer: the same bytes, if they fit. It tells how many.
+pub fn write_sheet(sheet: &[u8], out: &mut [u8]) -> Result<usize, Unwritten>
     ensures { Relaid (rewritten sheet.now (length out.old))
         (rewriting_numbers result) out.old out.new }
 {
     let mut table = [FRESH; TABLE_CELLS];
     let mut names = NO_ENTRIES;
-    let r = read(sheet, &mut table, &mut names);
-    if !r.stands {
-        return Rewriting::NotRead;
-    }
-    let w = sheet::write(sheet, &table, r.counts, &names, r.names, out);
-    if w.fits {
-        return Rewriting::Written(w.length);
-    }
-    Rewriting::NoRoom
+    let Some(r) = read(sheet, &mut table, &mut names) else {
+        return Err(Unwritten::NotRead);
+    };
+    sheet::write(sheet, &table, r.counts, &names, r.names, out).ok_or(Unwritten::NoRoom)
 }
 
 // ---- for C and Rust: the static library `checker_c` exports these
@@ -361,6 +312,8 @@ pub struct Reply {
 }
 
 // The codes that no crate below names.
+const NINTH_FRAME: u32 = 9;
+
 pub const SHORT_BUFFER: u32 = 10;
 
 pub const NO_SHEET: u32 = 12;
@@ -369,19 +322,25 @@ const NO_SETTING: u32 = 13;
 
 const RETIRED: u32 = 14;
 
+// Code 0, and nothing told.
+const NOTHING: Reply = Reply {
+    code: 0,
+    span_start: 0,
+    span_end: 0,
+    second_start: 0,
+    second_end: 0,
+    place: 0,
+    sheet_length: 0,
+    message_length: 0,
+};
+
 // Code 0, with the length of the sheet.
 fn with_sheet(length: usize) -> Reply
     ensures { reply_means result ≡ sheet_numbers length }
 {
     Reply {
-        code: 0,
-        span_start: 0,
-        span_end: 0,
-        second_start: 0,
-        second_end: 0,
-        place: 0,
         sheet_length: length,
-        message_length: 0,
+        ..NOTHING
     }
 }
 
@@ -391,13 +350,8 @@ fn bare(code: u32, place: usize) -> Reply
 {
     Reply {
         code,
-        span_start: 0,
-        span_end: 0,
-        second_start: 0,
-        second_end: 0,
         place,
-        sheet_length: 0,
-        message_length: 0,
+        ..NOTHING
     }
 }
 
@@ -406,28 +360,24 @@ pub fn replied(a: Answer) -> Reply
     ensures { reply_means result ≡ numbers_of a }
 {
     match a {
-        Answer::Accepted(n) => with_sheet(n),
-        Answer::BadHead => bare(1, 0),
-        Answer::BadCount => bare(2, 0),
-        Answer::BadOffset => bare(3, 0),
-        Answer::BadName(i) => bare(4, i),
-        Answer::UnsafeName(i) => bare(5, i),
-        Answer::BadNode(i) => bare(6, i),
-        Answer::BadNesting(i) => bare(7, i),
-        Answer::TooDeep(i) => bare(8, i),
-        Answer::NinthFrame(i) => bare(codes::NINTH_FRAME, i),
-        Answer::ShortBuffer => bare(SHORT_BUFFER, 0),
-        Answer::NoSetting => bare(NO_SETTING, 0),
-        Answer::Retired(i) => bare(RETIRED, i),
-        Answer::Typing(r) => Reply {
-            code: r.code,
+        Ok(n) => with_sheet(n),
+        Err(Refused::Faulty(f)) => {
+            let n = Numbers::from(f);
+            bare(n.code, n.place)
+        }
+        Err(Refused::NinthFrame(i)) => bare(NINTH_FRAME, i),
+        Err(Refused::ShortBuffer) => bare(SHORT_BUFFER, 0),
+        Err(Refused::NoSetting) => bare(NO_SETTING, 0),
+        Err(Refused::Retired(i)) => bare(RETIRED, i),
+        Err(Refused::Typing(r)) => Reply {
+            code: r.code.number(),
             span_start: r.begins,
             span_end: r.ends,
             second_start: r.second_begins,
             second_end: r.second_ends,
             place: r.place,
-            sheet_length: 0,
             message_length: r.message,
+            ..NOTHING
         },
     }
 }
@@ -446,18 +396,18 @@ pub fn cablebirch_read_sheet(sheet: &[u8]) -> u32
     ensures { result ≡ (read_answer sheet.now).code }
 {
     match read_sheet(sheet) {
-        Reading::Sheet => 0,
-        Reading::NoSheet => NO_SHEET,
+        Ok(()) => 0,
+        Err(NoSheet) => NO_SHEET,
     }
 }
 
-fn relaid(r: Rewriting) -> Reply
+fn relaid(r: Result<usize, Unwritten>) -> Reply
     ensures { reply_means result ≡ rewriting_numbers r }
 {
     match r {
-        Rewriting::Written(n) => with_sheet(n),
-        Rewriting::NoRoom => bare(SHORT_BUFFER, 0),
-        Rewriting::NotRead => bare(NO_SHEET, 0),
+        Ok(n) => with_sheet(n),
+        Err(Unwritten::NoRoom) => bare(SHORT_BUFFER, 0),
+        Err(Unwritten::NotRead) => bare(NO_SHEET, 0),
     }
 }
 

@@ -8,16 +8,24 @@ ghost use Rattle.meaning.specs.Answer.{overlaid};
 ghost use Rattle.meaning.specs.Convert.{converted, convert_answer};
 ghost use Rattle.meaning.proofs.Faults.{Sound};
 ghost use Rattle.convert.specs.Outcome.{Converts};
+ghost use Rattle.convert.specs.declared.Unconverted.TheVariants.{Faulty};
 
-use image::{Judged, areas, judge, kinds, node_at, put_kind};
+use image::{Fault, areas, judge, kinds, node_at, put_kind};
 use words::put;
 
-// Code 0 with the image's length; the refusals 1 to 8; or 15.
-#[derive(Clone, Copy)]
-pub enum Conversion {
-    Converted(usize),
-    Faulty(Judged),
+// Why no image was written: the refusals 1 to 8, or 15.
+#[derive(Clone, Copy, PartialEq, Eq)]
+pub enum Unconverted {
+    Faulty(Fault),
     ShortOutput,
+}
+
+impl From<Fault> for Unconverted {
+    ghost from_gives = { λ f e. e ≡ Faulty f };
+
+    fn from(f: Fault) -> Unconverted {
+        Unconverted::Faulty(f)
+    }
 }
 
 // A copy of the image, in which each TreeSet is then made a Set. Kinds are read from the image, which stays as it is.
@@ -28,28 +36,24 @@ fn write_converted(image: &[u8], out: &mut [u8])
 {
     put(out, 0, image);
     let l = areas(image);
-    let mut i = 0;
-    while i < l.count {
+    for i in 0..l.count {
         let node = node_at(image, l.nodes, i);
         if node.kind == kinds::TREE_SET {
             put_kind(out, l.nodes, i, kinds::SET);
         }
-        i += 1;
     }
 }
 
-// Writes the converted image to the front of a buffer, and keeps the bytes behind it. A refusal touches nothing.
-pub fn convert(image: &[u8], out: &mut [u8]) -> Conversion
+// Writes the converted image to the front of a buffer, keeps the bytes behind it, and tells its length. A refusal
+// touches nothing.
+pub fn convert(image: &[u8], out: &mut [u8]) -> Result<usize, Unconverted>
     ensures { Converts (convert_answer image.now (length out.old))
         result out.old out.new }
 {
-    let j = judge(image);
-    let Judged::WellFormed = j else {
-        return Conversion::Faulty(j);
-    };
+    judge(image)?;
     if out.len() < image.len() {
-        return Conversion::ShortOutput;
+        return Err(Unconverted::ShortOutput);
     }
     write_converted(image, out);
-    Conversion::Converted(image.len())
+    Ok(image.len())
 }

@@ -7,7 +7,7 @@ use native.Mathlib.Omega.{arith}
 use native.Mathlib.Decide.{ℕ_discrete}
 use Rattle.meaning.specs.Base.{base_open}
 use Rattle.meaning.specs.Types.{Ty, plain}
-use Rattle.meaning.specs.Image.{Name, Node, node_count, nodes_of, node_of, names_of, name_count}
+use Rattle.meaning.specs.Image.{Name, Node, node_count, nodes_of, names_of, name_count}
 use Rattle.meaning.specs.Decode.{expr_at, form_at, stop_of, past}
 use Rattle.meaning.specs.Operators.{Checked, ok, ◌>>=◌}
 use Rattle.meaning.specs.Rules.{Children, child, check, check_form, each_then, first_then, input_rule, len_rule, range_rule}
@@ -19,17 +19,18 @@ use Rattle.frames.specs.Env.{Rows, frames_of}
 use Rattle.rules.specs.Outcome.{types_named}
 use Rattle.rules.specs.Leaves.{prompt_rule, sized_rule}
 use Rattle.rules.proofs.Calls.{input_one, input_other, len_first}
-use Rattle.calls.specs.Planning.{rule_of, Planned}
+use Rattle.std.specs.Prelude.{Ok, Err}
+use Rattle.codes.specs.declared.Code.{Code}
+use Rattle.codes.specs.Codes.{code_number}
+use Rattle.calls.specs.Planning.{Plan, rule_of, Planned}
 use Rattle.calls.specs.declared.Rule.{Rule}
 use Rattle.calls.specs.declared.Rule.TheVariants.{Each, First, Input, Len, Range, Map, Filter}
-use Rattle.calls.specs.declared.Plan.{Plan}
-use Rattle.calls.specs.declared.Plan.TheVariants.{By, Refused}
 use Rattle.nodes.specs.Operands.{Judges, Ruled}
-use Rattle.expr.specs.Contract.{Ready, At, Inner, Row, Fine, Done, Values, checks, stream_of}
-use Rattle.expr.proofs.Rows.{row_of, row_at, row_ends, row_next, row_long, ends_after, ends_within, few}
+use Rattle.expr.specs.Contract.{Ready, At, Row, Fine, Done, Values, checks, stream_of}
+use Rattle.expr.proofs.Rows.{Opened, Behind, row_of, row_at, row_ends, row_next, row_long, ends_after, ends_within, few}
 use Rattle.expr.proofs.Leaving.{fine_none, fine_wider, fine_up, ready_narrow}
 use Rattle.expr.proofs.Telling.{told_as, told_ill, told_well, done_given, done_as, done_bind, checks_many, checks_first}
-use Rattle.expr.proofs.Calling.{call_some, callee_there, call_whole}
+use Rattle.expr.proofs.Calling.{call_some, callee_there, call_whole, name_there}
 
 named_37 : types_named 37 ≡ 0
 unfolding types_named base_open
@@ -43,63 +44,64 @@ named_38 = refl
 no_types : (c : ℕ) → 37 ≤ c → c ≤ 38 → types_named c ≡ 0
 no_types c a b = elim (ℕ_discrete c 37) [ yes e ↦ rw e named_37 | no e ↦ let f : c ≡ 38 = omega arith in rw f named_38 ]
 
-pub call_coded : {ws : List Name} {x count code : ℕ} {p : Plan} → Planned ws x count p → p ≡ Refused code → code ≡ 0 → ⊥
+pub call_coded : {ws : List Name} {x count : ℕ} {code : Code} {p : Plan} → Planned ws x count p → p ≡ Err code → code_number code ≡ 0 → ⊥
 call_coded {code = code} p y z = omega (arith, (p.codes code y).0)
 
 -- ---- the call at node i of a name
 
-module _ {bs : List ℕ} {nodes : ℕ} {fs : Rows} {top : ℕ} {t : Tab} {st : List ℕ} {sp i d : ℕ} {node callee : Node}
-    (r : Ready bs nodes fs top t st sp i (stop_of (nodes_of bs) i)) (o : Inner bs i d node) (k : node.kind ≡ 24)
-    (c : callee ≡ node_of (nodes_of bs) (suc i)) (v : callee.kind ≡ 21) where
-  pub call_refused : {x count code number : ℕ} {p : Plan} → x ≡ callee.arg → count ≡ node.children - 1 → x < name_count bs
-      → Planned (names_of bs) x count p → p ≡ Refused code
+module _ {bs : List ℕ} {nodes : ℕ} {fs : Rows} {top : ℕ} {t : Tab} {st : List ℕ} {sp i d first from : ℕ} {node callee : Node}
+    (r : Ready bs nodes fs top t st sp i (stop_of (nodes_of bs) i)) (o : Opened bs i d node 24 first)
+    (c : Behind bs i callee from) (v : callee.kind ≡ 21) where
+  pub call_refused : {x count : ℕ} {code : Code} {number : ℕ} {p : Plan} → x ≡ callee.arg → count ≡ node.children - 1
+      → Planned (names_of bs) x count p → p ≡ Err code
       → Done (names_of bs) (check_form (names_of bs) (frames_of t fs top) i (form_at (nodes_of bs) (λ j. expr_at (nodes_of bs) d j) i)) t t st st sp i
-      (stop_of (nodes_of bs) i) (node_count bs) code i number x count
-  call_refused {x} {count} {code} e m h p y =
-      let none = no_types code (p.codes code y).0 (p.codes code y).1 in
-      let z : code ≡ 0 → ⊥ = call_coded p y in
+      (stop_of (nodes_of bs) i) (node_count bs) (code_number code) i number x count
+  call_refused {x} {count} {code} e m p y =
+      let h : x < name_count bs = rw e (name_there r.sound o c v) in
+      let none = no_types (code_number code) (p.codes code y).0 (p.codes code y).1 in
+      let z : code_number code ≡ 0 → ⊥ = call_coded p y in
       let size = sizes r.sound.headed in
-      let few : count < 4294967296 = omega (arith, m, row_long r.sound node.children (row_of r.sound o), row_ends r.sound o, ends_within r.sound o.there, size.nodes) in
+      let few : count < 4294967296 = omega (arith, m, row_long r.sound node.children (row_of r.sound o.inner), row_ends r.sound o.inner, ends_within r.sound o.inner.there, size.nodes) in
       record {
         told = record {
           well = λ w. absurd (z w);
           ill = λ w.
-              call_whole r.sound o k c (frames_of t fs top) v refl m ∙ rw (← e)
-              (p.ill code y t i (checks bs (frames_of t fs top) d count callee.stop) (checks_many bs (frames_of t fs top) d count callee.stop));
+              call_whole r.sound o c (frames_of t fs top) v m ∙ rw (← e)
+              (p.ill code y t i (checks bs (frames_of t fs top) d count from) (checks_many bs (frames_of t fs top) d count from));
           first = λ g. absurd (omega arith);
           second = λ g. absurd (omega arith);
           small = λ g n. (omega (arith, h, size.names), few);
-          placed = λ g. o.there;
+          placed = λ g. o.inner.there;
         };
         below = λ w. absurd (z w);
-        fine = fine_wider (stop_of (nodes_of bs) i) 1 (omega (arith, ends_after r.sound o.there)) (fine_none sp i r.wf r.stack);
+        fine = fine_wider (stop_of (nodes_of bs) i) 1 (omega (arith, ends_after r.sound o.inner.there)) (fine_none sp i r.wf r.stack);
       }
 
-  module _ {from n : ℕ} (f : from ≡ callee.stop) (m : n ≡ node.children - 1) where
+  module _ {n : ℕ} (m : n ≡ node.children - 1) where
     stops : from ≡ stop_of (nodes_of bs) (suc i)
     unfolding stop_of
-    stops = f ∙ ap (λ y. y.stop) c
+    stops = c.next ∙ ap (λ y. y.stop) c.read
 
     ends : past (nodes_of bs) n from ≡ stop_of (nodes_of bs) i
     ends =
-        rw (stops, m) (sym (past_down (nodes_of bs) node.children (suc i) (call_some r.sound o k)) ∙ row_ends r.sound o)
+        rw (stops, m) (sym (past_down (nodes_of bs) node.children (suc i) (call_some r.sound o)) ∙ row_ends r.sound o.inner)
 
     after : i < from - 1
-    after = omega (arith, stops, ends_after r.sound (callee_there r.sound o k))
+    after = omega (arith, stops, ends_after r.sound (callee_there r.sound o))
 
     pub call_ready : Ready bs nodes fs top t st sp (from - 1) (past (nodes_of bs) n from)
     call_ready = ready_narrow (from - 1) _ (omega (arith, after)) (omega (arith, ends)) r
 
     pub call_row : Row bs from n d
-    call_row = rw (stops, m) (row_next r.sound node.children (call_some r.sound o k) (row_of r.sound o))
+    call_row = rw (stops, m) (row_next r.sound node.children (call_some r.sound o) (row_of r.sound o.inner))
 
-    pub call_done : {x count : ℕ} {p : Plan} {rule : Rule} {u : Tab} {su : List ℕ} {code' place number a b : ℕ} → x ≡ callee.arg → count ≡ n → Planned (names_of bs) x count p → p ≡ By rule
+    pub call_done : {x count : ℕ} {p : Plan} {rule : Rule} {u : Tab} {su : List ℕ} {code' place number a b : ℕ} → x ≡ callee.arg → count ≡ n → Planned (names_of bs) x count p → p ≡ Ok rule
         → Done (names_of bs) (rule_of rule i (checks bs (frames_of t fs top) d n from)) t u st su sp (from - 1) (past (nodes_of bs) n from) (node_count bs) code' place number a b
         → Done (names_of bs) (check_form (names_of bs) (frames_of t fs top) i (form_at (nodes_of bs) (λ j. expr_at (nodes_of bs) d j) i)) t u st su sp i
         (stop_of (nodes_of bs) i) (node_count bs) code' place number a b
     call_done {x} {rule = rule} e q p z g =
         done_as
-        (call_whole r.sound o k c (frames_of t fs top) v f m ∙ rw (← e)
+        (call_whole r.sound o c (frames_of t fs top) v m ∙ rw (← e)
         (p.well rule z i (checks bs (frames_of t fs top) d n from) (checks_many bs (frames_of t fs top) d n from ∙ sym q)))
         record {
           told = g.told;

@@ -1,4 +1,4 @@
--- The arms of `expr`.
+-- The arms of `expression` and `compound`.
 use mathlib.Core.Path.{◌≡◌, sym, ap, ◌∙◌}
 use mathlib.Core.List.{List}
 use mathlib.Core.Bool.{false}
@@ -37,16 +37,6 @@ expr_form : (ws : List Name) (Γ : Frames) (ds : List Node) (d i : ℕ) → 0 < 
 unfolding check expr_at
 expr_form ws Γ ds zero i h = absurd (omega arith)
 expr_form ws Γ ds (suc d) i h = rw sub-one
-
--- the kinds that a match leaves
-above_23 : {k : ℕ} → 20 ≤ k → (k ≡ 20 → ⊥) → (k ≡ 21 → ⊥) → (k ≡ 22 → ⊥) → (k ≡ 23 → ⊥) → 24 ≤ k
-above_23 h a b c d = omega arith
-
-beyond : {k : ℕ} → 24 ≤ k → (k ≡ 24 → ⊥) → (k ≡ 25 → ⊥) → (k ≡ 26 → ⊥) → (k ≡ 27 → ⊥) → 28 ≤ k
-beyond h a b c d = omega arith
-
-pub above_27 : {k : ℕ} → 20 ≤ k → (k ≡ 20 → ⊥) → (k ≡ 21 → ⊥) → (k ≡ 22 → ⊥) → (k ≡ 23 → ⊥) → (k ≡ 24 → ⊥) → (k ≡ 25 → ⊥) → (k ≡ 26 → ⊥) → (k ≡ 27 → ⊥) → 28 ≤ k
-above_27 h a b c d = beyond (above_23 h a b c d)
 
 not_in : (k m : ℕ) → (k < 20) ⊎ (31 < k) → 20 ≤ m → m ≤ 31 → eqb k m ≡ false
 not_in k m h a b = ⊎_elim (λ l. ne_eqb k m (λ e. absurd (omega arith))) (λ l. ne_eqb k m (λ e. absurd (omega arith))) h

@@ -26,9 +26,9 @@ pub record Bounding (bs : List ℕ) (nodes : ℕ) (fs : Rows) (top : ℕ) (t : T
   pub loop : Loop bs nodes fs top t st sp from n d (range_rule at (checks bs (frames_of t fs top) d n from))
       (range_rule at (checks bs (frames_of t fs top) d left i)) u su i left
 
-pub bounding_first : {bs : List ℕ} {nodes : ℕ} {fs : Rows} {top : ℕ} {t : Tab} {st : List ℕ} {sp at from n d j : ℕ} → j < from
-    → Ready bs nodes fs top t st sp j (past (nodes_of bs) n from) → Row bs from n d → Bounding bs nodes fs top t st sp at from n d t st from n
-bounding_first h r w = record { loop = loop_first refl h r w }
+pub bounding_first : {bs : List ℕ} {nodes : ℕ} {fs : Rows} {top : ℕ} {t : Tab} {st : List ℕ} {sp at from n d j left : ℕ} → j < from
+    → Ready bs nodes fs top t st sp j (past (nodes_of bs) n from) → Row bs from n d → left ≡ n → Bounding bs nodes fs top t st sp at from n d t st from left
+bounding_first h r w e = rw e record { loop = loop_first refl h r w }
 
 module _ {bs : List ℕ} {nodes : ℕ} {fs : Rows} {top : ℕ} {t : Tab} {st : List ℕ} {sp at from n d : ℕ} {u : Tab} {su : List ℕ} {i left : ℕ}
     (l : Bounding bs nodes fs top t st sp at from n d u su i left) (h : 0 < left) where
@@ -76,11 +76,12 @@ module _ {bs : List ℕ} {nodes : ℕ} {fs : Rows} {top : ℕ} {t : Tab} {st : L
         fine = fine_node {k = 0} (from - 1) (omega (arith, l.loop.start)) (omega arith) stopped judged.grown judged.room judged.space;
       }
 
-      pub bounding_next : {j : ℕ} → code' ≡ 0 → x ≡ v → j ≡ stop_of (nodes_of bs) i → Bounding bs nodes fs top t st sp at from n d x sv j (left - 1)
+      pub bounding_next : {j fewer : ℕ} → code' ≡ 0 → x ≡ v → j ≡ stop_of (nodes_of bs) i → fewer ≡ left - 1
+          → Bounding bs nodes fs top t st sp at from n d x sv j fewer
       unfolding ◌>>=◌ rest
-      bounding_next {j} q e p = record {
+      bounding_next {j} q e p f = record {
         loop =
-            rw (e, p) (loop_next l.loop 1 h (one_fine bs w.fine) (stop_of (nodes_of bs) i) (sym (past_one bs i))
+            rw (e, p, f) (loop_next l.loop 1 h (one_fine bs w.fine) (stop_of (nodes_of bs) i) (sym (past_one bs i))
             (told.well z ∙ rw (judged.told.well q)));
       }
 

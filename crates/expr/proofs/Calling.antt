@@ -1,9 +1,9 @@
 -- Nodes: what is asked for their children, and what they give after them.
 use mathlib.Core.Path.{◌≡◌, refl, ◌∙◌}
-use mathlib.Core.Logic.{◌⊎◌, ⊎_elim}
 use mathlib.Core.List.{List, [], map}
 use Prim.Native.Nat.{ℕ, zero, suc, ◌-◌, ◌≤◌, ◌<◌}
 use native.Mathlib.Omega.{arith}
+use native.Mathlib.Decide.{ℕ_discrete, dec_lt}
 use lib.ListN.{length, take, drop}
 use Rattle.meaning.specs.Types.{unknown}
 use Rattle.meaning.specs.Tree.{place}
@@ -25,7 +25,7 @@ use Rattle.nodes.specs.Operands.{operand_rule, Decidable}
 use Rattle.nodes.proofs.Operating.{decidable, operands_low, operands_attribute, operands_high, call_node}
 use Rattle.nodes.proofs.Calling.{call_other, call_name}
 use Rattle.expr.specs.Contract.{Ready, At, Inner, Row, Fine, Done, Values, checks, Operand}
-use Rattle.expr.proofs.Rows.{row_of, row_ends, row_at, row_long, shallow}
+use Rattle.expr.proofs.Rows.{Opened, Behind, row_of, row_ends, row_at, row_long, shallow}
 use Rattle.expr.proofs.Leaving.{fine_up, ready_narrow}
 use Rattle.expr.proofs.Telling.{told_as, told_ill, done_given, done_as}
 
@@ -97,13 +97,19 @@ module _ {bs : List ℕ} {nodes : ℕ} {fs : Rows} {top : ℕ} {t : Tab} {st : L
   operands_done z g =
       done_as (whole ∙ (v.told _ []).well z ∙ rw m) (done_given i (omega arith) operands_fine node.children (omega (arith, m)) g)
 
-pub not_binary : {k : ℕ} → ((k ≡ 22) ⊎ (k ≡ 25)) ⊎ ((28 ≤ k) × (k ≤ 31)) → k ≡ 23 → ⊥
-not_binary w z = ⊎_elim (λ u. ⊎_elim (λ e. absurd (omega arith)) (λ e. absurd (omega arith)) u) (λ u. absurd (omega (arith, u.0))) w
-
 pub own_place : (ds : List Node) (d j : ℕ) → place (expr_at ds d j) ≡ j
 unfolding place expr_at
 own_place ds zero j = refl
 own_place ds (suc d) j = refl
+
+-- the kinds that go by `operands`: neither Binary, Call, List nor Dict
+pub record OfOperands (k : ℕ) : Type 0 where
+  pub low : 22 ≤ k
+  pub high : k ≤ 31
+  pub binary : k ≡ 23 → ⊥
+  pub call : k ≡ 24 → ⊥
+  pub list : k ≡ 26 → ⊥
+  pub dict : k ≡ 27 → ⊥
 
 module _ {bs : List ℕ} {i d : ℕ} {node : Node} (s : Sound bs) (o : Inner bs i d node) where
   inside : i < length (nodes_of bs)
@@ -127,57 +133,77 @@ module _ {bs : List ℕ} {i d : ℕ} {node : Node} (s : Sound bs) (o : Inner bs 
     rule = λ Γ. operands_high (sound_nested s) (names_of bs) Γ (λ j. expr_at (nodes_of bs) d j) (own_place (nodes_of bs) d) i inside (rw o.read at a) (rw o.read at b);
   }
 
-  -- the kinds that go by `operands`
-  pub operand_any : ((node.kind ≡ 22) ⊎ (node.kind ≡ 25)) ⊎ ((28 ≤ node.kind) × (node.kind ≤ 31)) → Operand bs i d
-  operand_any k =
-      ⊎_elim (λ w. ⊎_elim (λ e. operand_low (omega arith) (omega arith)) (λ e. operand_attribute e) w) (λ w. operand_high w.0 w.1) k
+  pub operand_any : OfOperands node.kind → Operand bs i d
+  operand_any k = elim (dec_lt node.kind 24) [
+    | yes l ↦ operand_low k.low (omega arith)
+    | no n ↦ elim (ℕ_discrete node.kind 25) [
+      | yes e ↦ operand_attribute e
+      | no d ↦ operand_high (omega arith) k.high
+    ]
+  ]
 
-  -- ---- List and Dict
+-- ---- List and Dict
 
-  pub list_whole : (Γ : Frames) {from n : ℕ} → from ≡ suc i → n ≡ node.children → node.kind ≡ 26
-      → check_form (names_of bs) Γ i (form_at (nodes_of bs) (λ j. expr_at (nodes_of bs) d j) i) ≡ list_rule unknown (checks bs Γ d n from)
+module _ {bs : List ℕ} {nodes : ℕ} {fs : Rows} {top : ℕ} {t : Tab} {st : List ℕ} {sp i d from n : ℕ} {node : Node}
+    (r : Ready bs nodes fs top t st sp i (stop_of (nodes_of bs) i)) (m : n ≡ node.children)
+    {u : Tab} {su : List ℕ} {M code place number a b : ℕ} where
+  pub list_done : Opened bs i d node 26 from
+      → Done (names_of bs) (list_rule unknown (checks bs (frames_of t fs top) d n from)) t u st su sp (from - 1) (past (nodes_of bs) n from) M code place number a b
+      → Done (names_of bs) (check_form (names_of bs) (frames_of t fs top) i (form_at (nodes_of bs) (λ j. expr_at (nodes_of bs) d j) i)) t u st su sp i
+      (stop_of (nodes_of bs) i) M code place number a b
   unfolding checks check_form
-  list_whole Γ e m k = rw (e, m, o.read, list_at (nodes_of bs) (λ j. expr_at (nodes_of bs) d j) i (rw o.read at k))
+  list_done o x = node_done r o.inner o.first m whole x
+    where
+      whole : check_form (names_of bs) (frames_of t fs top) i (form_at (nodes_of bs) (λ j. expr_at (nodes_of bs) d j) i) ≡ list_rule unknown (checks bs (frames_of t fs top) d n from)
+      whole = rw (o.first, m, o.inner.read, list_at (nodes_of bs) (λ j. expr_at (nodes_of bs) d j) i (rw o.inner.read at o.kind))
 
-  pub dict_whole : (Γ : Frames) {from n : ℕ} → from ≡ suc i → n ≡ node.children → node.kind ≡ 27
-      → check_form (names_of bs) Γ i (form_at (nodes_of bs) (λ j. expr_at (nodes_of bs) d j) i) ≡ dict_rule unknown unknown (checks bs Γ d n from)
+  pub dict_done : Opened bs i d node 27 from
+      → Done (names_of bs) (dict_rule unknown unknown (checks bs (frames_of t fs top) d n from)) t u st su sp (from - 1) (past (nodes_of bs) n from) M code place number a b
+      → Done (names_of bs) (check_form (names_of bs) (frames_of t fs top) i (form_at (nodes_of bs) (λ j. expr_at (nodes_of bs) d j) i)) t u st su sp i
+      (stop_of (nodes_of bs) i) M code place number a b
   unfolding checks check_form
-  dict_whole Γ e m k = rw (e, m, o.read, dict_at (nodes_of bs) (λ j. expr_at (nodes_of bs) d j) i (rw o.read at k))
+  dict_done o x = node_done r o.inner o.first m whole x
+    where
+      whole : check_form (names_of bs) (frames_of t fs top) i (form_at (nodes_of bs) (λ j. expr_at (nodes_of bs) d j) i) ≡ dict_rule unknown unknown (checks bs (frames_of t fs top) d n from)
+      whole = rw (o.first, m, o.inner.read, dict_at (nodes_of bs) (λ j. expr_at (nodes_of bs) d j) i (rw o.inner.read at o.kind))
 
-  -- ---- calls
+-- ---- calls
 
-  module _ (k : node.kind ≡ 24) where
-    kind : (node_of (nodes_of bs) i).kind ≡ 24
-    kind = rw o.read at k
+module _ {bs : List ℕ} {i d from : ℕ} {node : Node} (s : Sound bs) (o : Opened bs i d node 24 from) where
+  call_inside : i < length (nodes_of bs)
+  call_inside = rw (nodes_many bs) o.inner.there
 
-    pub call_some : 1 ≤ node.children
-    call_some = rw o.read (call_node (sound_nested s) i inside kind)
+  kind : (node_of (nodes_of bs) i).kind ≡ 24
+  kind = rw o.inner.read at o.kind
 
-    callee_at : At bs (suc i) d
-    callee_at = row_at s node.children call_some (row_of s o)
+  pub call_some : 1 ≤ node.children
+  call_some = rw o.inner.read (call_node (sound_nested s) i call_inside kind)
 
-    pub callee_there : suc i < node_count bs
-    callee_there = callee_at.there
+  callee_at : At bs (suc i) d
+  callee_at = row_at s node.children call_some (row_of s o.inner)
 
-    deep : suc (d - 1) ≡ d
-    deep = omega (arith, shallow s callee_at)
+  pub callee_there : suc i < node_count bs
+  callee_there = callee_at.there
 
-    module _ {callee : Node} (c : callee ≡ node_of (nodes_of bs) (suc i)) where
-      pub call_operand : (callee.kind ≡ 21 → ⊥) → Operand bs i d
-      unfolding checks
-      call_operand z = record {
-        rule = λ Γ. rw deep at (call_other (sound_nested s) (names_of bs) Γ (d - 1) i inside kind (λ e. z (rw c e)));
-      }
+  deep : suc (d - 1) ≡ d
+  deep = omega (arith, shallow s callee_at)
 
-      pub name_there : callee.kind ≡ 21 → callee.arg < name_count bs
-      unfolding arg_below choose test◌then◌else◌
-      name_there e =
-          let w = (node_stands_lem (sound_nested s) (suc i) (rw (nodes_many bs) callee_there)).arg in
-          rw (← c, e) at w
+  module _ {callee : Node} {after : ℕ} (c : Behind bs i callee after) where
+    pub call_operand : (callee.kind ≡ 21 → ⊥) → Operand bs i d
+    unfolding checks
+    call_operand z = record {
+      rule = λ Γ. rw deep at (call_other (sound_nested s) (names_of bs) Γ (d - 1) i call_inside kind (λ e. z (rw c.read e)));
+    }
 
-      pub call_whole : (Γ : Frames) {from n : ℕ} → callee.kind ≡ 21 → from ≡ callee.stop → n ≡ node.children - 1
-          → check_form (names_of bs) Γ i (form_at (nodes_of bs) (λ j. expr_at (nodes_of bs) d j) i)
-          ≡ name_rule i (name_of (names_of bs) callee.arg) (name_of (names_of bs) callee.arg).role (checks bs Γ d n from)
-      unfolding checks stop_of
-      call_whole Γ {from} {n} e f m =
-          rw (f, m, c, o.read) (rw deep at (call_name (sound_nested s) (names_of bs) Γ (d - 1) i inside kind (rw c at e)))
+    pub name_there : callee.kind ≡ 21 → callee.arg < name_count bs
+    unfolding arg_below choose test◌then◌else◌
+    name_there e =
+        let w = (node_stands_lem (sound_nested s) (suc i) (rw (nodes_many bs) callee_there)).arg in
+        rw (← c.read, e) at w
+
+    pub call_whole : (Γ : Frames) {n : ℕ} → callee.kind ≡ 21 → n ≡ node.children - 1
+        → check_form (names_of bs) Γ i (form_at (nodes_of bs) (λ j. expr_at (nodes_of bs) d j) i)
+        ≡ name_rule i (name_of (names_of bs) callee.arg) (name_of (names_of bs) callee.arg).role (checks bs Γ d n after)
+    unfolding checks stop_of
+    call_whole Γ {n} e m =
+        rw (c.next, m, c.read, o.inner.read) (rw deep at (call_name (sound_nested s) (names_of bs) Γ (d - 1) i call_inside kind (rw c.read at e)))

@@ -1,7 +1,7 @@
 -- A Binary: its two operands, one after the other.
 use mathlib.Core.Path.{◌≡◌, sym, ap, ◌∙◌}
 use mathlib.Core.List.{List}
-use Prim.Native.Nat.{ℕ, suc, ◌+◌, ◌-◌, ◌<◌}
+use Prim.Native.Nat.{ℕ, ◌+◌, ◌-◌, ◌<◌}
 use native.Mathlib.Omega.{arith}
 use lib.ListN.{length}
 use Rattle.meaning.specs.Image.{Node, node_count, nodes_of, node_of, names_of}
@@ -14,37 +14,37 @@ use Rattle.frames.specs.Env.{Rows, frames_of}
 use Rattle.state.specs.Giving.{Told}
 use Rattle.nodes.specs.Operands.{Operable, Ruled}
 use Rattle.nodes.proofs.Operating.{binary_node, binary_form}
-use Rattle.expr.specs.Contract.{Ready, At, Inner, Fine, Done}
-use Rattle.expr.proofs.Rows.{row_of, row_at, row_next, row_ends, ends_after, few}
+use Rattle.expr.specs.Contract.{Ready, At, Fine, Done}
+use Rattle.expr.proofs.Rows.{Opened, row_of, row_at, row_next, row_ends, ends_after, few}
 use Rattle.expr.proofs.Leaving.{fine_then, fine_wider, fine_up, fine_node, ready_narrow, ready_then, same_frames}
 use Rattle.expr.proofs.Telling.{told_as, told_ill, done_bind}
 use Rattle.expr.proofs.Calling.{own_place}
 
-module _ {bs : List ℕ} {nodes : ℕ} {fs : Rows} {top : ℕ} {t : Tab} {st : List ℕ} {sp i d : ℕ} {node : Node}
-    (r : Ready bs nodes fs top t st sp i (stop_of (nodes_of bs) i)) (o : Inner bs i d node) (k : node.kind ≡ 23) {left : ℕ} (e : left ≡ suc i) where
+module _ {bs : List ℕ} {nodes : ℕ} {fs : Rows} {top : ℕ} {t : Tab} {st : List ℕ} {sp i d left : ℕ} {node : Node}
+    (r : Ready bs nodes fs top t st sp i (stop_of (nodes_of bs) i)) (o : Opened bs i d node 23 left) where
   inside : i < length (nodes_of bs)
-  inside = rw (nodes_many bs) o.there
+  inside = rw (nodes_many bs) o.inner.there
 
   kind : (node_of (nodes_of bs) i).kind ≡ 23
-  kind = rw o.read at k
+  kind = rw o.inner.read at o.kind
 
   two : node.children ≡ 2
-  two = rw o.read (binary_node (sound_nested r.sound) i inside kind).1
+  two = rw o.inner.read (binary_node (sound_nested r.sound) i inside kind).1
 
   operator : node.arg < 14
-  operator = rw o.read (binary_node (sound_nested r.sound) i inside kind).0
+  operator = rw o.inner.read (binary_node (sound_nested r.sound) i inside kind).0
 
   pub operand_at : At bs left d
-  operand_at = rw e (row_at r.sound node.children (omega (arith, two)) (row_of r.sound o))
+  operand_at = rw o.first (row_at r.sound node.children (omega (arith, two)) (row_of r.sound o.inner))
 
   -- the second operand, and the end
   second_at : At bs (stop_of (nodes_of bs) left) d
   second_at =
-      rw e (row_at r.sound (node.children - 1) (omega (arith, two)) (row_next r.sound node.children (omega (arith, two)) (row_of r.sound o)))
+      rw o.first (row_at r.sound (node.children - 1) (omega (arith, two)) (row_next r.sound node.children (omega (arith, two)) (row_of r.sound o.inner)))
 
   last : stop_of (nodes_of bs) (stop_of (nodes_of bs) left) ≡ stop_of (nodes_of bs) i
   unfolding past
-  last = rw e (rw two at (row_ends r.sound o))
+  last = rw o.first (rw two at (row_ends r.sound o.inner))
 
   pub binary_ready : Ready bs nodes fs top t st sp left (stop_of (nodes_of bs) left)
   binary_ready =
@@ -57,7 +57,7 @@ module _ {bs : List ℕ} {nodes : ℕ} {fs : Rows} {top : ℕ} {t : Tab} {st : L
       ≡ (check (names_of bs) (frames_of t fs top) (expr_at (nodes_of bs) d left) >>= λ a. next >>= λ b. binary_rule i (binary_of node.arg) a b)
   unfolding next
   whole =
-      rw (e, o.read)
+      rw (o.first, o.inner.read)
       (binary_form (sound_nested r.sound) (names_of bs) (frames_of t fs top) (λ j. expr_at (nodes_of bs) d j) (own_place (nodes_of bs) d) i inside kind)
 
   module _ {v : Tab} {sv : List ℕ} {code place' number a b : ℕ}
@@ -110,7 +110,7 @@ module _ {bs : List ℕ} {nodes : ℕ} {fs : Rows} {top : ℕ} {t : Tab} {st : L
           wf = w₂.fine.grown.wf;
           first = omega (arith, w.below z, w₂.fine.grown.more);
           second = w₂.below y;
-          node = few r.sound o.there;
+          node = few r.sound o.inner.there;
           operator = operator;
         }
 
@@ -119,7 +119,7 @@ module _ {bs : List ℕ} {nodes : ℕ} {fs : Rows} {top : ℕ} {t : Tab} {st : L
             → Done (names_of bs) (check_form (names_of bs) (frames_of t fs top) i (form_at (nodes_of bs) (λ j. expr_at (nodes_of bs) d j) i)) t m st sx sp i
             (stop_of (nodes_of bs) i) (node_count bs) code₃ place₃ number₃ a₃ b₃
         binary_done y q =
-            let g = q.says (names_of bs) (node_count bs) o.there in
+            let g = q.says (names_of bs) (node_count bs) o.inner.there in
             record {
               told = told_as (told₂.well y ∙ ap (λ a. binary_rule i (binary_of node.arg) a (denote x number₂)) (sym (w₂.fine.grown.same number (w.below z)))) g.told;
               below = g.below;

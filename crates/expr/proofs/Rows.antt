@@ -1,14 +1,17 @@
 -- Rows of children: where each lies, that it may be as deep as is left, and where they end.
-use mathlib.Core.Path.{◌≡◌, ap, ◌∙◌}
+use mathlib.Core.Path.{◌≡◌, sym, ap, ◌∙◌}
 use mathlib.Core.List.{List}
 use Prim.Native.Nat.{ℕ, zero, suc, ◌+◌, ◌-◌, ◌≤◌, ◌<◌}
-use native.Mathlib.Numerals.{sub-one}
+use native.Mathlib.Numerals.{sub-one, add-one}
 use native.Mathlib.Omega.{arith}
 use lib.ListN.{length}
 use Rattle.meaning.specs.Image.{Node, node_count, nodes_of, node_of}
 use Rattle.meaning.specs.Decode.{stop_of, past}
 use Rattle.meaning.proofs.Faults.{Sound, sizes}
 use Rattle.meaning.proofs.Nesting.{sound_nested, nodes_many, Child, child, children_past, children, node_stands_lem, deeper}
+use Rattle.image.specs.declared.Cursor.{Cursor}
+use Rattle.image.specs.declared.Read.{Read}
+use Rattle.image.specs.Parts.{Moved, node_means}
 use Rattle.expr.specs.Contract.{At, Inner, Row}
 
 module _ {bs : List ℕ} (s : Sound bs) where
@@ -125,12 +128,31 @@ module _ {bs : List ℕ} (s : Sound bs) where
   pub few_nodes : node_count bs ≤ 4294967296
   few_nodes = omega (arith, (sizes s.headed).nodes)
 
--- the node was read
-pub inner_as : {bs : List ℕ} {i d : ℕ} {m n : Node} → m ≡ n → Inner bs i d n → Inner bs i d m
-inner_as p o = rw p o
+-- ---- a node that was read
 
-pub kind_of : {m n : Node} {k : ℕ} → m ≡ n → n.kind ≡ k → m.kind ≡ k
-kind_of p e = ap (λ y. y.kind) p ∙ e
+-- node i is there, of kind k, and its first child is at `from`
+pub record Opened (bs : List ℕ) (i d : ℕ) (node : Node) (k from : ℕ) : Type 0 where
+  pub inner : Inner bs i d node
+  pub kind : node.kind ≡ k
+  pub first : from ≡ suc i
+
+pub opened : {bs : List ℕ} {c : Cursor} {r : Read} {d k : ℕ} → Moved bs c r (c.at + 1)
+    → Inner bs c.at d (node_of (nodes_of bs) c.at) × ((node_of (nodes_of bs) c.at).kind ≡ k)
+    → Opened bs c.at d (node_means r.node) k r.cursor.at
+opened m o = record {
+  inner = rw m.node o.0;
+  kind = ap (λ y. y.kind) m.node ∙ o.1;
+  first = m.at ∙ add-one _;
+}
+
+-- its first child was passed over, and what comes next is at `from`
+pub record Behind (bs : List ℕ) (i : ℕ) (child : Node) (from : ℕ) : Type 0 where
+  pub read : child ≡ node_of (nodes_of bs) (suc i)
+  pub next : from ≡ child.stop
+
+pub behind : {bs : List ℕ} {i d : ℕ} {node : Node} {k : ℕ} {c : Cursor} {r : Read} → Opened bs i d node k c.at
+    → Moved bs c r (node_of (nodes_of bs) c.at).stop → Behind bs i (node_means r.node) r.cursor.at
+behind o m = record { read = rw o.first at m.node; next = m.at ∙ sym (ap (λ y. y.stop) m.node) }
 
 pub no_binary : {m n : Node} → m ≡ n → (m.kind ≡ 23 → ⊥) → n.kind ≡ 23 → ⊥
-no_binary p z e = z (kind_of p e)
+no_binary p z e = z (ap (λ y. y.kind) p ∙ e)

@@ -4,7 +4,6 @@ use mathlib.Core.Bool.{Bool, true, false}
 use mathlib.Core.List.{List}
 use Prim.Native.Nat.{ℕ, ◌+◌, ◌-◌, ◌≤◌, ◌<◌}
 use native.Mathlib.Omega.{arith}
-use Rattle.meaning.specs.Base.{test◌then◌else◌}
 use Rattle.meaning.specs.Image.{node_count, nodes_of, names_of}
 use Rattle.meaning.specs.Decode.{expr_at, stop_of, past}
 use Rattle.meaning.specs.Operators.{Checked, ◌>>=◌}
@@ -14,19 +13,26 @@ use Rattle.types.specs.Table.{Tab, denote}
 use Rattle.frames.specs.Env.{Rows, frames_of}
 use Rattle.frames.proofs.Laws.{frames_grown}
 use Rattle.rules.specs.Leaves.{callable_rule, second_rule}
-use Rattle.rules.proofs.Calls.{map_two, filter_two}
+use Rattle.rules.specs.Outcome.{types_named}
+use Rattle.rules.proofs.Calls.{map_two, filter_two, names_map, names_filter}
 use Rattle.state.specs.Giving.{Told, Given}
-use Rattle.nodes.specs.Operands.{first_code, Judges, Streamable, Ruled}
-use Rattle.expr.specs.Contract.{Ready, At, Row, Fine, Done, checks, stream_of}
+use Rattle.nodes.specs.Operands.{Judges, Streamable, Ruled}
+use Rattle.expr.specs.Contract.{Ready, At, Row, Fine, Done, checks, first_code, stream_of}
 use Rattle.expr.proofs.Rows.{row_at, row_next, row_long, ends_after, few}
 use Rattle.expr.proofs.Leaving.{fine_then, fine_wider, fine_node, fine_up, ready_narrow, ready_then}
 use Rattle.expr.proofs.Telling.{told_as, told_bind, told_ill, checks_first, checks_second, done_bind}
 
 two_rules : (filters : Bool) (cs : Children) → stream_of filters cs
     ≡ ((child 0 cs).1 >>= λ a. callable_rule (first_code filters) (child 0 cs).0 a >>= λ x. (child 1 cs).1 >>= λ b. second_rule filters (child 1 cs).0 b)
-unfolding stream_of first_code test◌then◌else◌
+unfolding stream_of first_code
 two_rules true cs = filter_two cs
 two_rules false cs = map_two cs
+
+-- the code names one type
+pub first_names : (filters : Bool) → types_named (first_code filters) ≡ 1
+unfolding first_code
+first_names true = names_filter
+first_names false = names_map
 
 module _ {bs : List ℕ} {nodes : ℕ} {fs : Rows} {top : ℕ} {t : Tab} {st : List ℕ} {sp from n d : ℕ} (filters : Bool)
     (r : Ready bs nodes fs top t st sp (from - 1) (past (nodes_of bs) n from)) (w : Row bs from n d) (h : 1 < n) where

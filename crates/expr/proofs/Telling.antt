@@ -16,7 +16,8 @@ use Rattle.types.specs.Table.{Tab, denote, Made}
 use Rattle.rules.proofs.Outcomes.{names_none}
 use Rattle.state.specs.Giving.{Told, Given}
 use Rattle.state.specs.Notes.{code_in, place_in, first_in, second_in, tab_in, Refused}
-use Rattle.state.proofs.Noting.{told_refused}
+use Rattle.state.specs.declared.Notes.{Notes}
+use Rattle.state.proofs.Noting.{same_tab, told_refused}
 use Rattle.expr.specs.Contract.{Fine, Done, checks}
 use Rattle.expr.proofs.Leaving.{fine_node}
 
@@ -101,13 +102,12 @@ module _ {ws : List Name} {r : Checked} {t u : Tab} {st su : List ℕ} {sp i e M
   }
 
 -- a refusal is noted
-pub done_refused : {ws : List Name} {r : Checked} {t : Tab} {cells ns ms : List ℕ} {st su : List ℕ} {sp i e M code place number a b : ℕ} → M ≤ 4294967296 → (code ≡ 0 → ⊥)
+pub done_refused : {ws : List Name} {r : Checked} {t : Tab} {cells : List ℕ} {ns ms : Notes} {st su : List ℕ} {sp i e M code place number a b : ℕ} → (code ≡ 0 → ⊥)
     → Done ws r t (tab_in cells ns) st su sp i e M code place number a b → Refused ns ms code place a b
     → Done ws r t (tab_in cells ms) st su sp i e M (code_in ms) (place_in ms) 0 (first_in ms) (second_in ms)
-done_refused {cells = cells} {ns} l z d f =
-    let w = d.fine.grown.wf in
-    rw (f.types_kept, f.elements_kept) record {
-      told = told_refused (ok (denote (tab_in cells ns) 0)) z w (omega (arith, d.told.placed z)) d.told f;
+done_refused {cells = cells} {ns} z d f =
+    rw (same_tab f.counts cells) record {
+      told = told_refused (ok (denote (tab_in cells ns) 0)) z d.told f;
       below = λ e. absurd (z (sym f.coded ∙ e));
       fine = d.fine;
     }

@@ -34,9 +34,9 @@ pub record Valuing (bs : List ℕ) (nodes : ℕ) (fs : Rows) (top : ℕ) (t : Ta
   pub answer : (k : List Ty → Checked) (ts : List Ty) → each (checks bs (frames_of t fs top) d n from) k ts
       ≡ each (checks bs (frames_of t fs top) d left i) k (ts ++ map (denote u) (take (up - sp) (drop sp su)))
 
-pub valuing_first : {bs : List ℕ} {nodes : ℕ} {fs : Rows} {top : ℕ} {t : Tab} {st : List ℕ} {sp from n d : ℕ}
-    → Ready bs nodes fs top t st sp from (past (nodes_of bs) n from) → Row bs from n d → Valuing bs nodes fs top t st sp from n d t st from n sp
-valuing_first {t = t} {st} {sp} {from} {n} r w = record {
+pub valuing_first : {bs : List ℕ} {nodes : ℕ} {fs : Rows} {top : ℕ} {t : Tab} {st : List ℕ} {sp from n d left up : ℕ}
+    → Ready bs nodes fs top t st sp from (past (nodes_of bs) n from) → Row bs from n d → left ≡ n → up ≡ sp → Valuing bs nodes fs top t st sp from n d t st from left up
+valuing_first {t = t} {st} {sp} {from} {n} r w y z = rw (y, z) record {
   ready = r;
   row = w;
   same = refl;
@@ -115,16 +115,13 @@ module _ {bs : List ℕ} {nodes : ℕ} {fs : Rows} {top : ℕ} {t : Tab} {st : L
       fine = fine_as (omega (arith, l.few)) (fine_wider (past (nodes_of bs) n from) (left - 1) behind passed);
     }
 
-    pub valuing_number : code ≡ 0 → number < 2056
-    valuing_number z = omega (arith, done.below z, done.fine.grown.wf.room, done.fine.grown.wf.most)
-
-    pub valuing_next : {j : ℕ} → code ≡ 0 → j ≡ stop_of (nodes_of bs) i
-        → Valuing bs nodes fs top t st sp from n d v (set sv up number) j (left - 1) (up + 1)
+    pub valuing_next : {j fewer more : ℕ} → code ≡ 0 → j ≡ stop_of (nodes_of bs) i → fewer ≡ left - 1 → more ≡ up + 1
+        → Valuing bs nodes fs top t st sp from n d v (set sv up number) j fewer more
     unfolding ◌>>=◌
-    valuing_next {j} z e =
+    valuing_next {j} z e f g =
         let low : sp ≤ up = omega (arith, l.mark, l.few) in
         let after = ends_after sound valuing_at.there in
-        rw e record {
+        rw (e, f, g) record {
           ready =
               ready_push number (stop_of (nodes_of bs) i) (omega (arith, l.ready.stack_room, after)) (omega (arith, after))
               (ready_then l.ready done.fine (omega (arith, after)));

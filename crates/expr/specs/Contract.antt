@@ -86,6 +86,11 @@ pub record Operand (bs : List ℕ) (i d : ℕ) : Type 0 where
 
 -- ---- calls of names
 
+-- the code that refuses the first argument of map, or of filter
+unfoldable pub first_code : Bool → ℕ
+first_code true = 44
+first_code false = 42
+
 -- map, or filter
 unfoldable pub stream_of : Bool → Children → Checked
 stream_of true cs = stream_rule 44 filter_iter cs

@@ -8,18 +8,18 @@ ghost use Rattle.meaning.specs.Types.{plain};
 ghost use Rattle.meaning.specs.Rules.{each_then, first_then, input_rule, len_rule, range_rule};
 ghost use Rattle.calls.specs.Planning.{rule_of, Enough};
 ghost use Rattle.state.specs.Lent.{lent};
-ghost use Rattle.expr.specs.Contract.{stream_of};
-ghost use Rattle.expr.specs.Clauses.{Any, Checkable, OfKind, Ruled, InRow, Called};
+ghost use Rattle.codes.specs.Codes.{code_number};
+ghost use Rattle.expr.specs.Contract.{first_code, stream_of};
+ghost use Rattle.expr.specs.Clauses.{Any, Checkable, Compound, OfKind, Ruled, InRow, Called};
 ghost use Rattle.expr.specs.Clauses.{Checks, ChecksForm, ChecksAll, Calls};
 
-use calls::{Plan, Rule, plan_of};
+use calls::{Rule, plan_of};
+use codes::Code;
 use frames::{Frames, lookup};
 use image::{Cursor, kinds};
-use nodes::{
-    applied, bounded, decide, dict_of, list_of, literal, operated, prompted, sized, streamed,
-};
-use rules::{dict_step, list_step};
-use state::{Notes, Outcome, Stack, Typed, push, refuse};
+use nodes::{decide, dict_of, list_of, literal, streamed};
+use rules::{Pair, bound, callable, dict_step, list_step, prompt};
+use state::{Outcome, Typed, Walk};
 use types;
 
 // A call of a name: its node, the cursor at its first argument, and how many there are.
@@ -30,540 +30,439 @@ pub struct NameCall {
     pub count: usize,
 }
 
+// What the check of an expression reads and never changes: the image, the frames, and the newest one's row.
+#[derive(Clone, Copy)]
+pub struct Scope<'a> {
+    pub image: &'a [u8],
+    pub frames: &'a Frames,
+    pub top: usize,
+}
+
 // The expression at the cursor.
-#[cycle(tc_expr)]
 pub fn tc_expr(
     image: &[u8],
     here: Cursor,
     frames: &Frames,
     top: usize,
     table: &mut [u16],
-    notes: &mut Notes,
-    stack: &mut Stack,
+    w: &mut Walk,
     sp: usize,
     depth: usize,
 ) -> Typed
     requires { Checkable image.now here top sp depth
-        (lent frames.now table.old notes.old stack.old) }
+        (lent frames.now table.old w.old) }
     ensures { Checks image.now here top sp depth result
-        (lent frames.now table.old notes.old stack.old)
-        (lent frames.now table.new notes.new stack.new) }
+        (lent frames.now table.old w.old)
+        (lent frames.now table.new w.new) }
 {
-    let read = here.next(image);
+    expression(&Scope { image, frames, top }, here, table, w, sp, depth)
+}
+
+// The same in its scope. Most nodes are Literals and Variables: these are decided without a further call.
+#[cycle(expression)]
+fn expression(
+    scope: &Scope,
+    here: Cursor,
+    table: &mut [u16],
+    w: &mut Walk,
+    sp: usize,
+    depth: usize,
+) -> Typed
+    requires { Checkable scope.now.image.now here scope.now.top sp depth
+        (lent scope.now.frames.now table.old w.old) }
+    ensures { Checks scope.now.image.now here scope.now.top sp depth result
+        (lent scope.now.frames.now table.old w.old)
+        (lent scope.now.frames.now table.new w.new) }
+{
+    let read = here.next(scope.image);
     let node = read.node;
-    let kind = node.kind;
-    match kind {
-        kinds::LITERAL => Typed::Ok(literal(node.arg)),
-        kinds::VARIABLE => {
-            let known = lookup(frames, top, node.arg as usize);
-            Typed::Ok(known.ty)
-        }
-        kinds::BINARY => binary(image, here, frames, top, table, notes, stack, sp, depth - 1),
-        kinds::CALL => call(image, here, frames, top, table, notes, stack, sp, depth - 1),
-        kinds::LIST => list(image, here, frames, top, table, notes, stack, sp, depth - 1),
-        kinds::DICT => dict(image, here, frames, top, table, notes, stack, sp, depth - 1),
-        kinds::UNARY | kinds::ATTRIBUTE | kinds::TUPLE..=kinds::INDEX => {
-            operands(image, here, frames, top, table, notes, stack, sp, depth - 1)
-        }
-        _ => Typed::Ok(types::FUNCTION),
+    match node.kind {
+        kinds::LITERAL => Ok(literal(node.arg)),
+        kinds::VARIABLE => Ok(lookup(scope.frames, scope.top, node.arg as usize).ty),
+        kind => compound(scope, here, table, w, sp, depth, kind),
     }
 }
 
-// The same for a child. Most nodes are Literals and Variables: these are decided without a call.
-#[cycle(tc_expr)]
-fn child(
-    image: &[u8],
+// Any other expression, of kind `kind`.
+#[cycle(expression)]
+fn compound(
+    scope: &Scope,
     here: Cursor,
-    frames: &Frames,
-    top: usize,
     table: &mut [u16],
-    notes: &mut Notes,
-    stack: &mut Stack,
+    w: &mut Walk,
     sp: usize,
     depth: usize,
+    kind: u32,
 ) -> Typed
-    requires { Checkable image.now here top sp depth
-        (lent frames.now table.old notes.old stack.old) }
-    ensures { Checks image.now here top sp depth result
-        (lent frames.now table.old notes.old stack.old)
-        (lent frames.now table.new notes.new stack.new) }
+    requires { Compound kind scope.now.image.now here scope.now.top sp depth
+        (lent scope.now.frames.now table.old w.old) }
+    ensures { Checks scope.now.image.now here scope.now.top sp depth result
+        (lent scope.now.frames.now table.old w.old)
+        (lent scope.now.frames.now table.new w.new) }
 {
-    let read = here.next(image);
-    let node = read.node;
-    if node.kind == kinds::LITERAL {
-        return Typed::Ok(literal(node.arg));
+    match kind {
+        kinds::BINARY => binary(scope, here, table, w, sp, depth - 1),
+        kinds::CALL => call(scope, here, table, w, sp, depth - 1),
+        kinds::LIST => list(scope, here, table, w, sp, depth - 1),
+        kinds::DICT => dict(scope, here, table, w, sp, depth - 1),
+        kinds::UNARY | kinds::ATTRIBUTE | kinds::TUPLE..=kinds::INDEX => {
+            operands(scope, here, table, w, sp, depth - 1)
+        }
+        _ => Ok(types::FUNCTION),
     }
-    if node.kind == kinds::VARIABLE {
-        let known = lookup(frames, top, node.arg as usize);
-        return Typed::Ok(known.ty);
-    }
-    tc_expr(image, here, frames, top, table, notes, stack, sp, depth)
 }
 
 // n expressions from the cursor on, their types on the stack from sp on.
-#[cycle(tc_expr)]
+#[cycle(expression)]
 fn values(
-    image: &[u8],
+    scope: &Scope,
     from: Cursor,
-    frames: &Frames,
-    top: usize,
     table: &mut [u16],
-    notes: &mut Notes,
-    stack: &mut Stack,
+    w: &mut Walk,
     sp: usize,
     depth: usize,
     n: usize,
 ) -> Outcome
-    requires { InRow image.now from top sp n depth
-        (lent frames.now table.old notes.old stack.old) }
-    ensures { ChecksAll image.now from top sp n depth result
-        (lent frames.now table.old notes.old stack.old)
-        (lent frames.now table.new notes.new stack.new) }
+    requires { InRow scope.now.image.now from scope.now.top sp n depth
+        (lent scope.now.frames.now table.old w.old) }
+    ensures { ChecksAll scope.now.image.now from scope.now.top sp n depth result
+        (lent scope.now.frames.now table.old w.old)
+        (lent scope.now.frames.now table.new w.new) }
 {
     let mut next = from;
-    let mut left = n;
-    let mut up = sp;
-    while 0 < left {
-        let r = child(image, next, frames, top, table, notes, stack, up, depth);
-        let Typed::Ok(ty) = r else {
-            return Outcome::Err;
-        };
-        push(stack, up, ty);
-        up += 1;
-        let passed = next.over(image);
-        next = passed.cursor;
-        left -= 1;
+    for i in 0..n {
+        let ty = expression(scope, next, table, w, sp + i, depth)?;
+        w.stack[sp + i] = ty as u16;
+        next = next.over(scope.image).cursor;
     }
-    Outcome::Ok
+    Ok(())
 }
 
 // A node whose children are all checked before its rule looks at them.
-#[cycle(tc_expr)]
+#[cycle(expression)]
 fn operands(
-    image: &[u8],
+    scope: &Scope,
     here: Cursor,
-    frames: &Frames,
-    top: usize,
     table: &mut [u16],
-    notes: &mut Notes,
-    stack: &mut Stack,
+    w: &mut Walk,
     sp: usize,
     depth: usize,
 ) -> Typed
-    requires { Ruled image.now here top sp depth
-        (lent frames.now table.old notes.old stack.old) }
-    ensures { ChecksForm image.now here top sp depth result
-        (lent frames.now table.old notes.old stack.old)
-        (lent frames.now table.new notes.new stack.new) }
+    requires { Ruled scope.now.image.now here scope.now.top sp depth
+        (lent scope.now.frames.now table.old w.old) }
+    ensures { ChecksForm scope.now.image.now here scope.now.top sp depth result
+        (lent scope.now.frames.now table.old w.old)
+        (lent scope.now.frames.now table.new w.new) }
 {
-    let read = here.next(image);
-    let node = read.node;
+    let read = here.next(scope.image);
     let first = read.cursor;
-    let n = node.children as usize;
-    let r = values(image, first, frames, top, table, notes, stack, sp, depth, n);
-    let Outcome::Ok = r else {
-        return Typed::Err;
-    };
-    decide(image, here, table, notes, stack, sp)
+    let n = read.node.children as usize;
+    values(scope, first, table, w, sp, depth, n)?;
+    decide(scope.image, here, table, &mut w.notes, &w.stack, sp)
 }
 
 // A Binary: its operands, and then its rule.
-#[cycle(tc_expr)]
+#[cycle(expression)]
 fn binary(
-    image: &[u8],
+    scope: &Scope,
     here: Cursor,
-    frames: &Frames,
-    top: usize,
     table: &mut [u16],
-    notes: &mut Notes,
-    stack: &mut Stack,
+    w: &mut Walk,
     sp: usize,
     depth: usize,
 ) -> Typed
-    requires { OfKind 23 image.now here top sp depth
-        (lent frames.now table.old notes.old stack.old) }
-    ensures { ChecksForm image.now here top sp depth result
-        (lent frames.now table.old notes.old stack.old)
-        (lent frames.now table.new notes.new stack.new) }
+    requires { OfKind 23 scope.now.image.now here scope.now.top sp depth
+        (lent scope.now.frames.now table.old w.old) }
+    ensures { ChecksForm scope.now.image.now here scope.now.top sp depth result
+        (lent scope.now.frames.now table.old w.old)
+        (lent scope.now.frames.now table.new w.new) }
 {
-    let read = here.next(image);
+    let read = here.next(scope.image);
     let node = read.node;
     let left = read.cursor;
-    let l = child(image, left, frames, top, table, notes, stack, sp, depth);
-    let Typed::Ok(a) = l else {
-        return l;
-    };
-    let passed = left.over(image);
-    let right = passed.cursor;
-    let r = child(image, right, frames, top, table, notes, stack, sp, depth);
-    let Typed::Ok(b) = r else {
-        return r;
-    };
-    operated(table, notes, a, b, here.at, node.arg)
+    let a = expression(scope, left, table, w, sp, depth)?;
+    let right = left.over(scope.image).cursor;
+    let b = expression(scope, right, table, w, sp, depth)?;
+    let decision = rules::binary(table, node.arg, a, b);
+    w.notes.settle(decision, here.at)
 }
 
 // A List: "List stops at the first mismatch".
-#[cycle(tc_expr)]
+#[cycle(expression)]
 fn list(
-    image: &[u8],
+    scope: &Scope,
     here: Cursor,
-    frames: &Frames,
-    top: usize,
     table: &mut [u16],
-    notes: &mut Notes,
-    stack: &mut Stack,
+    w: &mut Walk,
     sp: usize,
     depth: usize,
 ) -> Typed
-    requires { OfKind 26 image.now here top sp depth
-        (lent frames.now table.old notes.old stack.old) }
-    ensures { ChecksForm image.now here top sp depth result
-        (lent frames.now table.old notes.old stack.old)
-        (lent frames.now table.new notes.new stack.new) }
+    requires { OfKind 26 scope.now.image.now here scope.now.top sp depth
+        (lent scope.now.frames.now table.old w.old) }
+    ensures { ChecksForm scope.now.image.now here scope.now.top sp depth result
+        (lent scope.now.frames.now table.old w.old)
+        (lent scope.now.frames.now table.new w.new) }
 {
-    let read = here.next(image);
-    let node = read.node;
+    let read = here.next(scope.image);
     let mut next = read.cursor;
-    let mut left = node.children as usize;
     let mut element = types::UNKNOWN;
-    while 0 < left {
-        let r = child(image, next, frames, top, table, notes, stack, sp, depth);
-        let Typed::Ok(ty) = r else {
-            return r;
+    for _ in 0..read.node.children {
+        let ty = expression(scope, next, table, w, sp, depth)?;
+        let Some(joined) = list_step(element, ty) else {
+            return Ok(list_of(table, &mut w.notes.counts, types::UNKNOWN));
         };
-        let step = list_step(element, ty);
-        element = step.number;
-        if step.stop {
-            return Typed::Ok(list_of(table, notes, element));
-        }
-        let passed = next.over(image);
-        next = passed.cursor;
-        left -= 1;
+        element = joined;
+        next = next.over(scope.image).cursor;
     }
-    Typed::Ok(list_of(table, notes, element))
+    Ok(list_of(table, &mut w.notes.counts, element))
 }
 
 // A Dict: "Dict stops only when key and value are both Unknown after a pair".
-#[cycle(tc_expr)]
+#[cycle(expression)]
 fn dict(
-    image: &[u8],
+    scope: &Scope,
     here: Cursor,
-    frames: &Frames,
-    top: usize,
     table: &mut [u16],
-    notes: &mut Notes,
-    stack: &mut Stack,
+    w: &mut Walk,
     sp: usize,
     depth: usize,
 ) -> Typed
-    requires { OfKind 27 image.now here top sp depth
-        (lent frames.now table.old notes.old stack.old) }
-    ensures { ChecksForm image.now here top sp depth result
-        (lent frames.now table.old notes.old stack.old)
-        (lent frames.now table.new notes.new stack.new) }
+    requires { OfKind 27 scope.now.image.now here scope.now.top sp depth
+        (lent scope.now.frames.now table.old w.old) }
+    ensures { ChecksForm scope.now.image.now here scope.now.top sp depth result
+        (lent scope.now.frames.now table.old w.old)
+        (lent scope.now.frames.now table.new w.new) }
 {
-    let read = here.next(image);
-    let node = read.node;
+    let read = here.next(scope.image);
     let mut next = read.cursor;
-    let mut left = node.children as usize;
-    let mut key = types::UNKNOWN;
-    let mut value = types::UNKNOWN;
-    while 1 < left {
-        let k = child(image, next, frames, top, table, notes, stack, sp, depth);
-        let Typed::Ok(a) = k else {
-            return k;
+    let mut so_far = Pair {
+        key: types::UNKNOWN,
+        value: types::UNKNOWN,
+    };
+    for _ in 0..read.node.children / 2 {
+        let key = expression(scope, next, table, w, sp, depth)?;
+        let second = next.over(scope.image).cursor;
+        let value = expression(scope, second, table, w, sp, depth)?;
+        let Some(joined) = dict_step(so_far, Pair { key, value }) else {
+            return Ok(dict_of(table, &mut w.notes.counts, types::UNKNOWN, types::UNKNOWN));
         };
-        let passed = next.over(image);
-        let second = passed.cursor;
-        let v = child(image, second, frames, top, table, notes, stack, sp, depth);
-        let Typed::Ok(b) = v else {
-            return v;
-        };
-        let pair = dict_step(key, value, a, b);
-        key = pair.key;
-        value = pair.value;
-        if pair.stop {
-            return Typed::Ok(dict_of(table, notes, key, value));
-        }
-        let after = second.over(image);
-        next = after.cursor;
-        left -= 2;
+        so_far = joined;
+        next = second.over(scope.image).cursor;
     }
-    Typed::Ok(dict_of(table, notes, key, value))
+    Ok(dict_of(table, &mut w.notes.counts, so_far.key, so_far.value))
 }
 
 // ---- calls
 
 // A Call: a Variable that is called goes by its name's role and is not looked up; any other callee is checked first.
-#[cycle(tc_expr)]
+#[cycle(expression)]
 fn call(
-    image: &[u8],
+    scope: &Scope,
     here: Cursor,
-    frames: &Frames,
-    top: usize,
     table: &mut [u16],
-    notes: &mut Notes,
-    stack: &mut Stack,
+    w: &mut Walk,
     sp: usize,
     depth: usize,
 ) -> Typed
-    requires { OfKind 24 image.now here top sp depth
-        (lent frames.now table.old notes.old stack.old) }
-    ensures { ChecksForm image.now here top sp depth result
-        (lent frames.now table.old notes.old stack.old)
-        (lent frames.now table.new notes.new stack.new) }
+    requires { OfKind 24 scope.now.image.now here scope.now.top sp depth
+        (lent scope.now.frames.now table.old w.old) }
+    ensures { ChecksForm scope.now.image.now here scope.now.top sp depth result
+        (lent scope.now.frames.now table.old w.old)
+        (lent scope.now.frames.now table.new w.new) }
 {
-    let read = here.next(image);
+    let read = here.next(scope.image);
     let node = read.node;
     let callee = read.cursor;
-    let passed = callee.over(image);
+    let passed = callee.over(scope.image);
     let function = passed.node;
     if function.kind != kinds::VARIABLE {
-        return operands(image, here, frames, top, table, notes, stack, sp, depth);
+        return operands(scope, here, table, w, sp, depth);
     }
     let name = function.arg as usize;
     let count = node.children - 1;
-    let planned = plan_of(image, name, count);
-    let first = passed.cursor;
-    match planned {
-        Plan::By(rule) => {
-            let call = NameCall {
-                at: here.at,
-                first,
-                count: count as usize,
-            };
-            arguments(
-                image, call, frames, top, table, notes, stack, sp, depth, rule,
-            )
-        }
-        Plan::Refused(code) => {
-            refuse(notes, code, here.at, name, count as usize);
-            Typed::Err
-        }
+    let call = NameCall {
+        at: here.at,
+        first: passed.cursor,
+        count: count as usize,
+    };
+    match plan_of(scope.image, name, count) {
+        Ok(rule) => arguments(scope, call, table, w, sp, depth, rule),
+        Err(code) => Err(w.notes.refuse(code, here.at, name, call.count)),
     }
 }
 
 // The arguments of a call, by its rule: what a rule does not look at is not checked.
-#[cycle(tc_expr)]
+#[cycle(expression)]
 fn arguments(
-    image: &[u8],
+    scope: &Scope,
     call: NameCall,
-    frames: &Frames,
-    top: usize,
     table: &mut [u16],
-    notes: &mut Notes,
-    stack: &mut Stack,
+    w: &mut Walk,
     sp: usize,
     depth: usize,
     rule: Rule,
 ) -> Typed
-    requires { Called image.now call top sp depth (Enough rule call.count)
-        (lent frames.now table.old notes.old stack.old) }
-    ensures { Calls (rule_of rule call.at) image.now call top sp depth result
-        (lent frames.now table.old notes.old stack.old)
-        (lent frames.now table.new notes.new stack.new) }
+    requires { Called scope.now.image.now call scope.now.top sp depth (Enough rule call.count)
+        (lent scope.now.frames.now table.old w.old) }
+    ensures { Calls (rule_of rule call.at) scope.now.image.now call scope.now.top sp depth result
+        (lent scope.now.frames.now table.old w.old)
+        (lent scope.now.frames.now table.new w.new) }
 {
     match rule {
-        Rule::Each(ty) => each_then(image, call, frames, top, table, notes, stack, sp, depth, ty),
-        Rule::First(ty) => first_then(image, call, frames, top, table, notes, stack, sp, depth, ty),
-        Rule::Input => input(image, call, frames, top, table, notes, stack, sp, depth),
-        Rule::Len => len(image, call, frames, top, table, notes, stack, sp, depth),
-        Rule::Range => range(image, call, frames, top, table, notes, stack, sp, depth),
-        Rule::Map => stream(
-            image, call, frames, top, table, notes, stack, sp, depth, false,
-        ),
-        Rule::Filter => stream(
-            image, call, frames, top, table, notes, stack, sp, depth, true,
-        ),
+        Rule::Each(ty) => each_then(scope, call, table, w, sp, depth, ty),
+        Rule::First(ty) => first_then(scope, call, table, w, sp, depth, ty),
+        Rule::Input => input(scope, call, table, w, sp, depth),
+        Rule::Len => len(scope, call, table, w, sp, depth),
+        Rule::Range => range(scope, call, table, w, sp, depth),
+        Rule::Map => stream(scope, call, table, w, sp, depth, false),
+        Rule::Filter => stream(scope, call, table, w, sp, depth, true),
     }
 }
 
 // Every argument is checked, and the type is `ty`.
-#[cycle(tc_expr)]
+#[cycle(expression)]
 fn each_then(
-    image: &[u8],
+    scope: &Scope,
     call: NameCall,
-    frames: &Frames,
-    top: usize,
     table: &mut [u16],
-    notes: &mut Notes,
-    stack: &mut Stack,
+    w: &mut Walk,
     sp: usize,
     depth: usize,
     ty: usize,
 ) -> Typed
-    requires { Called image.now call top sp depth (ty < 8)
-        (lent frames.now table.old notes.old stack.old) }
-    ensures { Calls (each_then (plain ty)) image.now call top sp depth result
-        (lent frames.now table.old notes.old stack.old)
-        (lent frames.now table.new notes.new stack.new) }
+    requires { Called scope.now.image.now call scope.now.top sp depth (ty < 8)
+        (lent scope.now.frames.now table.old w.old) }
+    ensures { Calls (each_then (plain ty)) scope.now.image.now call scope.now.top sp depth result
+        (lent scope.now.frames.now table.old w.old)
+        (lent scope.now.frames.now table.new w.new) }
 {
-    let first = call.first;
-    let r = values(
-        image, first, frames, top, table, notes, stack, sp, depth, call.count,
-    );
-    let Outcome::Ok = r else {
-        return Typed::Err;
-    };
-    Typed::Ok(ty)
+    values(scope, call.first, table, w, sp, depth, call.count)?;
+    Ok(ty)
 }
 
 // The first argument is checked, and the type is `ty`.
-#[cycle(tc_expr)]
+#[cycle(expression)]
 fn first_then(
-    image: &[u8],
+    scope: &Scope,
     call: NameCall,
-    frames: &Frames,
-    top: usize,
     table: &mut [u16],
-    notes: &mut Notes,
-    stack: &mut Stack,
+    w: &mut Walk,
     sp: usize,
     depth: usize,
     ty: usize,
 ) -> Typed
-    requires { Called image.now call top sp depth ((ty < 8) × (0 < call.count))
-        (lent frames.now table.old notes.old stack.old) }
-    ensures { Calls (first_then (plain ty)) image.now call top sp depth result
-        (lent frames.now table.old notes.old stack.old)
-        (lent frames.now table.new notes.new stack.new) }
+    requires { Called scope.now.image.now call scope.now.top sp depth ((ty < 8) × (0 < call.count))
+        (lent scope.now.frames.now table.old w.old) }
+    ensures { Calls (first_then (plain ty)) scope.now.image.now call scope.now.top sp depth result
+        (lent scope.now.frames.now table.old w.old)
+        (lent scope.now.frames.now table.new w.new) }
 {
-    let first = call.first;
-    let r = child(image, first, frames, top, table, notes, stack, sp, depth);
-    let Typed::Ok(_) = r else {
-        return r;
-    };
-    Typed::Ok(ty)
+    expression(scope, call.first, table, w, sp, depth)?;
+    Ok(ty)
 }
 
 // `input`, whose prompt is a String if there is one.
-#[cycle(tc_expr)]
+#[cycle(expression)]
 fn input(
-    image: &[u8],
+    scope: &Scope,
     call: NameCall,
-    frames: &Frames,
-    top: usize,
     table: &mut [u16],
-    notes: &mut Notes,
-    stack: &mut Stack,
+    w: &mut Walk,
     sp: usize,
     depth: usize,
 ) -> Typed
-    requires { Called image.now call top sp depth Any
-        (lent frames.now table.old notes.old stack.old) }
-    ensures { Calls (input_rule call.at) image.now call top sp depth result
-        (lent frames.now table.old notes.old stack.old)
-        (lent frames.now table.new notes.new stack.new) }
+    requires { Called scope.now.image.now call scope.now.top sp depth Any
+        (lent scope.now.frames.now table.old w.old) }
+    ensures { Calls (input_rule call.at) scope.now.image.now call scope.now.top sp depth result
+        (lent scope.now.frames.now table.old w.old)
+        (lent scope.now.frames.now table.new w.new) }
 {
     if call.count != 1 {
-        return Typed::Ok(types::STRING);
+        return Ok(types::STRING);
     }
-    let first = call.first;
-    let r = child(image, first, frames, top, table, notes, stack, sp, depth);
-    let Typed::Ok(ty) = r else {
-        return r;
-    };
-    prompted(notes, ty, call.at)
+    let ty = expression(scope, call.first, table, w, sp, depth)?;
+    w.notes.settle(prompt(ty), call.at)
 }
 
 // `len`.
-#[cycle(tc_expr)]
+#[cycle(expression)]
 fn len(
-    image: &[u8],
+    scope: &Scope,
     call: NameCall,
-    frames: &Frames,
-    top: usize,
     table: &mut [u16],
-    notes: &mut Notes,
-    stack: &mut Stack,
+    w: &mut Walk,
     sp: usize,
     depth: usize,
 ) -> Typed
-    requires { Called image.now call top sp depth (0 < call.count)
-        (lent frames.now table.old notes.old stack.old) }
-    ensures { Calls (len_rule call.at) image.now call top sp depth result
-        (lent frames.now table.old notes.old stack.old)
-        (lent frames.now table.new notes.new stack.new) }
+    requires { Called scope.now.image.now call scope.now.top sp depth (0 < call.count)
+        (lent scope.now.frames.now table.old w.old) }
+    ensures { Calls (len_rule call.at) scope.now.image.now call scope.now.top sp depth result
+        (lent scope.now.frames.now table.old w.old)
+        (lent scope.now.frames.now table.new w.new) }
 {
-    let first = call.first;
-    let r = child(image, first, frames, top, table, notes, stack, sp, depth);
-    let Typed::Ok(ty) = r else {
-        return r;
-    };
-    sized(table, notes, ty, call.at)
+    let ty = expression(scope, call.first, table, w, sp, depth)?;
+    w.notes.settle(rules::len(table, ty), call.at)
 }
 
 // `range`: a wrong argument ends it before the next is looked at.
-#[cycle(tc_expr)]
+#[cycle(expression)]
 fn range(
-    image: &[u8],
+    scope: &Scope,
     call: NameCall,
-    frames: &Frames,
-    top: usize,
     table: &mut [u16],
-    notes: &mut Notes,
-    stack: &mut Stack,
+    w: &mut Walk,
     sp: usize,
     depth: usize,
 ) -> Typed
-    requires { Called image.now call top sp depth Any
-        (lent frames.now table.old notes.old stack.old) }
-    ensures { Calls (range_rule call.at) image.now call top sp depth result
-        (lent frames.now table.old notes.old stack.old)
-        (lent frames.now table.new notes.new stack.new) }
+    requires { Called scope.now.image.now call scope.now.top sp depth Any
+        (lent scope.now.frames.now table.old w.old) }
+    ensures { Calls (range_rule call.at) scope.now.image.now call scope.now.top sp depth result
+        (lent scope.now.frames.now table.old w.old)
+        (lent scope.now.frames.now table.new w.new) }
 {
     let mut next = call.first;
-    let mut left = call.count;
-    while 0 < left {
-        let r = child(image, next, frames, top, table, notes, stack, sp, depth);
-        let Typed::Ok(ty) = r else {
-            return r;
-        };
-        let judged = bounded(notes, ty, call.at);
-        let Typed::Ok(_) = judged else {
-            return judged;
-        };
-        let passed = next.over(image);
-        next = passed.cursor;
-        left -= 1;
+    for _ in 0..call.count {
+        let ty = expression(scope, next, table, w, sp, depth)?;
+        w.notes.settle(bound(ty), call.at)?;
+        next = next.over(scope.image).cursor;
     }
-    Typed::Ok(types::RANGE)
+    Ok(types::RANGE)
+}
+
+// The code that refuses the first argument: 42 for `map`, 44 for `filter`.
+#[tactic(auto, unfolding(crate::specs::Contract::first_code))]
+fn first_code(filters: bool) -> Code
+    ensures { code_number result ≡ first_code filters }
+{
+    if filters {
+        Code::FilterFirst
+    } else {
+        Code::MapFirst
+    }
 }
 
 // `map` and `filter`: the first argument is judged before the second is looked at.
-#[cycle(tc_expr)]
+#[cycle(expression)]
 fn stream(
-    image: &[u8],
+    scope: &Scope,
     call: NameCall,
-    frames: &Frames,
-    top: usize,
     table: &mut [u16],
-    notes: &mut Notes,
-    stack: &mut Stack,
+    w: &mut Walk,
     sp: usize,
     depth: usize,
     filters: bool,
 ) -> Typed
-    requires { Called image.now call top sp depth (1 < call.count)
-        (lent frames.now table.old notes.old stack.old) }
-    ensures { Calls (stream_of filters) image.now call top sp depth result
-        (lent frames.now table.old notes.old stack.old)
-        (lent frames.now table.new notes.new stack.new) }
+    requires { Called scope.now.image.now call scope.now.top sp depth (1 < call.count)
+        (lent scope.now.frames.now table.old w.old) }
+    ensures { Calls (stream_of filters) scope.now.image.now call scope.now.top sp depth result
+        (lent scope.now.frames.now table.old w.old)
+        (lent scope.now.frames.now table.new w.new) }
 {
     let first = call.first;
-    let f = child(image, first, frames, top, table, notes, stack, sp, depth);
-    let Typed::Ok(function) = f else {
-        return f;
-    };
-    let judged = applied(notes, filters, function, first.at);
-    let Typed::Ok(_) = judged else {
-        return judged;
-    };
-    let passed = first.over(image);
-    let second = passed.cursor;
-    let s = child(image, second, frames, top, table, notes, stack, sp, depth);
-    let Typed::Ok(iterable) = s else {
-        return s;
-    };
-    streamed(table, notes, filters, iterable, second.at)
+    let function = expression(scope, first, table, w, sp, depth)?;
+    let judged = callable(function, first_code(filters));
+    w.notes.settle(judged, first.at)?;
+    let second = first.over(scope.image).cursor;
+    let iterable = expression(scope, second, table, w, sp, depth)?;
+    streamed(table, &mut w.notes, filters, iterable, second.at)
 }

@@ -3,6 +3,7 @@ use mathlib.Core.Path.{◌≡◌, refl, sym, ap, ◌∙◌, subst}
 use mathlib.Core.List.{List, [], ◌∷◌, map, tail}
 use mathlib.Core.Bool.{Bool, true, false}
 use mathlib.Core.Option.{Option, none, some, none-ne-some}
+use Rattle.std.specs.Prelude.{Some, None}
 use Prim.Native.Nat.{ℕ, zero, suc, ◌+◌, ◌-◌, ◌*◌, ◌≤◌, ◌<◌}
 use native.Mathlib.Omega.{arith}
 use native.Mathlib.Decide.{dec_lt, ℕ_discrete}
@@ -15,17 +16,19 @@ use Rattle.types.specs.Table.{Tab, denote, Wf, Means, Grown}
 use Rattle.types.proofs.Laws.{unknown_number, same_unknown}
 use Rattle.meaning.specs.Base.{test◌then◌else◌, if_some, or_else}
 use Rattle.meaning.specs.Frames.{Binding, binding, blank, since, newest, slot_in, find, lookup, write, empty}
-use Rattle.frames.specs.Env.{Rows, cell_room, type_in, node_in, absent_row, cell, put, pick, look, node_from, slot_as, slot, frame_of, below, frames_of, Fit, slot_type, Holds, first_node, first_number, FirstBelow, binding_in, Known, Looked, Bound}
-use Rattle.frames.specs.declared.Held.TheVariants.{Absent, OfType}
-use Rattle.frames.specs.declared.First.{First}
-use Rattle.frames.specs.declared.First.TheVariants.{Nowhere, At}
+use Rattle.frames.specs.Env.{First, Held, Rows, cell_room, type_in, node_in, absent_row, cell, put, pick, look, node_from, slot_as, slot, frame_of, below, frames_of, Fit, slot_type, Holds, first_node, first_number, FirstBelow, binding_in, Known, Looked, Bound}
 use Rattle.frames.specs.declared.Binding.{Binding as Found}
 
 -- ---- lookup
-pub look_down : (fs : Rows) (x i : ℕ) → 0 < i → look fs i x ≡ pick (eqb (type_in (cell fs (i - 1) x)) 0) (look fs (i - 1) x) (cell fs (i - 1) x)
+look_down : (fs : Rows) (x i : ℕ) → look fs (i + 1) x ≡ pick (eqb (type_in (cell fs i x)) 0) (look fs i x) (cell fs i x)
 unfolding look
-look_down fs x zero h = absurd (omega arith)
-look_down fs x (suc k) h = rw sub-one
+look_down fs x i = rw add-one
+
+pub look_on : (fs : Rows) (x i : ℕ) → type_in (cell fs i x) ≡ 0 → look fs (i + 1) x ≡ look fs i x
+look_on fs x i e = look_down fs x i ∙ rw (eq-eqb _ _ e)
+
+pub look_here : (fs : Rows) (x i : ℕ) {k : ℕ} → type_in (cell fs i x) ≡ suc k → look fs (i + 1) x ≡ cell fs i x
+look_here fs x i {k} e = look_down fs x i ∙ rw (ne_eqb (type_in (cell fs i x)) 0 (λ z. absurd (omega arith)))
 
 -- a slot of a row's frame
 pub slot_row : (t : Tab) (row : List ℕ) (x : ℕ) → get_or (frame_of t row) x none ≡ slot t (get_or row x 0)
@@ -196,23 +199,28 @@ look_le {t} {fs} f x (suc k) h =
 -- ---- what callers learn: types and first nodes, and no cells
 
 -- what the cell of the top row says that the newest frame holds
-pub held_none : {fs : Rows} {top x : ℕ} → type_in (cell fs top x) ≡ 0 → Holds fs top x Absent
+held_none : {fs : Rows} {top x : ℕ} → type_in (cell fs top x) ≡ 0 → Holds fs top x None
 held_none {fs} {top} {x} z = record {
   says = λ t. ap slot_type (slot_frames t fs top x ∙ slot_none t (cell fs top x) z);
   known = λ t f. tt;
   small = tt;
 }
 
-pub held_some : {fs : Rows} {top x r : ℕ} → type_in (cell fs top x) ≡ suc r → Holds fs top x (OfType r)
+held_some : {fs : Rows} {top x r : ℕ} → type_in (cell fs top x) ≡ suc r → Holds fs top x (Some r)
 held_some {fs} {top} {x} {r} e = record {
   says = λ t. ap slot_type (slot_frames t fs top x ∙ slot_some t (cell fs top x) r e);
   known = λ t f. omega (arith, f.known top x f.high);
   small = omega arith;
 }
 
+-- as the cell's half tells
+pub held : {fs : Rows} {top x : ℕ} (h : Held) → type_in (cell fs top x) ≡ first_number h → Holds fs top x h
+held None e = held_none e
+held (Some r) e = held_some e
+
 pub none_below : (f : First) (n : ℕ) → first_node f ≡ none → FirstBelow n f
-none_below Nowhere n e = tt
-none_below (At m) n e = absurd (none-ne-some m (sym e))
+none_below None n e = tt
+none_below (Some m) n e = absurd (none-ne-some m (sym e))
 
 -- what a lookup gives, by the cell that it finds
 found : (fs : Rows) (top x : ℕ) (t : Tab) (o : ℕ) → o ≡ look fs (top + 1) x → lookup (frames_of t fs top) x ≡ or_else (slot t o) blank
@@ -260,12 +268,12 @@ bound {fs} {top} {x} v {b} e n = record {
 -- ---- "known since the old node, or since n where there is none"
 
 -- an old node is kept
-pub known_kept : {m n i : ℕ} → Known (At m) n i (record { ty = i; first = At m })
+pub known_kept : {m n i : ℕ} → Known (Some m) n i (record { ty = i; first = Some m })
 unfolding since if_some
 known_kept = record { type_is = refl; says = λ t w h. refl; near = λ h l. h }
 
 -- "Unknown has none"
-pub known_none : {n i : ℕ} {b : Found} → i ≡ 0 → b.ty ≡ 0 → first_node b.first ≡ none → Known Nowhere n i b
+pub known_none : {n i : ℕ} {b : Found} → i ≡ 0 → b.ty ≡ 0 → first_node b.first ≡ none → Known None n i b
 unfolding since if_some test◌then◌else◌
 known_none {n} {i} {b} z e f = record {
   type_is = e ∙ sym z;
@@ -273,7 +281,7 @@ known_none {n} {i} {b} z e f = record {
   near = λ o l. none_below b.first cell_room f;
 }
 
-pub known_new : {n i : ℕ} → (i ≡ 0 → ⊥) → Known Nowhere n i (record { ty = i; first = At n })
+pub known_new : {n i : ℕ} → (i ≡ 0 → ⊥) → Known None n i (record { ty = i; first = Some n })
 unfolding since if_some test◌then◌else◌
 known_new {n} {i} z = record {
   type_is = refl;
@@ -283,17 +291,20 @@ known_new {n} {i} z = record {
 
 -- ---- first nodes as numbers, and the cell that is made of one
 
-pub at_below : {f : First} {m n : ℕ} → f ≡ At m → FirstBelow n f → m < n
+pub at_below : {f : First} {m n : ℕ} → f ≡ Some m → FirstBelow n f → m < n
 at_below e h = rw e at h
 
 pub node_number : (f : First) → node_from (first_number f) ≡ first_node f
 unfolding node_from
-node_number Nowhere = refl
-node_number (At m) = refl
+node_number None = refl
+node_number (Some m) = refl
 
-pub number_node : (v : ℕ) → (v ≡ 0 → ⊥) → (some (v - 1) ≡ node_from v) × (v ≤ cell_room → v - 1 < cell_room)
-unfolding node_from
-number_node v z = let e : v ≡ suc (v - 1) = omega arith in (ap node_from (sym e), λ l. omega arith)
+pub number_node : (f : First) {v : ℕ} → v ≡ first_number f → (first_node f ≡ node_from v) × (v ≤ cell_room → FirstBelow cell_room f)
+number_node f e = (rw e (sym (node_number f)), λ l. near f (rw e at l))
+  where
+    near : (g : First) → first_number g ≤ cell_room → FirstBelow cell_room g
+    near None l = tt
+    near (Some m) l = omega arith
 
 pub cell_made : (b : Found) (r n : ℕ) → n ≡ first_number b.first → r ≡ n * 65536 + (b.ty + 1) → b.ty < cell_room
     → (type_in r ≡ suc b.ty) × (node_from (node_in r) ≡ first_node b.first)

@@ -3,6 +3,7 @@ use mathlib.Core.Path.{◌≡◌, refl, sym, ap, ◌∙◌, subst}
 use mathlib.Core.List.{List, [], ◌∷◌, ◌++◌}
 use mathlib.Core.Bool.{Bool, true, false, not}
 use mathlib.Core.Option.{Option, none, some}
+use Rattle.std.specs.Prelude.{Ok, Err}
 use Prim.Native.Nat.{ℕ, zero, suc, ◌+◌, ◌-◌, ◌≤◌, ◌<◌}
 use native.Mathlib.Omega.{arith}
 use native.Mathlib.Decide.{dec_lt}
@@ -23,10 +24,7 @@ use Rattle.meaning.specs.Message.{a_text, conflict}
 use Rattle.meaning.specs.Frames.{Binding, binding, blank, Frames, slot_in}
 use Rattle.meaning.specs.Walk.{State, state, bind, done, wrong, ◌>>=◌, same_type, same_slot, tells, assigned, merge_name, merge_names, merge}
 use Rattle.meaning.proofs.Statements.{then_same}
-use Rattle.frames.specs.Env.{Rows, type_in, node_in, absent_row, cell, put, pick, node_from, slot_as, slot, frames_of, Fit, cell_room, first_node, FirstBelow, merge_end, tells_cell, note_cell, clash_cell, Noted, settle_name, settle, Committed}
-use Rattle.frames.specs.declared.First.{First}
-use Rattle.frames.specs.declared.Merge.{Merge}
-use Rattle.frames.specs.declared.Merge.TheVariants.{Whole, Clash}
+use Rattle.frames.specs.Env.{First, Merge, Rows, type_in, node_in, absent_row, cell, put, pick, node_from, slot_as, slot, frames_of, Fit, cell_room, first_node, FirstBelow, merge_end, tells_cell, note_cell, clash_cell, Noted, settle_name, settle, Committed}
 use Rattle.frames.proofs.Laws.{absent_cells, slot_frames, slot_some, slot_none, slot_grown, frames_put, fit_put}
 
 never : {A : Type 0} → ◌≡◌ {A = Bool} false true → A
@@ -303,7 +301,7 @@ module _ {fs gs : Rows} {top : ℕ} {ms : List ℕ} {cs : List Bool} {x : ℕ} (
   }
 
   pub committing_clash : (m : ℕ) (f : First) → m ≡ get_or ms x 0 → (type_in m ≡ 0 → ⊥) → first_node f ≡ node_from (node_in m) → FirstBelow cell_room f → get_or cs x false ≡ true
-      → Committed fs gs top ms cs (Clash (record { name = x; first = f }))
+      → Committed fs gs top ms cs (Err (record { name = x; first = f }))
   unfolding settle_name ◌>>=◌ merge_end
   committing_clash m f e z n h o = record {
     says = λ ws c t r.
@@ -314,7 +312,7 @@ module _ {fs gs : Rows} {top : ℕ} {ms : List ℕ} {cs : List Bool} {x : ℕ} (
   }
 
 pub committing_end : {fs gs : Rows} {top : ℕ} {ms : List ℕ} {cs : List Bool} {x : ℕ} → Committing fs top ms cs gs x → 128 ≤ x
-    → Committed fs gs top ms cs Whole
+    → Committed fs gs top ms cs (Ok tt)
 unfolding settle merge_end count
 committing_end {x = x} l p =
     let e : 128 - x ≡ 0 = omega arith in

@@ -1,5 +1,5 @@
 -- Rows of numbers that stand for frames: a cell has a half for the type and one for its first node. Assumes nothing: these are definitions.
-use Rattle.std.specs.Prelude.{◌≡◌, Bool, true, false, List, [], ◌∷◌, map, ℕ, zero, suc, ◌/◌, ◌%◌, ◌≤◌, ◌<◌, eqb, ltb, length, get_or, set, replicate}
+use Rattle.std.specs.Prelude.{◌≡◌, Bool, true, false, List, [], ◌∷◌, map, ℕ, zero, suc, ◌/◌, ◌%◌, ◌≤◌, ◌<◌, eqb, ltb, length, get_or, set, replicate, Option as Maybe, Some, None, Result, Ok, Err, IfSome}
 use Rattle.std.proofs.Math.Option.{Option, none, some}
 use Rattle.meaning.specs.Limits.{most_names, most_frames}
 use Rattle.meaning.specs.Types.{Ty}
@@ -9,13 +9,18 @@ use Rattle.meaning.specs.Image.{Name, name_of}
 use Rattle.meaning.specs.Message.{a_text, conflict}
 use Rattle.meaning.specs.Frames.{Binding, binding, since, Frame, Frames, slot_in, lookup, write}
 use Rattle.meaning.specs.Walk.{State, state, End, done, wrong, ◌>>=◌, bind}
-use Rattle.frames.specs.declared.First.{First}
-use Rattle.frames.specs.declared.First.TheVariants.{Nowhere, At}
 use Rattle.frames.specs.declared.Binding.{Binding as Found}
-use Rattle.frames.specs.declared.Held.{Held}
-use Rattle.frames.specs.declared.Held.TheVariants.{Absent, OfType}
-use Rattle.frames.specs.declared.Merge.{Merge}
-use Rattle.frames.specs.declared.Merge.TheVariants.{Whole, Clash}
+use Rattle.frames.specs.declared.Disagreement.{Disagreement}
+
+-- a first node, what a frame holds for a name, and how a merge ended, as the code has them
+abbrev pub First : Type 0
+First = Maybe ℕ
+
+abbrev pub Held : Type 0
+Held = Maybe ℕ
+
+abbrev pub Merge : Type 0
+Merge = Result (Unit {0}) Disagreement
 
 abbrev pub Rows : Type 0
 Rows = List (List ℕ)
@@ -85,12 +90,11 @@ pub record Fit (t : Tab) (fs : Rows) (top : ℕ) : Type 0 where
 
 -- what is held for a name, by a table, and that its number is below n
 abbrev pub held_type : Tab → Held → Option Ty
-held_type t Absent = none
-held_type t (OfType r) = some (denote t r)
+held_type t None = none
+held_type t (Some r) = some (denote t r)
 
 abbrev pub HeldBelow : ℕ → Held → Type 0
-HeldBelow n Absent = Unit {0}
-HeldBelow n (OfType r) = r < n
+HeldBelow n h = IfSome h (λ r. r < n)
 
 -- the type in a slot
 abbrev pub slot_type : Option Binding → Option Ty
@@ -105,16 +109,15 @@ pub record Holds (fs : Rows) (top x : ℕ) (h : Held) : Type 0 where
 
 -- a first node as the definitions have it, as a number, and that it is below n
 abbrev pub first_node : First → Option ℕ
-first_node Nowhere = none
-first_node (At m) = some m
+first_node None = none
+first_node (Some m) = some m
 
 abbrev pub first_number : First → ℕ
-first_number Nowhere = 0
-first_number (At m) = suc m
+first_number None = 0
+first_number (Some m) = suc m
 
 abbrev pub FirstBelow : ℕ → First → Type 0
-FirstBelow n Nowhere = Unit {0}
-FirstBelow n (At m) = m < n
+FirstBelow n f = IfSome f (λ m. m < n)
 
 -- a binding as the definitions have it, by a table
 abbrev pub binding_in : Tab → Found → Binding
@@ -170,21 +173,21 @@ settle ws c first clash (x ∷ xs) s = settle_name ws c x (first x) (clash x) s 
 
 -- the scope's code of a merge, the name that its message names, and the first node of the first type
 abbrev pub merge_code : Merge → ℕ
-merge_code Whole = 0
-merge_code (Clash d) = 23
+merge_code (Ok _) = 0
+merge_code (Err d) = 23
 
 abbrev pub clash_name : Merge → ℕ
-clash_name Whole = 0
-clash_name (Clash d) = d.name
+clash_name (Ok _) = 0
+clash_name (Err d) = d.name
 
 abbrev pub clash_first : Merge → First
-clash_first Whole = Nowhere
-clash_first (Clash d) = d.first
+clash_first (Ok _) = None
+clash_first (Err d) = d.first
 
 -- how a merge ended, at the node c of the first condition
 unfoldable pub merge_end : List Name → ℕ → Merge → State → End
-merge_end ws c Whole s = done s
-merge_end ws c (Clash d) s = wrong (conflict 23 c (first_node d.first) (a_text (name_of ws d.name).spelling ∷ [])) s
+merge_end ws c (Ok _) s = done s
+merge_end ws c (Err d) s = wrong (conflict 23 c (first_node d.first) (a_text (name_of ws d.name).spelling ∷ [])) s
 
 -- gs is fs with the names of ms written to the row top, up to the first that clashes; whatever the names, the condition and the table
 pub record Committed (fs gs : Rows) (top : ℕ) (ms : List ℕ) (cs : List Bool) (m : Merge) : Type 0 where

@@ -7,7 +7,7 @@ ghost use Rattle.std.proofs.Math.Option.{none};
 ghost use Rattle.meaning.specs.Limits.{most_names, most_frames};
 ghost use Rattle.frames.specs.Env.{cell_room, type_in, node_in, node_from, first_node, first_number};
 ghost use Rattle.frames.specs.Env.{FirstBelow, Holds, Looked};
-ghost use Rattle.frames.specs.Env.{Known, Bound, absent_row, note_cell, clash_cell, Noted, Committed};
+ghost use Rattle.frames.specs.Env.{Known, Bound, absent_row, tells_cell, note_cell, clash_cell, Noted, Committed};
 
 use limits::{MOST_FRAMES, MOST_NAMES};
 use types;
@@ -39,11 +39,7 @@ pub const NO_NAMES: Row = [NO_TYPE; MOST_NAMES];
 pub const EMPTY: Frames = [NO_NAMES; MOST_FRAMES];
 
 // "the node that first made it known: the Variable assigned, or the iterable for a loop name. Unknown has none".
-#[derive(Clone, Copy)]
-pub enum First {
-    Nowhere,
-    At(usize),
-}
+pub type First = Option<usize>;
 
 // A type's number, and its first node.
 #[derive(Clone, Copy)]
@@ -54,11 +50,7 @@ pub struct Binding {
 
 // What one frame holds for a name: nothing, or a type's number. The sheet tells an absent name from one of type
 // Unknown.
-#[derive(Clone, Copy)]
-pub enum Held {
-    Absent,
-    OfType(usize),
-}
+pub type Held = Option<usize>;
 
 // ---- bindings
 
@@ -68,7 +60,7 @@ pub fn blank() -> Binding
 {
     Binding {
         ty: types::UNKNOWN,
-        first: First::Nowhere,
+        first: None,
     }
 }
 
@@ -78,19 +70,15 @@ pub fn since(old: First, node: usize, ty: usize) -> Binding
     ensures { Known old node ty result }
 {
     match old {
-        First::At(kept) => Binding {
-            ty: ty,
-            first: First::At(kept),
+        Some(kept) => Binding {
+            ty,
+            first: Some(kept),
         },
-        First::Nowhere => {
-            if ty == types::UNKNOWN {
-                return blank();
-            }
-            Binding {
-                ty: ty,
-                first: First::At(node),
-            }
-        }
+        None if ty == types::UNKNOWN => blank(),
+        None => Binding {
+            ty,
+            first: Some(node),
+        },
     }
 }
 
@@ -100,46 +88,38 @@ pub fn number_of(first: First) -> u32
     ensures { (result ≡ first_number first) × (result ≤ cell_room) }
 {
     match first {
-        First::Nowhere => 0,
-        First::At(node) => node as u32 + 1,
+        None => 0,
+        Some(node) => node as u32 + 1,
     }
 }
 
 pub fn first_of(number: u32) -> First
     ensures { (first_node result ≡ node_from number) × (number ≤ cell_room → FirstBelow cell_room result) }
 {
-    if number == 0 {
-        return First::Nowhere;
-    }
-    First::At((number - 1) as usize)
+    counted(number)
 }
 
 // ---- cells
 
-// The first node in a cell, the binding in one that is not absent, and the cell of a binding.
+// What a half tells: none by 0, or the number before it.
+fn counted(half: u32) -> Option<usize>
+    ensures { half ≡ first_number result }
+{
+    half.checked_sub(1).map(|number| number as usize)
+}
+
+// The first node in a cell, and the cell of a binding.
 fn first_in(cell: u32) -> First
     ensures { (first_node result ≡ node_from (node_in cell)) × FirstBelow cell_room result }
 {
     first_of(cell / HALF)
 }
 
-fn binding_in(cell: u32) -> Binding
-    requires { 0 < type_in cell }
-    ensures { (suc result.ty ≡ type_in cell) × (result.ty < cell_room)
-        × (first_node result.first ≡ node_from (node_in cell)) × FirstBelow cell_room result.first }
-{
-    Binding {
-        ty: (cell % HALF - 1) as usize,
-        first: first_in(cell),
-    }
-}
-
 fn cell_of(b: Binding) -> u32
     requires { (b.ty < cell_room) × FirstBelow cell_room b.first }
     ensures { (type_in result ≡ suc b.ty) × (node_from (node_in result) ≡ first_node b.first) }
 {
-    let first = b.first;
-    number_of(first) * HALF + (b.ty as u32 + 1)
+    number_of(b.first) * HALF + (b.ty as u32 + 1)
 }
 
 // ---- frames
@@ -149,11 +129,7 @@ pub fn held_in(frames: &Frames, top: usize, name: usize) -> Held
     requires { (top < most_frames) × (name < most_names) }
     ensures { Holds frames.now top name result }
 {
-    let own = frames[top][name];
-    if own % HALF == ABSENT {
-        return Held::Absent;
-    }
-    Held::OfType((own % HALF - 1) as usize)
+    counted(frames[top][name] % HALF)
 }
 
 // "A lookup shall give the type and the node that first made it known", "from the newest frame down; absent is
@@ -162,12 +138,13 @@ pub fn lookup(frames: &Frames, top: usize, name: usize) -> Binding
     requires { (top < most_frames) × (name < most_names) }
     ensures { Looked frames.now top name result }
 {
-    let mut i = top + 1;
-    while 0 < i {
-        i -= 1;
+    for i in (0..=top).rev() {
         let cell = frames[i][name];
-        if cell % HALF != ABSENT {
-            return binding_in(cell);
+        if let Some(ty) = counted(cell % HALF) {
+            return Binding {
+                ty,
+                first: first_in(cell),
+            };
         }
     }
     blank()
@@ -192,40 +169,30 @@ pub fn clear(frames: &mut Frames, top: usize)
 
 // ---- merging
 
-// What a name is first known as, after a branch that leaves `v` over `b` at entry: "Whether a branch assigned a name
-// still goes by type alone."
+// Whether a branch that leaves `v` over `b` at entry tells of a type: "Whether a branch assigned a name still goes by
+// type alone."
+fn tells(b: u32, v: u32) -> bool
+    ensures { result ≡ tells_cell b v }
+{
+    UNKNOWN < v % HALF && v % HALF != b % HALF
+}
+
+// What a name is first known as, after such a branch.
 fn note(b: u32, v: u32, m: u32) -> u32
     ensures { result ≡ note_cell b v m }
 {
-    if UNKNOWN < v % HALF {
-        if v % HALF == b % HALF {
-            return m;
-        }
-        if m % HALF == ABSENT {
-            return v;
-        }
-        return m;
+    if tells(b, v) && m % HALF == ABSENT {
+        v
+    } else {
+        m
     }
-    m
 }
 
-// Whether a name's types disagree, after a branch that leaves `v` over `b` at entry.
+// Whether a name's types disagree, after such a branch.
 fn clash(b: u32, v: u32, m: u32, c: bool) -> bool
     ensures { result ≡ clash_cell b v m c }
 {
-    if UNKNOWN < v % HALF {
-        if v % HALF == b % HALF {
-            return c;
-        }
-        if m % HALF == ABSENT {
-            return c;
-        }
-        if m % HALF == v % HALF {
-            return c;
-        }
-        return true;
-    }
-    c
+    c || (tells(b, v) && m % HALF != ABSENT && m % HALF != v % HALF)
 }
 
 // A branch told of: for each name what it is first known as and whether a later type differs.
@@ -242,15 +209,12 @@ pub fn note_branch(
     ensures { Noted (get_or base.now top []) (get_or branch.now high [])
         merged.old clashes.old merged.new clashes.new most_names }
 {
-    let mut x = 0;
-    while x < MOST_NAMES {
+    for x in 0..MOST_NAMES {
         let b = base[top][x];
         let v = branch[high][x];
         let m = merged[x];
-        let c = clashes[x];
         merged[x] = note(b, v, m);
-        clashes[x] = clash(b, v, m, c);
-        x += 1;
+        clashes[x] = clash(b, v, m, clashes[x]);
     }
 }
 
@@ -262,11 +226,7 @@ pub struct Disagreement {
 }
 
 // How a merge ended: with every name, or at the first whose types clash, which is code 23.
-#[derive(Clone, Copy)]
-pub enum Merge {
-    Whole,
-    Clash(Disagreement),
-}
+pub type Merge = Result<(), Disagreement>;
 
 // Writes the merged names in order, up to the first that clashes.
 pub fn commit(frames: &mut Frames, top: usize, merged: &Row, clashes: &Marks) -> Merge
@@ -274,19 +234,17 @@ pub fn commit(frames: &mut Frames, top: usize, merged: &Row, clashes: &Marks) ->
     ensures { Committed frames.old frames.new top
         merged.now clashes.now result }
 {
-    let mut x = 0;
-    while x < MOST_NAMES {
+    for x in 0..MOST_NAMES {
         let m = merged[x];
         if m % HALF != ABSENT {
             if clashes[x] {
-                return Merge::Clash(Disagreement {
+                return Err(Disagreement {
                     name: x,
                     first: first_in(m),
                 });
             }
             frames[top][x] = m;
         }
-        x += 1;
     }
-    Merge::Whole
+    Ok(())
 }

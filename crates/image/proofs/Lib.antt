@@ -1,7 +1,9 @@
+pub mod Open
 pub mod Records
 pub mod Here
 pub mod Searches
-pub mod Choosing
+pub mod Builtins
+pub mod Texts
 pub mod Nesting
 pub mod Depth
 pub mod Answers

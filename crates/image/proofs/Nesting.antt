@@ -3,7 +3,7 @@ use mathlib.Core.Path.{◌≡◌, refl}
 use mathlib.Core.Bool.{true, false}
 use mathlib.Core.Option.{none}
 use mathlib.Core.List.{List}
-use Prim.Native.Nat.{ℕ, zero, suc, ◌-◌, ◌<◌, ◌≤◌}
+use Prim.Native.Nat.{◌+◌, ℕ, zero, suc, ◌-◌, ◌<◌, ◌≤◌}
 use native.Mathlib.Nat.{zero-add}
 use native.Mathlib.Numerals.{sub-one}
 use native.Mathlib.Omega.{arith}
@@ -38,21 +38,39 @@ module _ (ds : List Node) (d : Node) (i : ℕ) where
   lands_end zero h = refl
   lands_end (suc left) h = absurd (omega arith)
 
-  pub lands_past : (left : ℕ) → 0 < left → d.stop ≤ i → lands ds d i left ≡ false
+  lands_none : (left : ℕ) → 0 < left → d.stop ≤ i → lands ds d i left ≡ false
   unfolding lands ◌and◌
-  lands_past zero h u = absurd (omega arith)
-  lands_past (suc left) h u = rw (le-ltb i d.stop u)
+  lands_none zero h u = absurd (omega arith)
+  lands_none (suc left) h u = rw (le-ltb i d.stop u)
 
-  pub lands_wrong : (left : ℕ) → 0 < left → i < d.stop → belongs d.kind d.children (d.children - left) (node_of ds i).kind ≡ false → lands ds d i left ≡ false
+  lands_not : (left : ℕ) → 0 < left → i < d.stop → belongs d.kind d.children (d.children - left) (node_of ds i).kind ≡ false → lands ds d i left ≡ false
   unfolding lands ◌and◌
-  lands_wrong zero h u e = absurd (omega arith)
-  lands_wrong (suc left) h u e = rw (lt-ltb i d.stop u, e)
+  lands_not zero h u e = absurd (omega arith)
+  lands_not (suc left) h u e = rw (lt-ltb i d.stop u, e)
 
-  pub lands_next : (left : ℕ) → 0 < left → i < d.stop → belongs d.kind d.children (d.children - left) (node_of ds i).kind ≡ true
+  lands_on : (left : ℕ) → 0 < left → i < d.stop → belongs d.kind d.children (d.children - left) (node_of ds i).kind ≡ true
       → lands ds d i left ≡ lands ds d (node_of ds i).stop (left - 1)
   unfolding lands ◌and◌
-  lands_next zero h u e = absurd (omega arith)
-  lands_next (suc left) h u e = rw (lt-ltb i d.stop u, e, sub-one)
+  lands_on zero h u e = absurd (omega arith)
+  lands_on (suc left) h u e = rw (lt-ltb i d.stop u, e, sub-one)
+
+  -- at child j
+  module _ (j : ℕ) (h : j < d.children) where
+    turned : d.children - (d.children - j) ≡ j
+    turned = omega arith
+
+    one_less : d.children - j - 1 ≡ d.children - (j + 1)
+    one_less = omega arith
+
+    pub lands_past : d.stop ≤ i → lands ds d i (d.children - j) ≡ false
+    lands_past u = lands_none (d.children - j) (omega arith) u
+
+    pub lands_wrong : i < d.stop → belongs d.kind d.children j (node_of ds i).kind ≡ false → lands ds d i (d.children - j) ≡ false
+    lands_wrong u e = lands_not (d.children - j) (omega arith) u (rw turned e)
+
+    pub lands_next : i < d.stop → belongs d.kind d.children j (node_of ds i).kind ≡ true
+        → lands ds d i (d.children - j) ≡ lands ds d (node_of ds i).stop (d.children - (j + 1))
+    lands_next u e = rw (← one_less) (lands_on (d.children - j) (omega arith) u (rw turned e))
 
 -- ---- node 0, which is looked at by itself
 

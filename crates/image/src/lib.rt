@@ -1,5 +1,5 @@
 // The program image: whether a slice of bytes is one, and its parts.
-#![tactic(auto)]
+#![tactic(auto, unfolding(crate::proofs::Open::tests_open), using(std::proofs::lemmas::Bool::Decides::nat_tests))]
 
 ghost use Rattle.std.specs.Prelude.{◌≡◌, [], ◌∷◌, suc, ◌+◌, ◌-◌, ◌*◌, ◌%◌, ◌<◌, ◌≤◌, eqb, leb, ltb, length, take, drop};
 ghost use Rattle.std.proofs.Math.Option.{none};
@@ -13,7 +13,7 @@ ghost use Rattle.meaning.specs.Base.{◌and◌, ◌or◌, test◌then◌else◌,
 ghost use Rattle.meaning.proofs.Faults.{Headed};
 ghost use Rattle.image.specs.Kinds.{record_stands, root_stands};
 ghost use Rattle.words.specs.Words.{put_at};
-ghost use Rattle.image.specs.Outcome.{fault_of, place_of, code_told, place_told};
+ghost use Rattle.image.specs.Outcome.{fault_in, fault_of, place_of};
 ghost use Rattle.image.specs.Parts.{Laid, node_means, name_means, record_of, name_stands};
 ghost use Rattle.image.specs.Parts.{one_argument, two_arguments, On, Moved};
 
@@ -23,7 +23,7 @@ pub mod literals;
 pub mod roles;
 
 use limits::{DEEPEST, MOST_NAMES, MOST_NODES, MOST_TEXT};
-use words::{get_word, put_word, same, text, text_stands, wide16};
+use words::{get_word, put_word, text, text_stands};
 
 // "Name record, 5 words: text start, text length 1..64, role, p, q": the bytes at which all but the first start.
 const LEN: usize = 4;
@@ -59,17 +59,9 @@ const UNARY_OPERATORS: usize = 3;
 
 const BINARY_OPERATORS: usize = 14;
 
-// What a search over names or nodes found: the first that fails, or none.
-#[derive(Clone, Copy)]
-pub enum Found {
-    At(usize),
-    Nowhere,
-}
-
-// A well-formed image, or the refusals 1 to 8, those of a name or a node with its number.
-#[derive(Clone, Copy)]
-pub enum Judged {
-    WellFormed,
+// The refusals 1 to 8, those of a name or a node with its number.
+#[derive(Clone, Copy, PartialEq, Eq)]
+pub enum Fault {
     BadHead,
     BadCount,
     BadOffset,
@@ -80,11 +72,30 @@ pub enum Judged {
     TooDeep(usize),
 }
 
-// A refusal in document 01's numbers. A well-formed image has none: 0 and 0.
-#[derive(Clone, Copy)]
-pub struct Fault {
+// A refusal in document 01's numbers.
+#[derive(Clone, Copy, PartialEq, Eq)]
+pub struct Numbers {
     pub code: u32,
     pub place: usize,
+}
+
+// By the codes of document 01.
+impl From<Fault> for Numbers {
+    ghost from_gives = { λ f n. (n.code ≡ (fault_in f).code) × (n.place ≡ (fault_in f).place) };
+
+    fn from(f: Fault) -> Numbers {
+        let (code, place) = match f {
+            Fault::BadHead => (1, 0),
+            Fault::BadCount => (2, 0),
+            Fault::BadOffset => (3, 0),
+            Fault::BadName(i) => (4, i),
+            Fault::UnsafeName(i) => (5, i),
+            Fault::BadNode(i) => (6, i),
+            Fault::BadNesting(i) => (7, i),
+            Fault::TooDeep(i) => (8, i),
+        };
+        Numbers { code, place }
+    }
 }
 
 // The header's counts, and where the areas start.
@@ -138,10 +149,7 @@ pub struct Read {
 fn head_stands(image: &[u8]) -> bool
     ensures { result ≡ head_stands image.now }
 {
-    if image.len() < header::LENGTH {
-        return false;
-    }
-    get_word(image, header::VERSION) == header::OURS
+    header::LENGTH <= image.len() && get_word(image, header::VERSION) == header::OURS
 }
 
 // The largest sum, the total, stays far below 2^64 whatever the words are.
@@ -169,16 +177,7 @@ fn counts_stand(image: &[u8], l: Layout) -> bool
     requires { Laid image.now l }
     ensures { result ≡ counts_stand image.now }
 {
-    if MOST_NAMES < l.names {
-        return false;
-    }
-    if l.count < 1 {
-        return false;
-    }
-    if MOST_NODES < l.count {
-        return false;
-    }
-    l.size <= MOST_TEXT
+    l.names <= MOST_NAMES && 1 <= l.count && l.count <= MOST_NODES && l.size <= MOST_TEXT
 }
 
 fn offsets_stand(image: &[u8], l: Layout) -> bool
@@ -186,19 +185,11 @@ fn offsets_stand(image: &[u8], l: Layout) -> bool
     requires laid { Laid image.now l }
     ensures { result ≡ offsets_stand image.now }
 {
-    if get_word(image, header::NAMES) as usize != header::LENGTH {
-        return false;
-    }
-    if get_word(image, header::NODES) as usize != l.nodes {
-        return false;
-    }
-    if get_word(image, header::TEXTS) as usize != l.texts {
-        return false;
-    }
-    if get_word(image, header::TOTAL) as usize != l.total {
-        return false;
-    }
-    image.len() == l.total
+    get_word(image, header::NAMES) as usize == header::LENGTH
+        && get_word(image, header::NODES) as usize == l.nodes
+        && get_word(image, header::TEXTS) as usize == l.texts
+        && get_word(image, header::TOTAL) as usize == l.total
+        && image.len() == l.total
 }
 
 // ---- records
@@ -207,19 +198,13 @@ fn node_words(image: &[u8], at: usize) -> Node
     requires { at + 24 ≤ length image.now }
     ensures { node_means result ≡ node (drop at image.now) }
 {
-    let kind = get_word(image, at);
-    let arg = get_word(image, at + ARG);
-    let children = get_word(image, at + CHILDREN);
-    let stop = get_word(image, at + STOP);
-    let begins = get_word(image, at + BEGINS);
-    let ends = get_word(image, at + ENDS);
     Node {
-        kind,
-        arg,
-        children,
-        stop,
-        begins,
-        ends,
+        kind: get_word(image, at),
+        arg: get_word(image, at + ARG),
+        children: get_word(image, at + CHILDREN),
+        stop: get_word(image, at + STOP),
+        begins: get_word(image, at + BEGINS),
+        ends: get_word(image, at + ENDS),
     }
 }
 
@@ -227,17 +212,12 @@ fn name_words(image: &[u8], at: usize) -> NameAt
     requires { at + 20 ≤ length image.now }
     ensures { name_means result ≡ name_record (drop at image.now) }
 {
-    let start = get_word(image, at);
-    let len = get_word(image, at + LEN);
-    let role = get_word(image, at + ROLE);
-    let p = get_word(image, at + P);
-    let q = get_word(image, at + Q);
     NameAt {
-        start,
-        len,
-        role,
-        p,
-        q,
+        start: get_word(image, at),
+        len: get_word(image, at + LEN),
+        role: get_word(image, at + ROLE),
+        p: get_word(image, at + P),
+        q: get_word(image, at + Q),
     }
 }
 
@@ -283,14 +263,8 @@ pub fn name_text(image: &[u8], texts: usize, k: usize) -> &[u8]
 fn role_stands(r: NameAt) -> bool
     ensures { result ≡ role_stands (name_means r) }
 {
-    let role = r.role;
-    match role {
-        roles::PLAIN | roles::ANY => {
-            if r.p != 0 {
-                return false;
-            }
-            r.q == 0
-        }
+    match r.role {
+        roles::PLAIN | roles::ANY => r.p == 0 && r.q == 0,
         roles::EXACTLY | roles::FUNCTION => r.q == 0,
         roles::BETWEEN => true,
         _ => false,
@@ -303,136 +277,73 @@ fn name_stands(texts: &[u8], last: usize, from: usize, r: NameAt) -> bool
     ensures { result ≡ name_stands texts.now from
         (take (from - last) (drop last texts.now)) (name_means r) }
 {
-    if r.start as usize != from {
-        return false;
-    }
     let len = r.len as usize;
-    if texts.len() - from < len {
-        return false;
-    }
-    if !text_stands(text(texts, last, from - last), text(texts, from, len)) {
-        return false;
-    }
-    role_stands(r)
+    r.start as usize == from
+        && len <= texts.len() - from
+        && text_stands(&texts[last..from], &texts[from..from + len])
+        && role_stands(r)
 }
 
-fn broken_name(image: &[u8], texts: &[u8], names: usize) -> Found
+fn broken_name(image: &[u8], l: Layout) -> Option<usize>
     requires headed { Headed image.now }
-    requires names_value { (names ≡ name_count image.now) × (texts.now ≡ texts_of image.now) }
+    requires laid { Laid image.now l }
     ensures { place_of result ≡ broken_name image.now }
 {
-    let mut i = 0;
+    let texts = text(image, l.texts, l.size);
     let mut last = 0;
     let mut from = 0;
-    while i < names {
+    for i in 0..l.names {
         let r = name_at(image, i);
         if !name_stands(texts, last, from, r) {
-            return Found::At(i);
+            return Some(i);
         }
         last = from;
         from += r.len as usize;
-        i += 1;
     }
     if from != texts.len() {
-        return Found::At(i);
+        return Some(l.names);
     }
-    Found::Nowhere
+    None
 }
 
 // ---- 5: builtins whose rule looks at arguments that their role does not ask for
 
+#[tactic(auto, using(crate::proofs::Texts::one))]
 fn needs_one(t: &[u8]) -> bool
     ensures { result ≡ is_one_of t.now one_argument }
 {
-    if same(t, b"int") {
-        return true;
-    }
-    if same(t, b"float") {
-        return true;
-    }
-    if same(t, b"bool") {
-        return true;
-    }
-    if same(t, b"str") {
-        return true;
-    }
-    if same(t, b"len") {
-        return true;
-    }
-    if same(t, b"assert") {
-        return true;
-    }
-    false
+    matches!(t, b"int" | b"float" | b"bool" | b"str" | b"len" | b"assert")
 }
 
+#[tactic(auto, using(crate::proofs::Texts::two))]
 fn needs_two(t: &[u8]) -> bool
     ensures { result ≡ is_one_of t.now two_arguments }
 {
-    if same(t, b"map") {
-        return true;
-    }
-    if same(t, b"filter") {
-        return true;
-    }
-    false
+    matches!(t, b"map" | b"filter")
 }
 
 // Whether a builtin of r's role takes k arguments; only the roles 1 to 3 are builtins.
 pub fn admits(r: NameAt, k: u32) -> bool
     ensures { result ≡ allows (role_of (name_means r)) k }
 {
-    let role = r.role;
-    match role {
+    match r.role {
         roles::EXACTLY => k == r.p,
-        roles::BETWEEN => {
-            if k < r.p {
-                return false;
-            }
-            k <= r.q
-        }
+        roles::BETWEEN => r.p <= k && k <= r.q,
         roles::ANY => true,
         _ => false,
     }
 }
 
-fn lacks_one(t: &[u8], r: NameAt) -> bool
-    ensures { result ≡ (is_one_of t.now one_argument and allows (role_of (name_means r)) 0) }
-{
-    if !needs_one(t) {
-        return false;
-    }
-    admits(r, 0)
-}
-
-fn lacks_two(t: &[u8], r: NameAt) -> bool
-    ensures { result ≡ (is_one_of t.now two_arguments
-        and (allows (role_of (name_means r)) 0 or allows (role_of (name_means r)) 1)) }
-{
-    if !needs_two(t) {
-        return false;
-    }
-    if admits(r, 0) {
-        return true;
-    }
-    admits(r, 1)
-}
-
 fn safe_name(t: &[u8], r: NameAt) -> bool
     ensures { result ≡ safe (record { spelling = t.now; role = role_of (name_means r) }) }
 {
-    if lacks_one(t, r) {
-        return false;
-    }
-    !lacks_two(t, r)
+    !(needs_one(t) && admits(r, 0)) && !(needs_two(t) && (admits(r, 0) || admits(r, 1)))
 }
 
 fn is_builtin(role: u32) -> bool
     ensures { result ≡ (leb 1 role and leb role 3) }
 {
-    match role {
-        roles::EXACTLY..=roles::ANY => true,
-        _ => false,
-    }
+    matches!(role, roles::EXACTLY..=roles::ANY)
 }
 
 // Most names are no builtins: their texts are not looked at.
@@ -443,73 +354,30 @@ fn safe_at(image: &[u8], texts: usize, k: usize) -> bool
     ensures { result ≡ safe (name_of (names_of image.now) k) }
 {
     let r = name_at(image, k);
-    if !is_builtin(r.role) {
-        return true;
-    }
-    safe_name(name_text(image, texts, k), r)
+    !is_builtin(r.role) || safe_name(name_text(image, texts, k), r)
 }
 
-fn unsafe_name(image: &[u8], texts: usize, names: usize) -> Found
+fn unsafe_name(image: &[u8], l: Layout) -> Option<usize>
     requires headed { Headed image.now }
+    requires laid { Laid image.now l }
     requires image_value { broken_name image.now ≡ none }
-    requires texts_value { (texts ≡ texts_from image.now) × (names ≡ name_count image.now) }
     ensures { place_of result ≡ unsafe_name image.now }
 {
-    let mut k = 0;
-    while k < names {
-        if !safe_at(image, texts, k) {
-            return Found::At(k);
+    for k in 0..l.names {
+        if !safe_at(image, l.texts, k) {
+            return Some(k);
         }
-        k += 1;
     }
-    Found::Nowhere
+    None
 }
 
 // ---- 6: what one node record shows
-
-// An arg below `below`, with any number of children, exactly so many, at least so many, or an even number.
-
-fn any_number(d: Node, below: usize) -> bool
-    ensures { result ≡ ltb d.arg below }
-{
-    (d.arg as usize) < below
-}
-
-fn exactly(d: Node, below: usize, many: u32) -> bool
-    ensures { result ≡ (ltb d.arg below and eqb d.children many) }
-{
-    if below <= d.arg as usize {
-        return false;
-    }
-    d.children == many
-}
-
-fn at_least(d: Node, below: usize, many: u32) -> bool
-    ensures { result ≡ (ltb d.arg below and leb many d.children) }
-{
-    if below <= d.arg as usize {
-        return false;
-    }
-    many <= d.children
-}
-
-fn even_number(d: Node, below: usize) -> bool
-    ensures { result ≡ (ltb d.arg below and eqb (d.children % 2) 0) }
-{
-    if below <= d.arg as usize {
-        return false;
-    }
-    d.children % 2 == 0
-}
 
 // "The spans of Block and Param are 0."
 fn spanless(d: Node) -> bool
     ensures { result ≡ (eqb d.begins 0 and eqb d.ends 0) }
 {
-    if d.begins != 0 {
-        return false;
-    }
-    d.ends == 0
+    d.begins == 0 && d.ends == 0
 }
 
 // All of 6 but the end: what document 01 allows a node of each kind, in its order. A number of no kind is allowed
@@ -517,72 +385,56 @@ fn spanless(d: Node) -> bool
 fn record_stands(names: usize, d: Node) -> bool
     ensures { result ≡ record_stands names (node_means d) }
 {
-    let kind = d.kind;
-    match kind {
-        kinds::BREAK..=kinds::CLASS => exactly(d, UNUSED, 0),
-        kinds::ASSIGN => exactly(d, UNUSED, 2),
-        kinds::EXPR..=kinds::RETURN => exactly(d, UNUSED, 1),
-        kinds::IF => at_least(d, UNUSED, 2),
-        kinds::WHILE => exactly(d, UNUSED, 2),
-        kinds::FOR => exactly(d, names, 2),
-        kinds::DEF => at_least(d, names, 1),
-        kinds::BLOCK => {
-            if !spanless(d) {
-                return false;
-            }
-            any_number(d, UNUSED)
-        }
-        kinds::PARAM => {
-            if !spanless(d) {
-                return false;
-            }
-            exactly(d, names, 0)
-        }
-        kinds::LITERAL => exactly(d, LITERALS, 0),
-        kinds::VARIABLE => exactly(d, names, 0),
-        kinds::UNARY => exactly(d, UNARY_OPERATORS, 1),
-        kinds::BINARY => exactly(d, BINARY_OPERATORS, 2),
-        kinds::CALL => at_least(d, UNUSED, 1),
-        kinds::ATTRIBUTE => exactly(d, UNUSED, 1),
-        kinds::LIST => any_number(d, UNUSED),
-        kinds::DICT => even_number(d, UNUSED),
-        kinds::TUPLE..=kinds::TREE_SET => any_number(d, UNUSED),
-        kinds::INDEX => exactly(d, UNUSED, 2),
-        kinds::LAMBDA => exactly(d, UNUSED, 0),
+    let arg = d.arg as usize;
+    let children = d.children;
+    match d.kind {
+        kinds::BREAK..=kinds::CLASS => arg < UNUSED && children == 0,
+        kinds::ASSIGN => arg < UNUSED && children == 2,
+        kinds::EXPR..=kinds::RETURN => arg < UNUSED && children == 1,
+        kinds::IF => arg < UNUSED && 2 <= children,
+        kinds::WHILE => arg < UNUSED && children == 2,
+        kinds::FOR => arg < names && children == 2,
+        kinds::DEF => arg < names && 1 <= children,
+        kinds::BLOCK => arg < UNUSED && spanless(d),
+        kinds::PARAM => arg < names && children == 0 && spanless(d),
+        kinds::LITERAL => arg < LITERALS && children == 0,
+        kinds::VARIABLE => arg < names && children == 0,
+        kinds::UNARY => arg < UNARY_OPERATORS && children == 1,
+        kinds::BINARY => arg < BINARY_OPERATORS && children == 2,
+        kinds::CALL => arg < UNUSED && 1 <= children,
+        kinds::ATTRIBUTE => arg < UNUSED && children == 1,
+        kinds::LIST => arg < UNUSED,
+        kinds::DICT => arg < UNUSED && children % 2 == 0,
+        kinds::TUPLE..=kinds::TREE_SET => arg < UNUSED,
+        kinds::INDEX => arg < UNUSED && children == 2,
+        kinds::LAMBDA => arg < UNUSED && children == 0,
         _ => false,
     }
 }
 
-fn node_stands(image: &[u8], names: usize, nodes: usize, count: usize, i: usize) -> bool
+fn node_stands(image: &[u8], l: Layout, i: usize) -> bool
     requires headed { Headed image.now }
-    requires nodes_value { (nodes ≡ nodes_from image.now) × (i < node_count image.now) }
-    ensures { result ≡ node_stands names count i (node_of (nodes_of image.now) i) }
+    requires laid { Laid image.now l }
+    requires inside { i < node_count image.now }
+    ensures { result ≡ node_stands (name_count image.now) (node_count image.now) i
+        (node_of (nodes_of image.now) i) }
 {
-    let d = node_at(image, nodes, i);
+    let d = node_at(image, l.nodes, i);
     let stop = d.stop as usize;
-    if stop <= i {
-        return false;
-    }
-    if count < stop {
-        return false;
-    }
-    record_stands(names, d)
+    i < stop && stop <= l.count && record_stands(l.names, d)
 }
 
-fn broken_node(image: &[u8], names: usize, nodes: usize, count: usize) -> Found
+fn broken_node(image: &[u8], l: Layout) -> Option<usize>
     requires headed { Headed image.now }
-    requires names_value { (names ≡ name_count image.now) × (nodes ≡ nodes_from image.now)
-        × (count ≡ node_count image.now) }
+    requires laid { Laid image.now l }
     ensures { place_of result ≡ broken_node image.now }
 {
-    let mut i = 0;
-    while i < count {
-        if !node_stands(image, names, nodes, count, i) {
-            return Found::At(i);
+    for i in 0..l.count {
+        if !node_stands(image, l, i) {
+            return Some(i);
         }
-        i += 1;
     }
-    Found::Nowhere
+    None
 }
 
 // ---- 7: children
@@ -590,28 +442,23 @@ fn broken_node(image: &[u8], names: usize, nodes: usize, count: usize) -> Found
 fn is_statement(kind: u32) -> bool
     ensures { result ≡ is_statement kind }
 {
-    match kind {
-        kinds::BREAK..=kinds::DEF => true,
-        _ => false,
-    }
+    matches!(kind, kinds::BREAK..=kinds::DEF)
 }
 
 fn is_expression(kind: u32) -> bool
     ensures { result ≡ is_expression kind }
 {
-    match kind {
-        kinds::LITERAL..=kinds::LAMBDA => true,
-        _ => false,
-    }
+    matches!(kind, kinds::LITERAL..=kinds::LAMBDA)
 }
 
 fn block_or_expression(block: bool, kind: u32) -> bool
     ensures { result ≡ (test block then eqb kind 12 else is_expression kind) }
 {
     if block {
-        return kind == kinds::BLOCK;
+        kind == kinds::BLOCK
+    } else {
+        is_expression(kind)
     }
-    is_expression(kind)
 }
 
 // Of an If's children those at odd places are Blocks, and so is the last: an even number of them has no else.
@@ -623,81 +470,66 @@ fn has_business(parent: u32, c: u32, j: u32, kind: u32) -> bool
     if kinds::BLOCK < parent {
         return is_expression(kind);
     }
+    let last = j + 1 == c;
     match parent {
-        kinds::IF => {
-            if j % 2 == 1 {
-                return kind == kinds::BLOCK;
-            }
-            block_or_expression(j + 1 == c, kind)
-        }
-        kinds::WHILE..=kinds::FOR => block_or_expression(j + 1 == c, kind),
-        kinds::DEF => {
-            if j + 1 == c {
-                return kind == kinds::BLOCK;
-            }
-            kind == kinds::PARAM
-        }
+        kinds::IF => block_or_expression(last || j % 2 == 1, kind),
+        kinds::WHILE..=kinds::FOR => block_or_expression(last, kind),
+        kinds::DEF => kind == if last { kinds::BLOCK } else { kinds::PARAM },
         kinds::BLOCK => is_statement(kind),
         _ => is_expression(kind),
     }
 }
 
 // Each child starts at the end of the one before. After 6 an end lies behind its node, so `at` only grows.
-fn lands_on_end(image: &[u8], nodes: usize, i: usize, d: Node) -> bool
+fn lands_on_end(image: &[u8], nodes: usize, i: usize) -> bool
     requires headed { Headed image.now }
-    requires nodes_value { (nodes ≡ nodes_from image.now) × (i < node_count image.now)
-        × (d.stop ≤ node_count image.now) }
-    ensures { result ≡ lands (nodes_of image.now) (node_means d) (suc i) d.children }
+    requires image_value { broken_node image.now ≡ none }
+    requires nodes_value { (nodes ≡ nodes_from image.now) × (i < node_count image.now) }
+    ensures { result ≡ lands (nodes_of image.now) (node_of (nodes_of image.now) i) (suc i)
+        (node_of (nodes_of image.now) i).children }
 {
+    let d = node_at(image, nodes, i);
     let mut at = i + 1;
-    let mut left = d.children;
-    while 0 < left {
+    for j in 0..d.children {
         if d.stop as usize <= at {
             return false;
         }
         let child = node_at(image, nodes, at);
-        if !has_business(d.kind, d.children, d.children - left, child.kind) {
+        if !has_business(d.kind, d.children, j, child.kind) {
             return false;
         }
         at = child.stop as usize;
-        left -= 1;
     }
     at == d.stop as usize
 }
 
 // "Node 0 is a Block ending at M."
-fn root_stands(image: &[u8], nodes: usize, count: usize) -> bool
+fn root_stands(image: &[u8], l: Layout) -> bool
     requires headed { Headed image.now }
-    requires nodes_value { (nodes ≡ nodes_from image.now) × (count ≡ node_count image.now) }
+    requires laid { Laid image.now l }
     ensures { result ≡ root_stands (nodes_of image.now) }
 {
-    let d = node_at(image, nodes, 0);
-    if d.kind != kinds::BLOCK {
-        return false;
-    }
-    d.stop as usize == count
+    let d = node_at(image, l.nodes, 0);
+    d.kind == kinds::BLOCK && d.stop as usize == l.count
 }
 
 // Linear in all: each parent walks its children once, and the children of parents that nest well are disjoint, so no
 // node is walked by two parents; the first parent that does not ends the search.
-fn badly_nested(image: &[u8], nodes: usize, count: usize) -> Found
+fn badly_nested(image: &[u8], l: Layout) -> Option<usize>
     requires headed { Headed image.now }
+    requires laid { Laid image.now l }
     requires image_value { broken_node image.now ≡ none }
-    requires nodes_value { (nodes ≡ nodes_from image.now) × (count ≡ node_count image.now) }
     ensures { place_of result ≡ badly_nested image.now }
 {
-    if !root_stands(image, nodes, count) {
-        return Found::At(0);
+    if !root_stands(image, l) {
+        return Some(0);
     }
-    let mut i = 0;
-    while i < count {
-        let d = node_at(image, nodes, i);
-        if !lands_on_end(image, nodes, i, d) {
-            return Found::At(i);
+    for i in 0..l.count {
+        if !lands_on_end(image, l.nodes, i) {
+            return Some(i);
         }
-        i += 1;
     }
-    Found::Nowhere
+    None
 }
 
 // ---- 8: depth
@@ -706,118 +538,96 @@ fn badly_nested(image: &[u8], nodes: usize, count: usize) -> Found
 // end at i + 1 are around no more, and `ends` has how many they are, plus 1. After 6 this needs no nesting: it is
 // counting alone.
 // The counts start at 1: a fill with 0 is made byte by byte, one with 1 by 16 bytes at a time.
-fn deep_by_counting(image: &[u8], nodes: usize, count: usize) -> Found
+fn deep_by_counting(image: &[u8], l: Layout) -> Option<usize>
     requires headed { Headed image.now }
+    requires laid { Laid image.now l }
     requires image_value { broken_node image.now ≡ none }
-    requires nodes_value { (nodes ≡ nodes_from image.now) × (count ≡ node_count image.now) }
     ensures { place_of result ≡ too_deep_node image.now }
 {
     let mut ends = [1u16; MOST_NODES + 1];
     let mut around = 0;
-    let mut i = 0;
-    while i < count {
+    for i in 0..l.count {
         if DEEPEST <= around {
-            return Found::At(i);
+            return Some(i);
         }
-        let d = node_at(image, nodes, i);
-        let stop = d.stop as usize;
-        ends[stop] = ends[stop] + 1;
-        i += 1;
-        around = around + 2 - wide16(ends[i]);
+        let d = node_at(image, l.nodes, i);
+        ends[d.stop as usize] += 1;
+        around = around + 2 - usize::from(ends[i + 1]);
     }
-    Found::Nowhere
+    None
 }
 
 // No node lies deeper than there are nodes: a small program needs no counting.
-fn too_deep(image: &[u8], nodes: usize, count: usize) -> Found
+fn too_deep(image: &[u8], l: Layout) -> Option<usize>
     requires headed { Headed image.now }
+    requires laid { Laid image.now l }
     requires image_value { broken_node image.now ≡ none }
-    requires nodes_value { (nodes ≡ nodes_from image.now) × (count ≡ node_count image.now) }
     ensures { place_of result ≡ too_deep_node image.now }
 {
-    if count <= DEEPEST {
-        return Found::Nowhere;
+    if l.count <= DEEPEST {
+        return None;
     }
-    deep_by_counting(image, nodes, count)
+    deep_by_counting(image, l)
 }
 
 // ---- the answer
 
 // After a header that stands: 4 for all names, then 5 for all, then 6, 7 and 8, each for all nodes.
-fn judge_body(image: &[u8], l: Layout) -> Judged
+fn judge_body(image: &[u8], l: Layout) -> Result<(), Fault>
     requires headed { Headed image.now }
     requires laid { Laid image.now l }
     ensures { fault_of result ≡ image_fault image.now }
 {
-    let texts = text(image, l.texts, l.size);
-    if let Found::At(i) = broken_name(image, texts, l.names) {
-        return Judged::BadName(i);
+    if let Some(i) = broken_name(image, l) {
+        return Err(Fault::BadName(i));
     }
-    if let Found::At(i) = unsafe_name(image, l.texts, l.names) {
-        return Judged::UnsafeName(i);
+    if let Some(i) = unsafe_name(image, l) {
+        return Err(Fault::UnsafeName(i));
     }
-    if let Found::At(i) = broken_node(image, l.names, l.nodes, l.count) {
-        return Judged::BadNode(i);
+    if let Some(i) = broken_node(image, l) {
+        return Err(Fault::BadNode(i));
     }
-    if let Found::At(i) = badly_nested(image, l.nodes, l.count) {
-        return Judged::BadNesting(i);
+    if let Some(i) = badly_nested(image, l) {
+        return Err(Fault::BadNesting(i));
     }
-    if let Found::At(i) = too_deep(image, l.nodes, l.count) {
-        return Judged::TooDeep(i);
+    if let Some(i) = too_deep(image, l) {
+        return Err(Fault::TooDeep(i));
     }
-    Judged::WellFormed
+    Ok(())
 }
 
-pub fn judge(image: &[u8]) -> Judged
+// Whether the bytes are a well-formed image. A call of its own: within `check` it would take that function's registers.
+#[inline(never)]
+pub fn judge(image: &[u8]) -> Result<(), Fault>
     ensures { fault_of result ≡ image_fault image.now }
 {
     if !head_stands(image) {
-        return Judged::BadHead;
+        return Err(Fault::BadHead);
     }
     let l = areas(image);
     if !counts_stand(image, l) {
-        return Judged::BadCount;
+        return Err(Fault::BadCount);
     }
     if !offsets_stand(image, l) {
-        return Judged::BadOffset;
+        return Err(Fault::BadOffset);
     }
     judge_body(image, l)
-}
-
-// By the codes of document 01.
-pub fn fault_of(j: Judged) -> Fault
-    ensures { (result.code ≡ code_told (fault_of j)) × (result.place ≡ place_told (fault_of j)) }
-{
-    match j {
-        Judged::WellFormed => Fault { code: 0, place: 0 },
-        Judged::BadHead => Fault { code: 1, place: 0 },
-        Judged::BadCount => Fault { code: 2, place: 0 },
-        Judged::BadOffset => Fault { code: 3, place: 0 },
-        Judged::BadName(i) => Fault { code: 4, place: i },
-        Judged::UnsafeName(i) => Fault { code: 5, place: i },
-        Judged::BadNode(i) => Fault { code: 6, place: i },
-        Judged::BadNesting(i) => Fault { code: 7, place: i },
-        Judged::TooDeep(i) => Fault { code: 8, place: i },
-    }
 }
 
 // ---- 14: "New images may not hold kind 30"
 
 // A TreeSet is refused wherever it stands, also where the walk would not look at it.
-pub fn first_tree_set(image: &[u8]) -> Found
+pub fn first_tree_set(image: &[u8]) -> Option<usize>
     requires { Headed image.now }
     ensures { place_of result ≡ first_tree_set image.now }
 {
     let l = areas(image);
-    let mut i = 0;
-    while i < l.count {
-        let node = node_at(image, l.nodes, i);
-        if node.kind == kinds::TREE_SET {
-            return Found::At(i);
+    for i in 0..l.count {
+        if node_at(image, l.nodes, i).kind == kinds::TREE_SET {
+            return Some(i);
         }
-        i += 1;
     }
-    Found::Nowhere
+    None
 }
 
 // ---- the walk over the nodes of an image that stands
@@ -842,10 +652,11 @@ impl Cursor {
         requires on { On image.now self }
         ensures { Moved image.now self result (self.at + 1) }
     {
-        let at = self.at;
-        let nodes = self.nodes;
-        let node = node_at(image, nodes, at);
-        let cursor = Cursor { at: at + 1, nodes };
+        let cursor = Cursor {
+            at: self.at + 1,
+            ..self
+        };
+        let node = node_at(image, self.nodes, self.at);
         Read { cursor, node }
     }
 
@@ -856,12 +667,10 @@ impl Cursor {
         ensures { Moved image.now self result
             (node_of (nodes_of image.now) self.at).stop }
     {
-        let at = self.at;
-        let nodes = self.nodes;
-        let node = node_at(image, nodes, at);
+        let node = node_at(image, self.nodes, self.at);
         let cursor = Cursor {
             at: node.stop as usize,
-            nodes,
+            ..self
         };
         Read { cursor, node }
     }

@@ -3,7 +3,7 @@
 #![tactic(auto)]
 
 // "All numbers are u32": the bytes of one.
-const WORD: usize = 4;
+pub const WORD: usize = 4;
 
 // ---- of an image
 

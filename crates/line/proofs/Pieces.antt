@@ -1,16 +1,17 @@
 -- Pieces written one after the other are one piece; the line is such pieces. Assumes nothing.
-use mathlib.Core.Path.{◌≡◌, sym, ap, ◌∙◌}
-use mathlib.Core.List.{List, [], ◌∷◌, ◌++◌, append-nil}
-use Prim.Native.Nat.{ℕ, ◌+◌, ◌≤◌}
+use mathlib.Core.Path.{◌≡◌, refl, sym, ap, ◌∙◌}
+use mathlib.Core.List.{List, [], ◌∷◌, ◌++◌, append-nil, append_assoc}
+use Prim.Native.Nat.{ℕ, ◌+◌, ◌*◌, ◌<◌, ◌≤◌}
 use native.Mathlib.Nat.{zero-add}
 use native.Mathlib.Omega.{arith}
-use lib.ListN.{length}
+use lib.ListN.{length, take, get_or}
+use Rattle.std.proofs.lemmas.List.{take_more, take_all}
 use borrow.Author.Tests.{eq-eqb, ne_eqb}
 use Rattle.meaning.specs.Answer.{overlaid}
 use Rattle.meaning.specs.Base.{test◌then◌else◌, bytes, decimal, word}
 use Rattle.meaning.specs.Line.{spaced, accepted_line, refused_line, line_of}
 use Rattle.words.specs.Words.{put_at, Wrote}
-use Rattle.words.proofs.Laws.{put_overlaid, decimal_length, wrote, and_then}
+use Rattle.words.proofs.Laws.{put_nil, put_overlaid, decimal_length, wrote, and_then}
 use Rattle.line.specs.Printing.{answered, or_dash}
 
 -- ---- numbers, each after a space
@@ -42,19 +43,33 @@ module _ (d : List ℕ) {e : List ℕ} (at : ℕ) {m : ℕ} (n : ℕ) (room : at
 pub spaced_next : {d e f : List ℕ} {at m r : ℕ} (n : ℕ) (ns : List ℕ) → Wrote d at (spaced (n ∷ [])) e m → Wrote e m (spaced ns) f r → Wrote d at (spaced (n ∷ ns)) f r
 spaced_next n ns a b = rw (← spaced_more n ns) (and_then a b)
 
-pub three_wrote : {d e f g : List ℕ} {at m n r : ℕ} (x y z : ℕ) → Wrote d at (spaced (x ∷ [])) e m → Wrote e m (spaced (y ∷ [])) f n → Wrote f n (spaced (z ∷ [])) g r
-    → Wrote d at (spaced (x ∷ y ∷ z ∷ [])) g r
-three_wrote x y z a b c = spaced_next x (y ∷ z ∷ []) a (spaced_next y (z ∷ []) b c)
+spaced_append : (ms ns : List ℕ) → spaced ms ++ spaced ns ≡ spaced (ms ++ ns)
+unfolding spaced
+spaced_append [] ns = refl
+spaced_append (m ∷ ms) ns = rw (← spaced_append ms ns) (append_assoc (bytes " " ++ decimal m) (spaced ms) (spaced ns))
+
+-- the first k of them
+pub record NumbersPut (d : List ℕ) (at : ℕ) (ns : List ℕ) (k : ℕ) (e : List ℕ) (end : ℕ) : Type 0 where
+  pub wrote : Wrote d at (spaced (take k ns)) e end
+  pub bound : end ≤ at + 11 * k
+
+pub numbers_none : (d : List ℕ) (at : ℕ) (ns : List ℕ) → at + 11 * length ns ≤ length d → NumbersPut d at ns 0 d at
+unfolding spaced
+numbers_none d at ns h = record { wrote = record { same = sym (put_nil d at); ends = omega arith; long = refl; inside = omega arith }; bound = omega arith }
+
+module _ {d e : List ℕ} {at k end : ℕ} {ns : List ℕ} (p : NumbersPut d at ns k e end) where
+  pub numbers_more : {f : List ℕ} {r : ℕ} → k < length ns → Wrote e end (spaced (get_or ns k 0 ∷ [])) f r → r ≤ end + 11 → NumbersPut d at ns (k + 1) f r
+  numbers_more h w b = record { wrote = rw (take_more ns k 0 h, ← spaced_append) (and_then p.wrote w); bound = omega (arith, p.bound) }
+
+  pub numbers_all : length ns ≤ k → Wrote d at (spaced ns) e end
+  numbers_all h = rw (take_all k ns h) at p.wrote
 
 -- ---- the message or `-`
 
-pub dash : (message : List ℕ) → length message ≡ 0 → bytes "-" ≡ or_dash message
-unfolding or_dash test◌then◌else◌
-dash message e = rw (eq-eqb _ _ e)
-
-pub no_dash : (message : List ℕ) → (length message ≡ 0 → ⊥) → message ≡ or_dash message
-unfolding or_dash test◌then◌else◌
-no_dash message ne = rw (ne_eqb _ _ ne)
+pub dash_short : (message : List ℕ) → length (or_dash message) ≤ 1 + length message
+unfolding or_dash test◌then◌else◌ bytes
+dash_short [] = let e : or_dash [] ≡ bytes "-" = refl in omega (arith, ap length e)
+dash_short (c ∷ cs) = let e : or_dash (c ∷ cs) ≡ c ∷ cs = rw (ne_eqb (length (c ∷ cs)) 0 (omega arith)) in omega (arith, ap length e)
 
 -- ---- the two lines
 
@@ -64,12 +79,12 @@ pub accepted_wrote : {d e f g : List ℕ} {m n r : ℕ} (sheet : List ℕ) (name
 unfolding accepted_line
 accepted_wrote sheet names types p q a b c = rw (← p, ← q) (and_then (and_then a b) c)
 
-module _ {d e f g h i j : List ℕ} {m n o p q r : ℕ} (code place begins ends : ℕ) (message : List ℕ) where
-  pub refused_wrote : Wrote d 0 (bytes "refused") e m → Wrote e m (spaced (code ∷ [])) f n → Wrote f n (spaced (place ∷ begins ∷ ends ∷ [])) g o
+module _ {d e g h i j : List ℕ} {m o p q r : ℕ} (code place begins ends : ℕ) (message : List ℕ) where
+  pub refused_wrote : Wrote d 0 (bytes "refused") e m → Wrote e m (spaced (code ∷ place ∷ begins ∷ ends ∷ [])) g o
       → Wrote g o (bytes " ") h p → Wrote h p (or_dash message) i q → Wrote i q (bytes "\n") j r
       → Wrote d 0 (refused_line (answered code place begins ends [] message)) j r
   unfolding refused_line or_dash
-  refused_wrote a b c s t z = and_then (and_then (and_then (and_then a (spaced_next code (place ∷ begins ∷ ends ∷ []) b c)) s) t) z
+  refused_wrote a b s t z = and_then (and_then (and_then (and_then a b) s) t) z
 
 -- ---- which of them
 

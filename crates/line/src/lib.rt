@@ -1,7 +1,7 @@
 // The one line that the program prints for an image: what was accepted, or why it was refused.
 #![tactic(auto)]
 
-ghost use Rattle.std.specs.Prelude.{◌≡◌, [], ◌∷◌, ◌+◌, ◌<◌, ◌≤◌, length};
+ghost use Rattle.std.specs.Prelude.{◌≡◌, [], ◌∷◌, ◌+◌, ◌*◌, ◌<◌, ◌≤◌, length};
 ghost use Rattle.meaning.specs.Answer.{answer, overlaid};
 ghost use Rattle.meaning.specs.Line.{spaced, accepted_line, refused_line, line_of};
 ghost use Rattle.line.specs.Printing.{Printable, answered, or_dash, Lined, SecondTold};
@@ -22,25 +22,23 @@ pub fn put_spaced(out: &mut [u8], at: usize, n: u32) -> usize
     put_decimal(out, number, n)
 }
 
-fn put_three(out: &mut [u8], at: usize, a: u32, b: u32, c: u32) -> usize
-    requires { at + 33 ≤ length out.old }
-    ensures wrote { Wrote out.old at (spaced (a ∷ b ∷ c ∷ [])) out.new result }
-    ensures upper_bound { result ≤ at + 33 }
+// Each number after a space.
+fn put_numbers(out: &mut [u8], at: usize, numbers: &[u32]) -> usize
+    requires { at + 11 * length numbers.now ≤ length out.old }
+    ensures wrote { Wrote out.old at (spaced numbers.now) out.new result }
+    ensures upper_bound { result ≤ at + 11 * length numbers.now }
 {
-    let second = put_spaced(out, at, a);
-    let third = put_spaced(out, second, b);
-    put_spaced(out, third, c)
+    let mut end = at;
+    for n in numbers {
+        end = put_spaced(out, end, *n);
+    }
+    end
 }
 
-fn put_message(out: &mut [u8], at: usize, message: &[u8]) -> usize
-    requires { at + 1 + length message.now ≤ length out.old }
-    ensures wrote { Wrote out.old at (or_dash message.now) out.new result }
-    ensures upper_bound { result ≤ at + 1 + length message.now }
+fn or_dash(message: &[u8]) -> &[u8]
+    ensures { result.now ≡ or_dash message.now }
 {
-    if message.len() == 0 {
-        return put(out, at, b"-");
-    }
-    put(out, at, message)
+    if message.is_empty() { b"-" } else { message }
 }
 
 // ---- the two lines
@@ -55,7 +53,7 @@ fn accepted_line(sheet: &[u8], out: &mut [u8]) -> usize
     let names = get_word(sheet, header::NAME_COUNT);
     let types = get_word(sheet, header::TYPE_COUNT);
     let numbers = put(out, 0, b"accepted");
-    let end = put_three(out, numbers, names, types, sheet.len() as u32);
+    let end = put_numbers(out, numbers, &[names, types, sheet.len() as u32]);
     put(out, end, b"\n")
 }
 
@@ -73,10 +71,9 @@ pub fn refused_line(
     ensures upper_bound { result ≤ 64 + length message.now }
 {
     let numbers = put(out, 0, b"refused");
-    let others = put_spaced(out, numbers, code);
-    let space = put_three(out, others, place, begins, ends);
+    let space = put_numbers(out, numbers, &[code, place, begins, ends]);
     let text = put(out, space, b" ");
-    let end = put_message(out, text, message);
+    let end = put(out, text, or_dash(message));
     put(out, end, b"\n")
 }
 
@@ -98,9 +95,10 @@ pub fn write(
     ensures upper_bound { result ≤ 64 + length message.now }
 {
     if code == 0 {
-        return accepted_line(sheet, out);
+        accepted_line(sheet, out)
+    } else {
+        refused_line(code, place, begins, ends, message, out)
     }
-    refused_line(code, place, begins, ends, message, out)
 }
 
 // ---- the line of an image

@@ -1,5 +1,5 @@
 -- What each case of `load` leaves, from what `check` left. Assumes nothing.
-use mathlib.Core.Path.{◌≡◌, refl, sym, ap, ◌∙◌, subst}
+use mathlib.Core.Path.{◌≡◌, sym, ap, ◌∙◌, subst}
 use mathlib.Core.Bool.{true, false, false≢true}
 use mathlib.Core.List.{List}
 use Prim.Native.Nat.{ℕ, ◌≤◌}
@@ -12,39 +12,31 @@ use Rattle.meaning.proofs.Choices.{same_text_lem, text_same}
 use Rattle.meaning.proofs.Loads.{loads_exactly, look_exactly, refused_exactly}
 use Rattle.meaning.proofs.Answers.{overlaid_length, overlaid_front}
 use Rattle.meaning.proofs.Answers.{answered as bounds}
-use Rattle.checker.specs.Answers.{Numbers, sheet_numbers, numbers_of, Stands, Replies, Answers}
-use Rattle.checker.specs.declared.Answer.{Answer}
-use Rattle.checker.specs.declared.Answer.TheVariants.{Accepted, BadHead, BadCount, BadOffset, BadName, UnsafeName, BadNode, BadNesting, TooDeep, NinthFrame, ShortBuffer, NoSetting, Retired, Typing}
-use Rattle.load.specs.Rule.{kind_of, numbers_told, Decides, Decided}
-use Rattle.load.specs.declared.Loading.{Loading}
-use Rattle.load.specs.declared.Loading.TheVariants.{Loads, Look, Refused}
+use Rattle.std.specs.Prelude.{Ok, Err}
+use Rattle.image.specs.declared.Fault.TheVariants.{BadHead, BadCount, BadOffset, BadName, UnsafeName, BadNode, BadNesting, TooDeep}
+use Rattle.checker.specs.Answers.{Numbers, numbers_of, Stands, Replies, Answers}
+use Rattle.checker.specs.declared.Refused.{Refused}
+use Rattle.checker.specs.declared.Refused.TheVariants.{Faulty, NinthFrame, ShortBuffer, NoSetting, Retired, Typing}
+use Rattle.load.specs.Rule.{Decision, kind_of, numbers_told, Decides, Decided}
+use Rattle.load.specs.declared.Loading.TheVariants.{Loads, Look}
 
--- an answer other than Accepted
-abbrev Refuses : Answer → Type 0
-Refuses q = (n : ℕ) → q ≡ Accepted n → ⊥
-
--- has another code than 0
-pub refuses : (q : Answer) → Refuses q → Stands q → (numbers_of q).code ≡ 0 → ⊥
-refuses (Accepted n) h s e = h n refl
-refuses BadHead h s e = omega (arith, e)
-refuses BadCount h s e = omega (arith, e)
-refuses BadOffset h s e = omega (arith, e)
-refuses (BadName i) h s e = omega (arith, e)
-refuses (UnsafeName i) h s e = omega (arith, e)
-refuses (BadNode i) h s e = omega (arith, e)
-refuses (BadNesting i) h s e = omega (arith, e)
-refuses (TooDeep i) h s e = omega (arith, e)
-refuses (NinthFrame i) h s e = omega (arith, e)
-refuses ShortBuffer h s e = omega (arith, e)
-refuses NoSetting h s e = omega (arith, e)
-refuses (Retired i) h s e = omega (arith, e)
-refuses (Typing r) h s e = omega (arith, e, s)
+-- a refusal has another code than 0
+pub refuses : (r : Refused) → Stands (Err r) → (numbers_of (Err r)).code ≡ 0 → ⊥
+refuses (Faulty BadHead) s e = omega (arith, e)
+refuses (Faulty BadCount) s e = omega (arith, e)
+refuses (Faulty BadOffset) s e = omega (arith, e)
+refuses (Faulty (BadName i)) s e = omega (arith, e)
+refuses (Faulty (UnsafeName i)) s e = omega (arith, e)
+refuses (Faulty (BadNode i)) s e = omega (arith, e)
+refuses (Faulty (BadNesting i)) s e = omega (arith, e)
+refuses (Faulty (TooDeep i)) s e = omega (arith, e)
+refuses (NinthFrame i) s e = omega (arith, e)
+refuses ShortBuffer s e = omega (arith, e)
+refuses NoSetting s e = omega (arith, e)
+refuses (Retired i) s e = omega (arith, e)
+refuses (Typing r) s e = omega (arith, e, s)
 
 -- ---- the three cases
-
--- an accepted answer's numbers are those of a sheet
-pub told : {a : Meant} {q : Answer} {n : ℕ} {s s₁ m m₁ : List ℕ} → q ≡ Accepted n → Answers a q s s₁ m m₁ → Replies a (sheet_numbers n) s s₁ m m₁
-told {a} {s = s} {s₁ = s₁} {m = m} {m₁ = m₁} e x = subst (λ (r : Answer). Replies a (numbers_of r) s s₁ m m₁) e x.replies
 
 -- the sheet lies in its buffer
 pub sheet_in : (setting : ℕ) (image : List ℕ) {n : Numbers} (s : List ℕ) {s₁ : List ℕ} (m : List ℕ) {m₁ : List ℕ}
@@ -58,50 +50,50 @@ sheet_in setting image s m x =
 pub sheet_there : {a : Meant} {n : Numbers} {s s₁ m m₁ : List ℕ} → Replies a n s s₁ m m₁ → take n.sheet s₁ ≡ a.sheet
 sheet_there {a} {s = s} x = rw (ap (λ (k : Numbers). k.sheet) x.numbers, x.sheet) (overlaid_front a.sheet s)
 
-module _ {a : Meant} (approved : List ℕ) {q : Answer} {s s₁ m m₁ : List ℕ} (x : Answers a q s s₁ m m₁) where
-  pub refused_told : Refuses q → Decided a approved (Refused q) s s₁ m m₁
-  refused_told h =
+module _ {a : Meant} (approved : List ℕ) {s s₁ m m₁ : List ℕ} where
+  pub refused_told : (r : Refused) → Answers a (Err r) s s₁ m m₁ → Decided a approved (Err r) s s₁ m m₁
+  refused_told r x =
       let code = ap (λ (k : Numbers). k.code) x.replies.numbers in
       record {
         decides = record {
-          rule = ap loading_number (sym ((refused_exactly a approved).1 (λ e. refuses q h x.stands (code ∙ e))));
+          rule = ap loading_number (sym ((refused_exactly a approved).1 (λ e. refuses r x.stands (code ∙ e))));
           replies = x.replies;
         };
         stands = x.stands;
       }
 
-  module _ {n : ℕ} (e : q ≡ Accepted n) {part : List ℕ} (p : part ≡ take n s₁) where
+  module _ {n : ℕ} (x : Answers a (Ok n) s s₁ m m₁) where
     accepts : a.code ≡ 0
-    accepts = sym (ap (λ (k : Numbers). k.code) (told e x).numbers)
+    accepts = sym (ap (λ (k : Numbers). k.code) x.replies.numbers)
 
     -- what is compared is the sheet that was written
-    sheet_part : part ≡ a.sheet
-    sheet_part = p ∙ sheet_there (told e x)
+    sheet_part : take n s₁ ≡ a.sheet
+    sheet_part = sheet_there x.replies
 
-    pub loads_told : same_text part approved ≡ true → Decided a approved (Loads n) s s₁ m m₁
+    pub loads_told : same_text (take n s₁) approved ≡ true → Decided a approved (Ok (Loads n)) s s₁ m m₁
     loads_told h = record {
       decides = record {
-        rule = ap loading_number (sym ((loads_exactly a approved).1 (accepts, sym sheet_part ∙ same_text_lem part approved h)));
-        replies = told e x;
+        rule = ap loading_number (sym ((loads_exactly a approved).1 (accepts, sym sheet_part ∙ same_text_lem (take n s₁) approved h)));
+        replies = x.replies;
       };
       stands = tt;
     }
 
-    differs : same_text part approved ≡ false → a.sheet ≡ approved → ⊥
-    differs h o = false≢true (sym h ∙ subst (λ (y : List ℕ). same_text part y ≡ true) (sheet_part ∙ o) (text_same part))
+    differs : same_text (take n s₁) approved ≡ false → a.sheet ≡ approved → ⊥
+    differs h o = false≢true (sym h ∙ subst (λ (y : List ℕ). same_text (take n s₁) y ≡ true) (sheet_part ∙ o) (text_same (take n s₁)))
 
-    pub look_told : same_text part approved ≡ false → Decided a approved (Look n) s s₁ m m₁
+    pub look_told : same_text (take n s₁) approved ≡ false → Decided a approved (Ok (Look n)) s s₁ m m₁
     look_told h = record {
       decides = record {
         rule = ap loading_number (sym ((look_exactly a approved).1 (accepts, differs h)));
-        replies = told e x;
+        replies = x.replies;
       };
       stands = tt;
     }
 
 -- ---- by numbers
 
-pub decides_as : {a : Meant} {approved : List ℕ} {r : Loading} {k : ℕ} {n : Numbers} {s s₁ m m₁ : List ℕ} → Decided a approved r s s₁ m m₁ → k ≡ loading_number (kind_of r)
+pub decides_as : {a : Meant} {approved : List ℕ} {r : Decision} {k : ℕ} {n : Numbers} {s s₁ m m₁ : List ℕ} → Decided a approved r s s₁ m m₁ → k ≡ loading_number (kind_of r)
     → n ≡ numbers_told r → Decides a approved k n s s₁ m m₁
 decides_as {a} {s = s} {s₁ = s₁} {m = m} {m₁ = m₁} x e f = record {
   rule = e ∙ x.decides.rule;

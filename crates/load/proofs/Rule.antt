@@ -18,28 +18,28 @@ use Rattle.meaning.specs.Show.{InWords, changes_answer}
 use Rattle.show.specs.Words.{Tells}
 use Rattle.show.proofs.Runs.{nothing_exactly}
 use Rattle.load.specs.declared.Words.{Words}
-use Rattle.load.specs.Rule.{kind_of, numbers_told, StandsTold, Decides, Decided, verdict_means}
+use Rattle.std.specs.Prelude.{Ok, Err}
+use Rattle.load.specs.Rule.{Decision, kind_of, numbers_told, StandsTold, Decides, Decided, verdict_means}
 use Rattle.load.specs.declared.Verdict.{Verdict}
-use Rattle.load.specs.declared.Loading.{Loading}
-use Rattle.load.specs.declared.Loading.TheVariants.{Loads, Look, Refused}
+use Rattle.load.specs.declared.Loading.TheVariants.{Loads, Look}
 use Rattle.load.proofs.Cases.{sheet_there}
 
 -- ---- no second outcome fits
 
-same_loading : (r q : Loading) → StandsTold r → StandsTold q → loading_number (kind_of r) ≡ loading_number (kind_of q) → numbers_told r ≡ numbers_told q → r ≡ q
-same_loading (Loads n) (Loads k) s t h e = ap Loads (ap (λ (x : Numbers). x.sheet) e)
-same_loading (Loads n) (Look k) s t h e = absurd (omega (arith, h))
-same_loading (Loads n) (Refused b) s t h e = absurd (omega (arith, h))
-same_loading (Look n) (Loads k) s t h e = absurd (omega (arith, h))
-same_loading (Look n) (Look k) s t h e = ap Look (ap (λ (x : Numbers). x.sheet) e)
-same_loading (Look n) (Refused b) s t h e = absurd (omega (arith, h))
-same_loading (Refused a) (Loads k) s t h e = absurd (omega (arith, h))
-same_loading (Refused a) (Look k) s t h e = absurd (omega (arith, h))
-same_loading (Refused a) (Refused b) s t h e = ap Refused (same_answer a b s t e)
+same_loading : (r q : Decision) → StandsTold r → StandsTold q → loading_number (kind_of r) ≡ loading_number (kind_of q) → numbers_told r ≡ numbers_told q → r ≡ q
+same_loading (Ok (Loads n)) (Ok (Loads k)) s t h e = let z = same_answer (Ok n) (Ok k) s t e in cc
+same_loading (Ok (Loads n)) (Ok (Look k)) s t h e = absurd (omega (arith, h))
+same_loading (Ok (Loads n)) (Err b) s t h e = absurd (omega (arith, h))
+same_loading (Ok (Look n)) (Ok (Loads k)) s t h e = absurd (omega (arith, h))
+same_loading (Ok (Look n)) (Ok (Look k)) s t h e = let z = same_answer (Ok n) (Ok k) s t e in cc
+same_loading (Ok (Look n)) (Err b) s t h e = absurd (omega (arith, h))
+same_loading (Err a) (Ok (Loads k)) s t h e = absurd (omega (arith, h))
+same_loading (Err a) (Ok (Look k)) s t h e = absurd (omega (arith, h))
+same_loading (Err a) (Err b) s t h e = let z = same_answer (Err a) (Err b) s t e in cc
 
 -- Two outcomes that both meet the promise of `load` are equal, the case with its numbers and both buffers. (False of a promise that lets `load`
 -- say either of Loads and Look where nothing is approved, or that leaves open what stands in the sheet's buffer where someone must look.)
-pub one_loading : (a : Meant) (approved : List ℕ) {r q : Loading} {s s₁ s₂ m m₁ m₂ : List ℕ} → Decided a approved r s s₁ m m₁ → Decided a approved q s s₂ m m₂
+pub one_loading : (a : Meant) (approved : List ℕ) {r q : Decision} {s s₁ s₂ m m₁ m₂ : List ℕ} → Decided a approved r s s₁ m m₁ → Decided a approved q s s₂ m m₂
     → (r ≡ q) × (s₁ ≡ s₂) × (m₁ ≡ m₂)
 one_loading a approved {r} {q} x y =
     let o = one_told x.decides.replies y.decides.replies in
@@ -81,10 +81,10 @@ one_in_words a r q x y =
 -- ---- when a script loads
 
 -- the case's number says which case it is
-pub is_loads : (r : Loading) → (loading_number (kind_of r) ≡ 0) ↔ (r ≡ Loads (numbers_told r).sheet)
-is_loads (Loads n) = (λ e. refl, λ e. refl)
-is_loads (Look n) = (λ e. absurd (omega (arith, e)), λ e. absurd (omega (arith, ap (λ (q : Loading). loading_number (kind_of q)) e)))
-is_loads (Refused a) = (λ e. absurd (omega (arith, e)), λ e. absurd (omega (arith, ap (λ (q : Loading). loading_number (kind_of q)) e)))
+pub is_loads : (r : Decision) → (loading_number (kind_of r) ≡ 0) ↔ (r ≡ Ok (Loads (numbers_told r).sheet))
+is_loads (Ok (Loads n)) = (λ e. refl, λ e. refl)
+is_loads (Ok (Look n)) = (λ e. absurd (omega (arith, e)), λ e. absurd (omega (arith, ap (λ (q : Decision). loading_number (kind_of q)) e)))
+is_loads (Err r) = (λ e. absurd (omega (arith, e)), λ e. absurd (omega (arith, ap (λ (q : Decision). loading_number (kind_of q)) e)))
 
 module _ {a : Meant} (approved : List ℕ) {k : ℕ} {n : Numbers} {s s₁ m m₁ : List ℕ} (x : Decides a approved k n s s₁ m m₁) where
   -- It loads exactly when the check accepts and the sheet that stands at the front of the buffer, as long as told, is the approved bytes,

@@ -2,11 +2,9 @@
 use mathlib.Core.Path.{◌≡◌, refl, sym, ap, ◌∙◌}
 use mathlib.Core.Logic.{◌↔◌}
 use mathlib.Core.List.{List}
-use mathlib.Core.Option.{Option, none, some, none-ne-some, some-injective}
 use Prim.Native.Nat.{ℕ}
 use native.Mathlib.Omega.{arith}
-use Rattle.meaning.specs.Base.{if_some}
-use Rattle.meaning.specs.Image.{Fault, nodes_of}
+use Rattle.meaning.specs.Image.{nodes_of}
 use Rattle.meaning.specs.Decode.{tree_of}
 use Rattle.meaning.specs.Walk.{plain}
 use Rattle.meaning.specs.Read.{entries_in}
@@ -14,32 +12,12 @@ use Rattle.meaning.specs.Answer.{answer}
 use Rattle.meaning.specs.Known.{NoDefInIf, steady, def_in_if, faulty, steadiness}
 use Rattle.meaning.specs.Known.{Steadiness as Meant}
 use Rattle.meaning.proofs.Faults.{Sound}
-use Rattle.image.specs.Outcome.{fault_of}
-use Rattle.image.specs.declared.Judged.{Judged}
-use Rattle.steady.specs.Told.{meant}
-use Rattle.steady.specs.declared.Steadiness.{Steadiness}
-use Rattle.steady.specs.declared.Steadiness.TheVariants.{Faulty}
 use Rattle.steady.proofs.Whole.{steadiness_exactly}
 use Rattle.checker.specs.Answers.{Numbers, Replies}
 use Rattle.checker.specs.Module.{sheet_in}
 use Rattle.checker.proofs.Known.{Steadily, plain_steadily}
-use Rattle.load.specs.Steadiness.{SteadyNumbers, steady_numbers, steady_means, blame}
+use Rattle.load.specs.Steadiness.{SteadyNumbers, steady_numbers, steady_means}
 use Rattle.load.specs.declared.Steady.{Steady}
-
--- ---- an answer by cases, in numbers
-
-pub steady_so : (bs : List ℕ) (s : Steadiness) (m : Meant) → meant s ≡ some (steadiness bs) → meant s ≡ some m
-    → steady_numbers m ≡ steady_numbers (steadiness bs)
-steady_so bs s m p e = ap steady_numbers (some-injective _ _ (sym e ∙ p))
-
-pub faulty_so : (bs : List ℕ) (s : Steadiness) {j : Judged} {n : SteadyNumbers} → meant s ≡ some (steadiness bs) → s ≡ Faulty j → n ≡ blame (fault_of j)
-    → n ≡ steady_numbers (steadiness bs)
-unfolding if_some
-faulty_so bs s {j} {n} p q e = e ∙ by (fault_of j) (sym (ap meant q) ∙ p)
-  where
-    by : (o : Option Fault) → if_some o (λ f. some (faulty f)) none ≡ some (steadiness bs) → blame o ≡ steady_numbers (steadiness bs)
-    by none q = absurd (none-ne-some _ q)
-    by (some f) q = ap steady_numbers (some-injective _ _ q)
 
 -- ---- no second outcome fits
 

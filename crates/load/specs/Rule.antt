@@ -1,33 +1,39 @@
 -- What a run of the load rule leaves: its case by its number, the check's numbers, and every lent byte.
-use Rattle.std.specs.Prelude.{◌≡◌, List, ℕ}
+use Rattle.std.specs.Prelude.{◌≡◌, List, ℕ, Result, Ok, Err}
 use Rattle.meaning.specs.Answer.{Answer as Meant}
 use Rattle.meaning.specs.Load.{loads, look, refused, loading, loading_number}
 use Rattle.meaning.specs.Load.{Loading as Kind}
-use Rattle.checker.specs.Answers.{Numbers, sheet_numbers, numbers_of, Stands, Replies}
-use Rattle.show.specs.Words.{telling_code, telling_length}
-use Rattle.show.specs.declared.Telling.{Telling}
+use Rattle.checker.specs.Answers.{Answer, Numbers, numbers_of, Stands, Replies}
+use Rattle.checker.specs.declared.Refused.{Refused}
+use Rattle.show.specs.Words.{Telling, telling_code, telling_length}
 use Rattle.load.specs.declared.Verdict.{Verdict}
 use Rattle.load.specs.declared.Words.{Words}
 use Rattle.load.specs.declared.Loading.{Loading}
-use Rattle.load.specs.declared.Loading.TheVariants.{Loads, Look, Refused}
+use Rattle.load.specs.declared.Loading.TheVariants.{Loads, Look}
+
+-- how an accepted script loads, or the check's refusal
+abbrev pub Decision : Type 0
+Decision = Result Loading Refused
 
 -- the case, as `meaning` names it
-abbrev pub kind_of : Loading → Kind
-kind_of (Loads n) = loads
-kind_of (Look n) = look
-kind_of (Refused a) = refused
+abbrev pub kind_of : Decision → Kind
+kind_of (Ok (Loads n)) = loads
+kind_of (Ok (Look n)) = look
+kind_of (Err r) = refused
 
--- the check's numbers
-abbrev pub numbers_told : Loading → Numbers
-numbers_told (Loads n) = sheet_numbers n
-numbers_told (Look n) = sheet_numbers n
-numbers_told (Refused a) = numbers_of a
+-- the check's answer
+abbrev pub answer_of : Decision → Answer
+answer_of (Ok (Loads n)) = Ok n
+answer_of (Ok (Look n)) = Ok n
+answer_of (Err r) = Err r
+
+-- and its numbers
+abbrev pub numbers_told : Decision → Numbers
+numbers_told d = numbers_of (answer_of d)
 
 -- a typing refusal has a typing code
-abbrev pub StandsTold : Loading → Type 0
-StandsTold (Loads n) = Unit {0}
-StandsTold (Look n) = Unit {0}
-StandsTold (Refused a) = Stands a
+abbrev pub StandsTold : Decision → Type 0
+StandsTold d = Stands (answer_of d)
 
 -- what is left for a caller who got the case's number k and the numbers n: k is what the load rule makes of the check's answer a and the
 -- approved sheet, whatever bytes that is; and of a and the two buffers all that the check itself promises
@@ -36,7 +42,7 @@ pub record Decides (a : Meant) (approved : List ℕ) (k : ℕ) (n : Numbers) (ol
   pub replies : Replies a n old_sheet new_sheet old_message new_message
 
 -- the same of an answer by cases
-pub record Decided (a : Meant) (approved : List ℕ) (r : Loading) (old_sheet new_sheet old_message new_message : List ℕ) : Type 0 where
+pub record Decided (a : Meant) (approved : List ℕ) (r : Decision) (old_sheet new_sheet old_message new_message : List ℕ) : Type 0 where
   pub decides : Decides a approved (loading_number (kind_of r)) (numbers_told r) old_sheet new_sheet old_message new_message
   pub stands : StandsTold r
 

@@ -1,9 +1,6 @@
 -- Whether a program has no Def inside an If, in numbers for other languages.
-use Rattle.std.proofs.Math.Option.{Option}
 use Rattle.std.specs.Prelude.{ℕ}
-use Rattle.meaning.specs.Image.{Fault}
 use Rattle.meaning.specs.Known.{Steadiness, steady, def_in_if, faulty}
-use Rattle.image.specs.Outcome.{code_told, place_told}
 use Rattle.load.specs.declared.Steady.{Steady}
 
 pub record SteadyNumbers : Type 0 where
@@ -25,7 +22,3 @@ steady_numbers (faulty f) = fault_numbers f.code f.place
 
 abbrev pub steady_means : Steady → SteadyNumbers
 steady_means r = record { steady = r.steady; code = r.code; place = r.place; span_start = r.span_start; span_end = r.span_end }
-
--- a judgment's fault; `steady` hands out none without one, so that what stands here for none is never told
-abbrev pub blame : Option Fault → SteadyNumbers
-blame o = fault_numbers (code_told o) (place_told o)

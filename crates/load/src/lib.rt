@@ -6,31 +6,32 @@
 ghost use Rattle.std.specs.Prelude.{◌≡◌, length};
 ghost use Rattle.meaning.specs.Answer.{answer};
 ghost use Rattle.meaning.specs.Convert.{convert_answer};
-ghost use Rattle.meaning.specs.Known.{steadiness};
+ghost use Rattle.meaning.specs.Known.{faulty, steadiness};
 ghost use Rattle.meaning.specs.Load.{loading_number};
 ghost use Rattle.meaning.specs.Show.{show_answer, changes_answer};
-ghost use Rattle.checker.specs.Answers.{sheet_numbers, numbers_of};
-ghost use Rattle.image.specs.Outcome.{fault_of};
+ghost use Rattle.checker.specs.Answers.{numbers_of};
+ghost use Rattle.image.specs.Outcome.{fault_in};
 ghost use Rattle.show.specs.Words.{Tells};
 ghost use Rattle.load.specs.Rule.{kind_of, numbers_told, Decided, Decides, verdict_means, Numbered};
 ghost use Rattle.convert.specs.Outcome.{Hands};
-ghost use Rattle.load.specs.Steadiness.{steady_numbers, steady_means, blame};
+ghost use Rattle.load.specs.Steadiness.{steady_numbers, steady_means};
 ghost use Rattle.load.specs.Conversion.{converted_means};
 
-use checker::{Answer, NO_SHEET, SHORT_BUFFER, check, replied};
-use convert::Conversion;
-use image::{Judged, fault_of};
-use show::Telling;
-use steady::Steadiness;
-use words::{same, text};
+use checker::{Answer, NO_SHEET, Refused, SHORT_BUFFER, check, replied};
+use convert::Unconverted;
+use image::{Fault, Numbers};
+use show::{Telling, Untold};
+use words::same;
 
-// The script loads unseen, with the length of its sheet; someone must look at its sheet; or the check's refusal.
-#[derive(Clone, Copy)]
+// An accepted script loads unseen, or someone must look at its sheet: with the length of the sheet.
+#[derive(Clone, Copy, PartialEq, Eq)]
 pub enum Loading {
     Loads(usize),
     Look(usize),
-    Refused(Answer),
 }
+
+// How an accepted script loads, or the check's refusal.
+pub type Decision = Result<Loading, Refused>;
 
 // Checks an image under a setting and decides whether it loads. The two buffers are left as `check` leaves them, so
 // that whoever must look finds the sheet at the front of its buffer.
@@ -40,20 +41,17 @@ pub fn load(
     approved: &[u8],
     sheet: &mut [u8],
     message: &mut [u8],
-) -> Loading
+) -> Decision
     ensures { Decided
         (answer setting image.now (length sheet.old) (length message.old))
         approved.now result
         sheet.old sheet.new message.old message.new }
 {
-    let a = check(setting, image, sheet, message);
-    let Answer::Accepted(n) = a else {
-        return Loading::Refused(a);
-    };
-    if same(text(sheet, 0, n), approved) {
-        return Loading::Loads(n);
+    let n = check(setting, image, sheet, message)?;
+    if same(&sheet[..n], approved) {
+        return Ok(Loading::Loads(n));
     }
-    Loading::Look(n)
+    Ok(Loading::Look(n))
 }
 
 // ---- for C and Rust: the static library `load_c` exports these
@@ -80,29 +78,13 @@ const LOOK: u32 = 1;
 
 const REFUSED: u32 = 2;
 
-// An accepted script's case, with the length of its sheet.
-fn accepted(loading: u32, length: usize) -> Verdict
-    ensures { (result.loading ≡ loading) × (verdict_means result ≡ sheet_numbers length) }
-{
-    Verdict {
-        loading,
-        code: 0,
-        span_start: 0,
-        span_end: 0,
-        second_start: 0,
-        second_end: 0,
-        place: 0,
-        sheet_length: length,
-        message_length: 0,
-    }
-}
-
-fn refused(a: Answer) -> Verdict
-    ensures { (result.loading ≡ 2) × (verdict_means result ≡ numbers_of a) }
+// A case, with the check's answer.
+fn told_as(loading: u32, a: Answer) -> Verdict
+    ensures { (result.loading ≡ loading) × (verdict_means result ≡ numbers_of a) }
 {
     let p = replied(a);
     Verdict {
-        loading: REFUSED,
+        loading,
         code: p.code,
         span_start: p.span_start,
         span_end: p.span_end,
@@ -114,13 +96,13 @@ fn refused(a: Answer) -> Verdict
     }
 }
 
-fn decided(r: Loading) -> Verdict
-    ensures { (result.loading ≡ loading_number (kind_of r)) × (verdict_means result ≡ numbers_told r) }
+fn decided(d: Decision) -> Verdict
+    ensures { (result.loading ≡ loading_number (kind_of d)) × (verdict_means result ≡ numbers_told d) }
 {
-    match r {
-        Loading::Loads(n) => accepted(LOADS, n),
-        Loading::Look(n) => accepted(LOOK, n),
-        Loading::Refused(a) => refused(a),
+    match d {
+        Ok(Loading::Loads(n)) => told_as(LOADS, Ok(n)),
+        Ok(Loading::Look(n)) => told_as(LOOK, Ok(n)),
+        Err(r) => told_as(REFUSED, Err(r)),
     }
 }
 
@@ -154,12 +136,12 @@ fn in_numbers(t: Telling) -> Words
     ensures { Numbered t result }
 {
     match t {
-        Telling::Told(n) => Words { code: 0, length: n },
-        Telling::NoRoom => Words {
+        Ok(length) => Words { code: 0, length },
+        Err(Untold::NoRoom) => Words {
             code: SHORT_BUFFER,
             length: 0,
         },
-        Telling::NoSheet => Words {
+        Err(Untold::NoSheet) => Words {
             code: NO_SHEET,
             length: 0,
         },
@@ -200,17 +182,17 @@ const STEADY: u32 = 1;
 
 const UNSTEADY: u32 = 0;
 
-// A fault of the bytes. `steady` never hands out a well-formed image as faulty.
-fn blamed(j: Judged) -> Steady
-    ensures { steady_means result ≡ blame (fault_of j) }
+// A fault of the bytes.
+fn blamed(f: Fault) -> Steady
+    ensures { steady_means result ≡ steady_numbers (faulty (fault_in f)) }
 {
-    let f = fault_of(j);
+    let n = Numbers::from(f);
     Steady {
         steady: UNSTEADY,
-        code: f.code,
+        code: n.code,
         span_start: 0,
         span_end: 0,
-        place: f.place,
+        place: n.place,
     }
 }
 
@@ -219,21 +201,21 @@ pub fn cablebirch_steady(image: &[u8]) -> Steady
     ensures { steady_means result ≡ steady_numbers (steadiness image.now) }
 {
     match steady::steady(image) {
-        Steadiness::Steady => Steady {
+        Ok(None) => Steady {
             steady: STEADY,
             code: 0,
             span_start: 0,
             span_end: 0,
             place: 0,
         },
-        Steadiness::DefInIf(d) => Steady {
+        Ok(Some(d)) => Steady {
             steady: UNSTEADY,
             code: 0,
             span_start: d.begins,
             span_end: d.ends,
             place: d.node,
         },
-        Steadiness::Faulty(j) => blamed(j),
+        Err(f) => blamed(f),
     }
 }
 
@@ -256,20 +238,20 @@ pub fn cablebirch_convert(image: &[u8], out: &mut [u8]) -> Converted
         (converted_means result) out.old out.new }
 {
     match convert::convert(image, out) {
-        Conversion::Converted(n) => Converted {
+        Ok(length) => Converted {
             code: 0,
             place: 0,
-            length: n,
+            length,
         },
-        Conversion::Faulty(j) => {
-            let f = fault_of(j);
+        Err(Unconverted::Faulty(f)) => {
+            let n = Numbers::from(f);
             Converted {
-                code: f.code,
-                place: f.place,
+                code: n.code,
+                place: n.place,
                 length: 0,
             }
         }
-        Conversion::ShortOutput => Converted {
+        Err(Unconverted::ShortOutput) => Converted {
             code: SHORT_OUTPUT,
             place: 0,
             length: 0,

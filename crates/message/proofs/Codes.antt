@@ -1,111 +1,25 @@
 -- What each code says: its format string, how many types it names, and what is put in at the gaps.
-use mathlib.Core.Path.{◌≡◌, refl, sym, ◌∙◌}
-use mathlib.Core.Bool.{Bool, true, false}
-use mathlib.Core.Logic.{inl, inr}
+use mathlib.Core.Path.{◌≡◌, refl}
+use mathlib.Core.Bool.{Bool, true}
+use mathlib.Core.Logic.{◌⊎◌, inl, inr}
 use mathlib.Core.List.{List, [], ◌∷◌}
-use Prim.Native.Nat.{ℕ, zero, suc, ◌+◌, ◌<◌, ◌≤◌}
-use Prim.Native.String.{String}
-use native.Mathlib.Nat.{zero-add}
-use native.Mathlib.Omega.{arith}
-use native.Mathlib.Decide.{dec_lt, ℕ_discrete}
-use borrow.Author.Tests.{eqb-true, eq-eqb, ne_eqb, leb-true}
-use types.Run.{OneOf}
-use lib.Dec.{eqb, leb}
-use lib.ListN.{length, take, drop}
+use Prim.Native.Nat.{ℕ}
+use borrow.Author.Tests.{eqb-true}
+use lib.Dec.{eqb}
 use Rattle.meaning.specs.Base.{◌and◌, ◌or◌, test◌then◌else◌, all, is_in, choose, bytes, decimal}
 use Rattle.meaning.specs.Image.{names_of, name_of}
 use Rattle.meaning.specs.Message.{a_type, a_text, a_number, template, said, message}
 use Rattle.meaning.specs.Rules.{described}
 use Rattle.meaning.specs.Types.{text}
 use Rattle.meaning.proofs.Choices.{and_left, and_right}
-use Rattle.words.specs.Words.{put_at}
-use Rattle.words.proofs.Laws.{put_nil, put_part}
+use Rattle.codes.specs.declared.Code.{Code}
+use Rattle.codes.specs.declared.Code.TheVariants.{Break, Continue, InconsistentReturn, NotIterable, CannotAssign, UnpackNonIterable, InvalidTarget, Plus, Times, Compare, Equality, NumericPair, IntOrFloat, ExpectedBool, Condition, Input, Len, Range, MapFirst, MapSecond, FilterFirst, FilterSecond, ListIndex, DictKey, TupleIndex, StringIndex, NotSubscriptable}
+use Rattle.codes.specs.Codes.{code_number}
 use Rattle.types.specs.Table.{Tab, denote}
 use Rattle.rules.specs.Outcome.{types_named, taken, pieces}
 use Rattle.message.specs.Pieces.{gaps}
 use Rattle.message.specs.Told.{format_of}
 use Rattle.message.proofs.Telling.{Form}
-
--- ---- a number that is no code has no format string
-
--- all rows have keys from n on, or up to n
-unfoldable from : ℕ → List (ℕ × String) → Bool
-from n [] = true
-from n (r ∷ rs) = leb n r.0 and from n rs
-
-unfoldable upto : ℕ → List (ℕ × String) → Bool
-upto n [] = true
-upto n (r ∷ rs) = leb r.0 n and upto n rs
-
-choose_low : (k n : ℕ) (rs : List (ℕ × String)) → k < n → from n rs ≡ true → choose k "" rs ≡ ""
-unfolding choose from test◌then◌else◌
-choose_low k n [] h g = refl
-choose_low k n (r ∷ rs) h g =
-    let low = leb-true n r.0 (and_left _ _ g) in
-    rw (ne_eqb k r.0 (λ e. absurd (omega arith))) (choose_low k n rs h (and_right _ _ g))
-
-choose_high : (k n : ℕ) (rs : List (ℕ × String)) → n < k → upto n rs ≡ true → choose k "" rs ≡ ""
-unfolding choose upto test◌then◌else◌
-choose_high k n [] h g = refl
-choose_high k n (r ∷ rs) h g =
-    let high = leb-true r.0 n (and_left _ _ g) in
-    rw (ne_eqb k r.0 (λ e. absurd (omega arith))) (choose_high k n rs h (and_right _ _ g))
-
-template_low : (code : ℕ) → code < 20 → template code ≡ ""
-unfolding template from ◌and◌
-template_low code h = choose_low code 20 _ h refl
-
-template_high : (code : ℕ) → 50 < code → template code ≡ ""
-unfolding template upto ◌and◌
-template_high code h = choose_high code 50 _ h refl
-
--- c is none of the k numbers from lo on
-unfoldable pub Avoids : ℕ → ℕ → ℕ → Type 0
-Avoids c lo zero = Unit {0}
-Avoids c lo (suc k) = Avoids c lo k × (c ≡ lo + k → ⊥)
-
-avoids_past : (c lo k : ℕ) → Avoids c lo k → lo ≤ c → lo + k ≤ c
-unfolding Avoids
-avoids_past c lo zero a h = omega arith
-avoids_past c lo (suc k) a h =
-    let before = avoids_past c lo k a.0 h in
-    let here : c ≡ lo + k → ⊥ = a.1 in
-    omega arith
-
-no_format : (c : ℕ) → Avoids c 20 31 → template c ≡ ""
-no_format c a = elim (dec_lt c 20) [
-  | yes h ↦ template_low c h
-  | no h ↦ let past = avoids_past c 20 31 a (omega arith) in template_high c (omega arith)
-]
-
--- ---- a format string in a buffer
-
-pub format_fits : {code k n : ℕ} → code ≡ k → length (format_of code) ≤ n → 0 + length (format_of k) ≤ n
-format_fits e h = rw (zero-add, ← e) h
-
-pub format_put : {code k r : ℕ} {e : List ℕ} (d : List ℕ) → code ≡ k → (e ≡ put_at d 0 (format_of k)) × (r ≡ 0 + length (format_of k))
-    → (e ≡ put_at d 0 (format_of code)) × (r ≡ length (format_of code))
-format_put {code} {k} d c w = rw c (w.0, w.1 ∙ zero-add (length (format_of k)))
-
-pub format_none : (d : List ℕ) (c : ℕ) → Avoids c 20 31 → (d ≡ put_at d 0 (format_of c)) × (0 ≡ length (format_of c))
-unfolding bytes
-format_none d c a = rw (no_format c a) (sym (put_nil d 0), refl)
-
-choose_all : (k : ℕ) (f : String → Bool) (rs : List (ℕ × String)) → f "" ≡ true → all (λ r. f r.1) rs ≡ true → f (choose k "" rs) ≡ true
-unfolding choose all test◌then◌else◌
-choose_all k f [] z h = z
-choose_all k f (r ∷ rs) z h = elim (ℕ_discrete k r.0) [
-  | yes e ↦ rw (eq-eqb k r.0 e) (and_left _ _ h)
-  | no e ↦ rw (ne_eqb k r.0 e) (choose_all k f rs z (and_right _ _ h))
-]
-
-pub format_short : (code : ℕ) → length (format_of code) ≤ 70
-unfolding template all ◌and◌ bytes
-format_short code = leb-true _ 70 (choose_all code (λ s. leb (length (bytes s)) 70) _ refl refl)
-
--- what is read back is the format string
-pub format_read : {e f : List ℕ} {n : ℕ} (d : List ℕ) (code : ℕ) → (e ≡ put_at d 0 (format_of code)) × (n ≡ length (format_of code)) → f ≡ take n (drop 0 e) → f ≡ format_of code
-format_read d code w h = h ∙ rw (w.0, w.1) (put_part d 0 (format_of code) (omega arith))
 
 -- ---- how many types a code names: as many as its format string has gaps
 
@@ -113,93 +27,38 @@ pub record Names (n c : ℕ) : Type 0 where
   pub types : types_named c ≡ n
   pub many : gaps (format_of c) ≡ n
 
-unfoldable names : ℕ → ℕ → Bool
-names n c = eqb (types_named c) n and eqb (gaps (format_of c)) n
+unfoldable names : ℕ → Code → Bool
+names n c = eqb (types_named (code_number c)) n and eqb (gaps (format_of (code_number c))) n
 
--- one number further on
-past : {c : ℕ} (n : ℕ) → n ≤ c → (c ≡ n → ⊥) → n + 1 ≤ c
-past n h d = omega arith
-
-names_so : (n c : ℕ) → names n c ≡ true → Names n c
+names_so : (n : ℕ) (c : Code) → names n c ≡ true → Names n (code_number c)
 unfolding names
 names_so n c h = record { types = eqb-true _ n (and_left _ _ h); many = eqb-true _ n (and_right _ _ h) }
 
-names_among : (n k : ℕ) (ks : List ℕ) (c : ℕ) → all (names n) (k ∷ ks) ≡ true → OneOf (k ∷ ks) c → Names n c
+-- c is one of them, as an arm of a match tells it
+abbrev pub OneOf : List Code → Code → Type 0
+OneOf [] c = ⊥
+OneOf (k ∷ []) c = c ≡ k
+OneOf (k ∷ l ∷ ks) c = (c ≡ k) ⊎ OneOf (l ∷ ks) c
+
+names_among : (n : ℕ) (k : Code) (ks : List Code) (c : Code) → all (names n) (k ∷ ks) ≡ true → OneOf (k ∷ ks) c → Names n (code_number c)
 unfolding all
 names_among n k [] c h o = rw o (names_so n k (and_left _ _ h))
 names_among n k (l ∷ ks) c h (inl e) = rw e (names_so n k (and_left _ _ h))
 names_among n k (l ∷ ks) c h (inr o) = names_among n l ks c (and_right _ _ h) o
 
--- each of the k codes from lo on
-unfoldable every : ℕ → ℕ → ℕ → Bool
-every n lo zero = true
-every n lo (suc k) = names n lo and every n (suc lo) k
-
-names_from : (n lo k c : ℕ) → every n lo k ≡ true → lo ≤ c → c < lo + k → Names n c
-unfolding every
-names_from n lo zero c h l m = absurd (omega arith)
-names_from n lo (suc k) c h l m = elim (ℕ_discrete c lo) [
-  | yes e ↦ rw e (names_so n lo (and_left _ _ h))
-  | no e ↦ names_from n (suc lo) k c (and_right _ _ h) (omega arith) (omega arith)
-]
-
-among_high : (c n : ℕ) (ks : List ℕ) → n < c → all (λ k. leb k n) ks ≡ true → is_in c ks ≡ false
-unfolding is_in all ◌or◌
-among_high c n [] l h = refl
-among_high c n (k ∷ ks) l h =
-    let high = leb-true k n (and_left _ _ h) in
-    rw (ne_eqb c k (λ e. absurd (omega arith))) (among_high c n ks l (and_right _ _ h))
-
--- as the code's match tells them apart
-module _ {c : ℕ} where
-  pub two_among : OneOf (22 ∷ 25 ∷ 47 ∷ []) c → Names 2 c
+module _ {c : Code} where
+  pub names_one : OneOf (NotIterable ∷ UnpackNonIterable ∷ IntOrFloat ∷ ExpectedBool ∷ Input ∷ Len ∷ Range ∷ MapFirst ∷ MapSecond ∷ FilterFirst ∷ FilterSecond ∷ ListIndex
+      ∷ TupleIndex ∷ StringIndex ∷ NotSubscriptable ∷ []) c → Names 1 (code_number c)
   unfolding names types_named is_in ◌or◌ ◌and◌ test◌then◌else◌ gaps template choose bytes all
-  two_among o = names_among 2 22 (25 ∷ 47 ∷ []) c refl o
+  names_one o =
+      names_among 1 NotIterable
+      (UnpackNonIterable ∷ IntOrFloat ∷ ExpectedBool ∷ Input ∷ Len ∷ Range ∷ MapFirst ∷ MapSecond ∷ FilterFirst ∷ FilterSecond ∷ ListIndex
+      ∷ TupleIndex ∷ StringIndex ∷ NotSubscriptable ∷ [])
+      c refl o
 
-  pub two_operands : 29 ≤ c → c < 34 → Names 2 c
-  unfolding every names types_named is_in ◌or◌ ◌and◌ test◌then◌else◌ gaps template choose bytes
-  two_operands l m = names_from 2 29 5 c refl l m
-
-  pub one_among : OneOf (24 ∷ 27 ∷ []) c → Names 1 c
+  pub names_two : OneOf (InconsistentReturn ∷ CannotAssign ∷ Plus ∷ Times ∷ Compare ∷ Equality ∷ NumericPair ∷ DictKey ∷ []) c → Names 2 (code_number c)
   unfolding names types_named is_in ◌or◌ ◌and◌ test◌then◌else◌ gaps template choose bytes all
-  one_among o = names_among 1 24 (27 ∷ []) c refl o
-
-  pub one_operand : 34 ≤ c → c < 36 → Names 1 c
-  unfolding every names types_named is_in ◌or◌ ◌and◌ test◌then◌else◌ gaps template choose bytes
-  one_operand l m = names_from 1 34 2 c refl l m
-
-  pub one_later : 37 ≤ c → c < 51 → (c ≡ 37 → ⊥) → (c ≡ 38 → ⊥) → (OneOf (22 ∷ 25 ∷ 47 ∷ []) c → ⊥) → Names 1 c
-  unfolding every names types_named is_in ◌or◌ ◌and◌ test◌then◌else◌ gaps template choose bytes
-  one_later l m d e o = elim (dec_lt c 47) [
-    | yes h ↦ names_from 1 39 8 c refl (omega arith) h
-    | no h ↦
-        let key : c ≡ 47 → ⊥ = λ z. o (inr (inr z)) in
-        names_from 1 48 3 c refl (omega arith) m
-  ]
-
-  pub none_statement : c < 29 → (c ≡ 23 → ⊥) → (c ≡ 26 → ⊥) → (OneOf (24 ∷ 27 ∷ []) c → ⊥) → (OneOf (22 ∷ 25 ∷ 47 ∷ []) c → ⊥) → Names 0 c
-  unfolding every names types_named is_in ◌or◌ ◌and◌ test◌then◌else◌ gaps template choose bytes
-  none_statement m d e o p = elim (dec_lt c 22) [
-    | yes h ↦ names_from 0 0 22 c refl (omega arith) h
-    | no h ↦
-        let on = past 23 (past 22 (omega arith) (λ z. p (inl z))) d in
-        let last = past 27 (past 26 (past 25 (past 24 on (λ z. o (inl z))) (λ z. p (inr (inl z)))) e) (λ z. o (inr z)) in
-        names_from 0 28 1 c refl last m
-  ]
-
-  pub none_condition : 36 ≤ c → c < 37 → Names 0 c
-  unfolding every names types_named is_in ◌or◌ ◌and◌ test◌then◌else◌ gaps template choose bytes
-  none_condition l m = names_from 0 36 1 c refl l m
-
-  pub none_high : 51 ≤ c → Names 0 c
-  unfolding types_named all ◌and◌ test◌then◌else◌ gaps bytes
-  none_high l = record {
-    types = rw (
-      among_high c 50 (22 ∷ 25 ∷ 29 ∷ 30 ∷ 31 ∷ 32 ∷ 33 ∷ 47 ∷ []) (omega arith) refl,
-      among_high c 50 (24 ∷ 27 ∷ 34 ∷ 35 ∷ 39 ∷ 40 ∷ 41 ∷ 42 ∷ 43 ∷ 44 ∷ 45 ∷ 46 ∷ 48 ∷ 49 ∷ 50 ∷ []) (omega arith) refl,
-    );
-    many = rw (template_high c (omega arith));
-  }
+  names_two o = names_among 2 InconsistentReturn (CannotAssign ∷ Plus ∷ Times ∷ Compare ∷ Equality ∷ NumericPair ∷ DictKey ∷ []) c refl o
 
 -- ---- what is put in
 
@@ -212,14 +71,12 @@ module _ (bs : List ℕ) (t : Tab) (a b : ℕ) where
   unfolding message pieces choose test◌then◌else◌ said
   says_two n = record { names = a_type (denote t a) ∷ a_type (denote t b) ∷ []; says = rw n.types; many = n.many; texts = refl }
 
-  pub says_none : {c : ℕ} → Names 0 c → (c ≡ 23 → ⊥) → (c ≡ 26 → ⊥) → (c ≡ 37 → ⊥) → (c ≡ 38 → ⊥) → Form bs t c a b []
-  unfolding message pieces choose test◌then◌else◌
-  says_none {c} n d e f g = record {
-    names = [];
-    says = rw (n.types, ne_eqb c 23 d, ne_eqb c 26 e, ne_eqb c 37 f, ne_eqb c 38 g);
-    many = n.many;
-    texts = refl;
-  }
+  pub says_none : {c : Code} → OneOf (Break ∷ Continue ∷ InvalidTarget ∷ Condition ∷ []) c → Form bs t (code_number c) a b []
+  unfolding message template choose test◌then◌else◌ pieces types_named is_in ◌or◌ gaps bytes said
+  says_none (inl e) = rw e (record { names = []; says = refl; many = refl; texts = refl })
+  says_none (inr (inl e)) = rw e (record { names = []; says = refl; many = refl; texts = refl })
+  says_none (inr (inr (inl e))) = rw e (record { names = []; says = refl; many = refl; texts = refl })
+  says_none (inr (inr (inr e))) = rw e (record { names = []; says = refl; many = refl; texts = refl })
 
   pub says_23 : Form bs t 23 a b ((name_of (names_of bs) a).spelling ∷ [])
   unfolding message template choose test◌then◌else◌ pieces types_named is_in ◌or◌ gaps bytes said

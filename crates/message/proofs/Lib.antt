@@ -1,3 +1,4 @@
+pub mod Open
 pub mod Types
 mod Texts
 pub mod Writing

@@ -16,9 +16,8 @@ use Rattle.image.specs.declared.NameAt.{NameAt}
 use Rattle.meaning.proofs.Nesting.{records_count}
 use Rattle.image.proofs.Records.{role_of_lem, text_of, text_fits, text_inside}
 use Rattle.rules.specs.Outcome.{taken}
-use Rattle.message.specs.Pieces.{meant, Stands, Says, nth}
+use Rattle.message.specs.Pieces.{meant, Stands, Says}
 use Rattle.message.specs.declared.Piece.TheVariants.{Nothing, OfText, OfNumber, OfRange, OfAny}
-use Rattle.message.specs.declared.Pieces.{Pieces}
 
 -- ---- name records, whatever the number
 
@@ -100,19 +99,3 @@ module _ (bs : List ℕ) (a : ℕ) {r : NameAt} (e : name_means r ≡ record_of 
   pub taken_none : (r.role ≡ 4 → ⊥) → Says bs (decimal (taken (name_of (names_of bs) a).role)) (OfNumber 0)
   unfolding meant Stands
   taken_none k = record { stands = λ n. tt; means = λ cs. ap decimal (sym (taken_other r.role k) ∙ taken_as) }
-
--- ---- the piece of a number
-
-pub nth_first : (ps : Pieces) (k : ℕ) → k ≡ 0 → ps.first ≡ nth ps k
-unfolding nth
-nth_first ps k e = rw e
-
-pub nth_second : (ps : Pieces) (k : ℕ) → k ≡ 1 → ps.second ≡ nth ps k
-unfolding nth
-nth_second ps k e = rw e
-
-pub nth_third : (ps : Pieces) (k : ℕ) → (k ≡ 0 → ⊥) → (k ≡ 1 → ⊥) → ps.third ≡ nth ps k
-unfolding nth
-nth_third ps zero m n = absurd (m refl)
-nth_third ps (suc zero) m n = absurd (n refl)
-nth_third ps (suc (suc k)) m n = refl

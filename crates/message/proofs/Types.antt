@@ -4,6 +4,8 @@ use mathlib.Core.List.{List}
 use Prim.Native.Nat.{ℕ, ◌<◌}
 use lib.ListN.{length}
 use Rattle.meaning.specs.Types.{kind, parts, part}
+use Rattle.types.specs.declared.Kind.{Kind}
+use Rattle.types.specs.Kinds.{kind_number}
 use Rattle.types.specs.Table.{most_numbers, denote}
 use Rattle.types.specs.Reading.{Known, type_at, KindOf, PartsOf, HasPart, PartAt}
 use Rattle.types.proofs.Parts.{type_is, number_small}
@@ -21,7 +23,7 @@ module _ {cs : List ℕ} {i : ℕ} (k : Known cs i) where
   pub known_number : i < most_numbers
   known_number = number_small k.wf i k.below
 
-  pub known_kind : {r : ℕ} → KindOf cs i r → r ≡ kind (type_at cs i)
+  pub known_kind : {r : Kind} → KindOf cs i r → kind_number r ≡ kind (type_at cs i)
   known_kind h = h.says k.table k.cells k.wf k.below ∙ ap kind (sym own_type)
 
   pub known_parts : {r : ℕ} → PartsOf cs i r → r ≡ length (parts (type_at cs i))

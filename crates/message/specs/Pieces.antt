@@ -1,12 +1,12 @@
 -- What a message names, as the code holds it, and T's format string with it put in.
-use Rattle.std.specs.Prelude.{◌≡◌, List, [], ◌∷◌, ◌++◌, ℕ, zero, suc, ◌+◌, ◌≤◌, ◌<◌, max, eqb, length, take, drop}
+use Rattle.std.specs.Prelude.{◌≡◌, List, [], ◌∷◌, ◌++◌, ℕ, ◌+◌, ◌≤◌, ◌<◌, eqb, length, get_or, take, drop}
 use Rattle.meaning.specs.Base.{test◌then◌else◌, bytes, decimal}
 use Rattle.meaning.specs.Types.{text}
 use Rattle.types.specs.Reading.{type_at}
 use Rattle.message.specs.Texts.{AllKnown, clipped, Sized}
 use Rattle.message.specs.declared.Piece.{Piece}
 use Rattle.message.specs.declared.Piece.TheVariants.{Nothing, OfType, OfText, OfNumber, OfRange, OfAny}
-use Rattle.message.specs.declared.Pieces.{Pieces}
+use Rattle.message.specs.declared.Message.{Message}
 
 -- ---- one byte of a format string: 95 is `_`
 
@@ -50,12 +50,6 @@ pub record CountsAs (cap r : ℕ) (s : List ℕ) : Type 0 where
 pub record CountsPiece (lens : List ℕ) (p : Piece) (r : ℕ) : Type 0 where
   pub says : (bs cs : List ℕ) (cap n : ℕ) → Stands bs n p → Sized cs cap lens n → CountsAs cap r (meant bs cs p)
 
--- what the piece names is known
-pub record Shown (bs cs : List ℕ) (p : Piece) : Type 0 where
-  pub types : ℕ
-  pub stands : Stands bs types p
-  pub known : AllKnown cs types
-
 -- a piece that names no type, and means s
 pub record Says (bs s : List ℕ) (p : Piece) : Type 0 where
   pub stands : (n : ℕ) → Stands bs n p
@@ -63,24 +57,13 @@ pub record Says (bs s : List ℕ) (p : Piece) : Type 0 where
 
 -- ---- all of them
 
-unfoldable pub nth : Pieces → ℕ → Piece
-nth ps zero = ps.first
-nth ps (suc zero) = ps.second
-nth ps (suc (suc k)) = ps.third
+abbrev pub nth : List Piece → ℕ → Piece
+nth ps k = get_or ps k Nothing
 
--- they stand, and the first numbers, among which are all that they name, are known
-pub record Ready (bs cs : List ℕ) (ps : Pieces) : Type 0 where
-  pub each : (k : ℕ) → Stands bs ps.types (nth ps k)
-  pub known : AllKnown cs ps.types
-
-abbrev pub no_types : ℕ → Piece → Piece → Piece → Pieces
-no_types m p q r = record { first = p; second = q; third = r; many = m; types = 0 }
-
-abbrev pub one_type : ℕ → Pieces
-one_type a = record { first = OfType a; second = Nothing; third = Nothing; many = 1; types = a + 1 }
-
-abbrev pub two_types : ℕ → ℕ → Pieces
-two_types a b = record { first = OfType a; second = OfType b; third = Nothing; many = 2; types = max a b + 1 }
+-- they stand, and the first n numbers, among which are all that they name, are known
+pub record Ready (bs cs : List ℕ) (n : ℕ) (ps : List Piece) : Type 0 where
+  pub each : (k : ℕ) → Stands bs n (nth ps k)
+  pub known : AllKnown cs n
 
 -- ---- a format string with its pieces put in
 
@@ -92,7 +75,7 @@ unfoldable pub filled : List ℕ → ℕ → (ℕ → List ℕ) → List ℕ
 filled [] k f = []
 filled (c ∷ cs) k f = one c (f k) ++ filled cs (after c k) f
 
-unfoldable pub put_in : List ℕ → List ℕ → Pieces → List ℕ → List ℕ
+unfoldable pub put_in : List ℕ → List ℕ → List Piece → List ℕ → List ℕ
 put_in bs cs ps format = filled format 0 (λ k. meant bs cs (nth ps k))
 
 -- how many pieces a format string takes
@@ -100,22 +83,16 @@ unfoldable pub gaps : List ℕ → ℕ
 gaps [] = 0
 gaps (c ∷ cs) = test eqb c 95 then gaps cs + 1 else gaps cs
 
--- its plain bytes before the first of them
-unfoldable pub run : List ℕ → List ℕ
-run [] = []
-run (c ∷ cs) = test eqb c 95 then [] else c ∷ run cs
+-- ---- a message
 
--- ---- what the pieces say, in order
+-- its pieces are ready, and as many as its format string takes
+pub record IsReady (m : Message) : Type 0 where
+  pub ready : Ready m.image.now m.table.now m.types m.pieces.now
+  pub many : gaps m.format.now ≡ length m.pieces.now
 
-unfoldable pub Spoken : (ℕ → List ℕ) → ℕ → List (List ℕ) → Type 0
-Spoken f k [] = Unit {0}
-Spoken f k (x ∷ xs) = (f k ≡ x) × Spoken f (k + 1) xs
+-- what stands for its piece k
+abbrev pub piece_text : Message → ℕ → List ℕ
+piece_text m k = meant m.image.now m.table.now (nth m.pieces.now k)
 
-pub record Given (bs cs : List ℕ) (ps : Pieces) (xs : List (List ℕ)) : Type 0 where
-  pub ready : Ready bs cs ps
-  pub many : ps.many ≡ length xs
-  pub says : Spoken (λ k. meant bs cs (nth ps k)) 0 xs
-
--- pieces that name no type
-pub record GivenAll (bs : List ℕ) (ps : Pieces) (xs : List (List ℕ)) : Type 0 where
-  pub all : (cs : List ℕ) → Given bs cs ps xs
+abbrev pub whole_text : Message → List ℕ
+whole_text m = put_in m.image.now m.table.now m.pieces.now m.format.now

@@ -6,15 +6,15 @@ use Rattle.meaning.specs.Base.{bytes}
 use Rattle.meaning.specs.Message.{refusal, template, message}
 use Rattle.types.specs.Table.{Tab, Wf}
 use Rattle.rules.specs.Outcome.{types_named, pieces}
-use Rattle.message.specs.Pieces.{Ready, gaps, put_in}
-use Rattle.message.specs.declared.Pieces.{Pieces}
+use Rattle.message.specs.Pieces.{put_in}
+use Rattle.message.specs.declared.Piece.{Piece}
 
 -- T's format string of a code
 abbrev pub format_of : ℕ → List ℕ
 format_of code = bytes (template code)
 
 -- what a format string with its pieces put in leaves in the buffer `out`: nothing, if it does not fit
-abbrev pub laid_out : List ℕ → List ℕ → Pieces → List ℕ → List ℕ → List ℕ
+abbrev pub laid_out : List ℕ → List ℕ → List Piece → List ℕ → List ℕ → List ℕ
 laid_out bs cs ps format out = fitting (length out) (put_in bs cs ps format)
 
 -- a message does not look at the refusal's node
@@ -27,9 +27,3 @@ pub record Tells (t : Tab) (code a b : ℕ) : Type 0 where
   pub first : 1 ≤ types_named code → a < t.n
   pub second : 2 ≤ types_named code → b < t.n
   pub small : (code ≡ 0 → ⊥) → types_named code ≡ 0 → (a < 4294967296) × (b < 4294967296)
-
--- the pieces are what the code's format string takes
-pub record Chosen (bs : List ℕ) (t : Tab) (code a b : ℕ) (ps : Pieces) : Type 0 where
-  pub ready : Ready bs t.cells ps
-  pub many : gaps (bytes (template code)) ≡ ps.many
-  pub says : message (refusal code 0 (pieces (names_of bs) t code a b)) ≡ put_in bs t.cells ps (bytes (template code))

@@ -1,34 +1,32 @@
 // The message of a typing refusal: T's text, with types in Rust's Debug form, at the front of a lent buffer if it fits.
 #![tactic(auto)]
 
-ghost use Rattle.std.specs.Prelude.{◌≡◌, [], ◌∷◌, ◌++◌, ◌+◌, ◌<◌, ◌≤◌, max, length, get_or, drop};
+ghost use Rattle.std.specs.Prelude.{◌≡◌, ◌++◌, ◌+◌, ◌<◌, ◌≤◌, length};
 ghost use Rattle.std.proofs.Math.Option.{none};
-ghost use Rattle.meaning.specs.Answer.{overlaid};
+ghost use Rattle.meaning.specs.Answer.{fitting, overlaid};
 ghost use Rattle.meaning.specs.Base.{decimal, bytes};
-ghost use Rattle.meaning.specs.Image.{broken_name, name_records, names_of, name_of, role_of, text_count, texts_from};
+ghost use Rattle.meaning.specs.Image.{broken_name, name_records, names_of, name_of};
 ghost use Rattle.meaning.specs.Rules.{described};
 ghost use Rattle.meaning.specs.Types.{text};
 ghost use Rattle.meaning.proofs.Faults.{Headed};
 ghost use Rattle.image.specs.Parts.{name_means, record_of};
 ghost use Rattle.rules.specs.Outcome.{taken};
+ghost use Rattle.types.specs.Kinds.{kind_number};
 ghost use Rattle.types.specs.Table.{most_numbers, tab};
 ghost use Rattle.types.specs.Reading.{Known, type_at};
-ghost use Rattle.message.specs.Told.{told, Tells, Chosen, laid_out, format_of};
+ghost use Rattle.codes.specs.Codes.{code_number};
+ghost use Rattle.message.specs.Told.{told, Tells, laid_out, format_of};
 ghost use Rattle.words.specs.Words.{put_at};
-ghost use Rattle.message.specs.declared.Piece.TheVariants.{Nothing, OfNumber};
 ghost use Rattle.message.specs.Texts.{opening, closing, comma, clipped, size_at, Sized, AllKnown};
-ghost use Rattle.message.specs.Pieces.{meant, Small, CountsPiece, Shown, Says, GivenAll, nth, Ready, no_types};
-ghost use Rattle.message.specs.Pieces.{one_type, two_types, gaps, run, put_in};
+ghost use Rattle.message.specs.Pieces.{Small, CountsPiece, Says, Ready, IsReady, gaps, piece_text, whole_text};
 
 mod formats;
 
-use formats::put_format;
+use codes::Code;
+use formats::format_of;
 use image::{NameAt, areas, name_at, roles};
 use limits::MOST_NODES;
-use operators::codes as operator_codes;
-use rules::codes;
-use types;
-use types::{Counts, kind_of, part_at, parts_of};
+use types::{Counts, Kind, STRUCTURED, kind_of, part_at, parts_of};
 use words::{decimal_length, put, put_decimal, text as part_of_text};
 
 // What a message names: a type, a part of the image, a number, two numbers with a dash, or any count of arguments.
@@ -42,124 +40,61 @@ enum Piece {
     OfAny,
 }
 
-// What a message names, in order, and how many they are; `types` is how many of the first types must be measured for
-// it.
-#[derive(Clone, Copy)]
-struct Pieces {
-    first: Piece,
-    second: Piece,
-    third: Piece,
-    many: usize,
-    types: usize,
-}
-
 // ---- what stands around the parts of a type, and between them
 
-// How many bytes `put_opening` writes.
-fn opening_size(kind: usize) -> usize
-    ensures { result ≡ length (opening kind) }
+fn opening(kind: Kind) -> &'static [u8]
+    ensures { result.now ≡ opening (kind_number kind) }
 {
     match kind {
-        types::UNKNOWN => 7,
-        types::INT => 3,
-        types::BOOL => 4,
-        types::STRING => 6,
-        types::FLOAT => 5,
-        types::NONE_TYPE => 8,
-        types::RANGE => 5,
-        types::FUNCTION => 8,
-        types::LIST => 5,
-        types::DICT => 5,
-        types::TUPLE => 7,
-        types::MAP_ITER => 8,
-        types::FILTER_ITER => 11,
-        _ => 0,
+        Kind::Unknown => b"Unknown",
+        Kind::Int => b"Int",
+        Kind::Bool => b"Bool",
+        Kind::String => b"String",
+        Kind::Float => b"Float",
+        Kind::NoneType => b"NoneType",
+        Kind::Range => b"Range",
+        Kind::Function => b"Function",
+        Kind::List => b"List(",
+        Kind::Dict => b"Dict(",
+        Kind::Tuple => b"Tuple([",
+        Kind::MapIter => b"MapIter(",
+        Kind::FilterIter => b"FilterIter(",
     }
 }
 
-fn put_opening(kind: usize, out: &mut [u8], at: usize) -> usize
-    requires { at + length (opening kind) ≤ length out.old }
-    ensures out_after { out.new ≡ put_at out.old at (opening kind) }
-    ensures value { result ≡ at + length (opening kind) }
+#[tactic(auto, unfolding(crate::proofs::Open::texts_open))]
+fn closing(kind: Kind) -> &'static [u8]
+    ensures { result.now ≡ closing (kind_number kind) }
 {
     match kind {
-        types::UNKNOWN => put(out, at, b"Unknown"),
-        types::INT => put(out, at, b"Int"),
-        types::BOOL => put(out, at, b"Bool"),
-        types::STRING => put(out, at, b"String"),
-        types::FLOAT => put(out, at, b"Float"),
-        types::NONE_TYPE => put(out, at, b"NoneType"),
-        types::RANGE => put(out, at, b"Range"),
-        types::FUNCTION => put(out, at, b"Function"),
-        types::LIST => put(out, at, b"List("),
-        types::DICT => put(out, at, b"Dict("),
-        types::TUPLE => put(out, at, b"Tuple(["),
-        types::MAP_ITER => put(out, at, b"MapIter("),
-        types::FILTER_ITER => put(out, at, b"FilterIter("),
-        _ => at,
+        Kind::Unknown
+        | Kind::Int
+        | Kind::Bool
+        | Kind::String
+        | Kind::Float
+        | Kind::NoneType
+        | Kind::Range
+        | Kind::Function => b"",
+        Kind::Tuple => b"])",
+        Kind::List | Kind::Dict | Kind::MapIter | Kind::FilterIter => b")",
     }
-}
-
-// How many bytes `put_closing` writes.
-fn closing_size(kind: usize) -> usize
-    ensures { result ≡ length (closing kind) }
-{
-    if kind < types::STRUCTURED {
-        return 0;
-    }
-    if kind == types::TUPLE {
-        return 2;
-    }
-    1
-}
-
-fn put_closing(kind: usize, out: &mut [u8], at: usize) -> usize
-    requires { at + length (closing kind) ≤ length out.old }
-    ensures out_after { out.new ≡ put_at out.old at (closing kind) }
-    ensures value { result ≡ at + length (closing kind) }
-{
-    if kind < types::STRUCTURED {
-        return at;
-    }
-    if kind == types::TUPLE {
-        return put(out, at, b"])");
-    }
-    put(out, at, b")")
-}
-
-// How many bytes `put_comma` writes.
-fn comma_size(j: usize) -> usize
-    ensures { result ≡ length (comma j) }
-{
-    if j == 0 {
-        return 0;
-    }
-    2
 }
 
 // Nothing stands before the first part.
-fn put_comma(j: usize, out: &mut [u8], at: usize) -> usize
-    requires { at + length (comma j) ≤ length out.old }
-    ensures out_after { out.new ≡ put_at out.old at (comma j) }
-    ensures value { result ≡ at + length (comma j) }
+#[tactic(auto, unfolding(crate::proofs::Open::texts_open), using(std::proofs::lemmas::Bool::Decides::nat_tests))]
+fn comma(j: usize) -> &'static [u8]
+    ensures { result.now ≡ comma j }
 {
-    if j == 0 {
-        return at;
-    }
-    put(out, at, b", ")
+    if j == 0 { b"" } else { b", " }
 }
 
 // ---- lengths: a text may double with each type, so they are counted up to a cap only
 
-// The sum is never formed where it would pass the cap.
+#[tactic(auto, unfolding(crate::proofs::Open::texts_open), using(std::proofs::lemmas::Bool::Decides::nat_tests))]
 fn clip(x: usize, y: usize, cap: usize) -> usize
-    requires { x ≤ cap }
     ensures { result ≡ clipped cap (x + y) }
 {
-    if y <= cap - x {
-        return x + y;
-    }
-    cap
+    x.saturating_add(y).min(cap)
 }
 
 // Counted from the lengths of its parts, which have lower numbers.
@@ -169,15 +104,12 @@ fn size_of(table: &[u16], i: usize, lens: &[usize], cap: usize) -> usize
     ensures { result ≡ size_at table.now cap i }
 {
     let kind = kind_of(table, i);
-    let many = parts_of(table, i);
-    let mut size = clip(0, opening_size(kind), cap);
-    let mut j = 0;
-    while j < many {
-        size = clip(size, comma_size(j), cap);
+    let mut size = clip(0, opening(kind).len(), cap);
+    for j in 0..parts_of(table, i) {
+        size = clip(size, comma(j).len(), cap);
         size = clip(size, lens[part_at(table, i, j)], cap);
-        j += 1;
     }
-    clip(size, closing_size(kind), cap)
+    clip(size, closing(kind).len(), cap)
 }
 
 // The lengths of the texts of the first `types` numbers, each worked out once.
@@ -186,10 +118,8 @@ pub fn measure(table: &[u16], types: usize, cap: usize, lens: &mut [usize])
     requires types_in_bounds { types ≤ length lens.old }
     ensures { Sized table.now cap lens.new types }
 {
-    let mut i = 0;
-    while i < types {
+    for i in 0..types {
         lens[i] = size_of(table, i, lens, cap);
-        i += 1;
     }
 }
 
@@ -202,66 +132,15 @@ pub fn put_type(table: &[u16], i: usize, out: &mut [u8], at: usize) -> usize
     ensures out_after { out.new ≡ put_at out.old at (text (type_at table.now i)) }
     ensures value { result ≡ at + length (text (type_at table.now i)) }
 {
-    let mut end = put_opening(kind_of(table, i), out, at);
-    let many = parts_of(table, i);
-    let mut j = 0;
-    while j < many {
-        end = put_comma(j, out, end);
+    let mut end = put(out, at, opening(kind_of(table, i)));
+    for j in 0..parts_of(table, i) {
+        end = put(out, end, comma(j));
         end = put_type(table, part_at(table, i, j), out, end);
-        j += 1;
     }
-    put_closing(kind_of(table, i), out, end)
+    put(out, end, closing(kind_of(table, i)))
 }
 
 // ---- what a message names
-
-fn one_type(a: usize) -> Pieces
-    requires { a < most_numbers }
-    ensures { result ≡ one_type a }
-{
-    Pieces {
-        first: Piece::OfType(a),
-        second: Piece::Nothing,
-        third: Piece::Nothing,
-        many: 1,
-        types: a + 1,
-    }
-}
-
-fn larger(a: usize, b: usize) -> usize
-    ensures { result ≡ max a b }
-{
-    if a < b {
-        return b;
-    }
-    a
-}
-
-fn two_types(a: usize, b: usize) -> Pieces
-    requires { (a < most_numbers) × (b < most_numbers) }
-    ensures { result ≡ two_types a b }
-{
-    let most = larger(a, b);
-    Pieces {
-        first: Piece::OfType(a),
-        second: Piece::OfType(b),
-        third: Piece::Nothing,
-        many: 2,
-        types: most + 1,
-    }
-}
-
-fn no_types(many: usize, first: Piece, second: Piece, third: Piece) -> Pieces
-    ensures { result ≡ no_types many first second third }
-{
-    Pieces {
-        first,
-        second,
-        third,
-        many,
-        types: 0,
-    }
-}
 
 // A number that is no name's has the empty text and the role of a plain name.
 fn record_of(image: &[u8], a: usize) -> NameAt
@@ -323,108 +202,6 @@ fn taken_by(image: &[u8], a: usize) -> Piece
     Piece::OfNumber(0)
 }
 
-fn nothing() -> Pieces
-    ensures { result ≡ no_types 0 Nothing Nothing Nothing }
-{
-    no_types(0, Piece::Nothing, Piece::Nothing, Piece::Nothing)
-}
-
-fn counted(a: usize, b: usize) -> Pieces
-    requires { (a < 4294967296) × (b < 4294967296) }
-    ensures { result ≡ no_types 2 (OfNumber a) (OfNumber b) Nothing }
-{
-    no_types(
-        2,
-        Piece::OfNumber(a as u32),
-        Piece::OfNumber(b as u32),
-        Piece::Nothing,
-    )
-}
-
-fn named(image: &[u8], a: usize) -> Pieces
-    requires headed { Headed image.now }
-    requires image_value { broken_name image.now ≡ none }
-    ensures { GivenAll image.now result ((name_of (names_of image.now) a).spelling ∷ []) }
-{
-    no_types(1, spelled(image, a), Piece::Nothing, Piece::Nothing)
-}
-
-// A builtin with b arguments.
-fn called(image: &[u8], a: usize, b: usize) -> Pieces
-    requires headed { Headed image.now }
-    requires image_value { broken_name image.now ≡ none }
-    requires b_bound { b < 4294967296 }
-    ensures { GivenAll image.now result
-        ((name_of (names_of image.now) a).spelling
-        ∷ described (name_of (names_of image.now) a).role
-        ∷ decimal b
-        ∷ []) }
-{
-    no_types(
-        3,
-        spelled(image, a),
-        arity(image, a),
-        Piece::OfNumber(b as u32),
-    )
-}
-
-// A function with b arguments.
-fn passed(image: &[u8], a: usize, b: usize) -> Pieces
-    requires headed { Headed image.now }
-    requires image_value { broken_name image.now ≡ none }
-    requires b_bound { b < 4294967296 }
-    ensures { GivenAll image.now result
-        ((name_of (names_of image.now) a).spelling
-        ∷ decimal (taken (name_of (names_of image.now) a).role)
-        ∷ decimal b
-        ∷ []) }
-{
-    no_types(
-        3,
-        spelled(image, a),
-        taken_by(image, a),
-        Piece::OfNumber(b as u32),
-    )
-}
-
-// What the message of a code names.
-fn pieces_of(image: &[u8], table: &[u16], counts: Counts, code: u32, a: usize, b: usize) -> Pieces
-    requires headed { Headed image.now }
-    requires image_value { broken_name image.now ≡ none }
-    requires tells { Tells (tab table.now counts.types counts.elements) code a b }
-    ensures { Chosen image.now (tab table.now counts.types counts.elements)
-        code a b result }
-{
-    match code {
-        codes::INCOMPATIBLE_BRANCHES => named(image, a),
-        codes::UNPACK_LENGTH => counted(a, b),
-        codes::BUILTIN_ARITY => called(image, a, b),
-        codes::FUNCTION_ARITY => passed(image, a, b),
-        codes::NOT_ITERABLE
-        | codes::UNPACK_NON_ITERABLE
-        | operator_codes::INT_OR_FLOAT..=operator_codes::EXPECTED_BOOL
-        | codes::INPUT..=codes::LIST_INDEX
-        | codes::TUPLE_INDEX..=codes::NOT_SUBSCRIPTABLE => one_type(a),
-        codes::INCONSISTENT_RETURN
-        | codes::CANNOT_ASSIGN
-        | operator_codes::PLUS..=operator_codes::NUMERIC_PAIR
-        | codes::DICT_KEY => two_types(a, b),
-        _ => nothing(),
-    }
-}
-
-fn nth_of(pieces: Pieces, k: usize) -> Piece
-    ensures { result ≡ nth pieces k }
-{
-    if k == 0 {
-        return pieces.first;
-    }
-    if k == 1 {
-        return pieces.second;
-    }
-    pieces.third
-}
-
 // ---- a format string with its pieces put in: `_` stands for the next piece
 
 const GAP: u8 = b'_';
@@ -444,72 +221,6 @@ fn piece_size(piece: Piece, lens: &[usize]) -> usize
     }
 }
 
-// The length of the message, up to the cap: the plain bytes of the format are known by its length and its gaps.
-fn total(
-    image: &[u8],
-    table: &[u16],
-    format: &[u8],
-    pieces: Pieces,
-    lens: &[usize],
-    cap: usize,
-) -> usize
-    requires ready { Ready image.now table.now pieces }
-    requires format_value { gaps format.now ≡ pieces.many }
-    requires sized { Sized table.now cap lens.now pieces.types }
-    ensures { result ≡ clipped cap (length
-        (put_in image.now table.now pieces format.now)) }
-{
-    let many = pieces.many;
-    let mut size = clip(0, format.len() - many, cap);
-    let mut k = 0;
-    while k < many {
-        size = clip(size, piece_size(nth_of(pieces, k), lens), cap);
-        k += 1;
-    }
-    size
-}
-
-// A function of its own for each size of the array: a small one is soon filled. A fill with 1 is faster than one with
-// 0.
-const FEW: usize = 64;
-
-const MANY: usize = types::STRUCTURED + MOST_NODES;
-
-fn measured_few(image: &[u8], table: &[u16], format: &[u8], pieces: Pieces, cap: usize) -> usize
-    requires ready { Ready image.now table.now pieces }
-    requires format_value { gaps format.now ≡ pieces.many }
-    requires types_bound { pieces.types ≤ 64 }
-    ensures { result ≡ clipped cap (length
-        (put_in image.now table.now pieces format.now)) }
-{
-    let mut lens = [1usize; FEW];
-    measure(table, pieces.types, cap, &mut lens);
-    total(image, table, format, pieces, &lens, cap)
-}
-
-fn measured_many(image: &[u8], table: &[u16], format: &[u8], pieces: Pieces, cap: usize) -> usize
-    requires ready { Ready image.now table.now pieces }
-    requires format_value { gaps format.now ≡ pieces.many }
-    ensures { result ≡ clipped cap (length
-        (put_in image.now table.now pieces format.now)) }
-{
-    let mut lens = [1usize; MANY];
-    measure(table, pieces.types, cap, &mut lens);
-    total(image, table, format, pieces, &lens, cap)
-}
-
-fn measured(image: &[u8], table: &[u16], format: &[u8], pieces: Pieces, cap: usize) -> usize
-    requires ready { Ready image.now table.now pieces }
-    requires format_value { gaps format.now ≡ pieces.many }
-    ensures { result ≡ clipped cap (length
-        (put_in image.now table.now pieces format.now)) }
-{
-    if pieces.types <= FEW {
-        return measured_few(image, table, format, pieces, cap);
-    }
-    measured_many(image, table, format, pieces, cap)
-}
-
 fn put_range(p: u32, q: u32, out: &mut [u8], at: usize) -> usize
     requires { at + length (decimal p ++ bytes "-" ++ decimal q) ≤ length out.old }
     ensures out_after { out.new ≡ put_at out.old at (decimal p ++ bytes "-" ++ decimal q) }
@@ -520,93 +231,132 @@ fn put_range(p: u32, q: u32, out: &mut [u8], at: usize) -> usize
     put_decimal(out, second, q)
 }
 
-fn put_piece(image: &[u8], table: &[u16], piece: Piece, out: &mut [u8], at: usize) -> usize
-    requires shown { Shown image.now table.now piece }
-    requires piece_in_bounds { at + length (meant image.now table.now piece) ≤ length out.old }
-    ensures out_after { out.new ≡ put_at out.old at
-        (meant image.now table.now piece) }
-    ensures value { result ≡ at + length (meant image.now table.now piece) }
-{
-    match piece {
-        Piece::Nothing => at,
-        Piece::OfType(i) => put_type(table, i, out, at),
-        Piece::OfText(start, len) => put(out, at, part_of_text(image, start, len)),
-        Piece::OfNumber(n) => put_decimal(out, at, n),
-        Piece::OfRange(p, q) => put_range(p, q, out, at),
-        Piece::OfAny => put(out, at, b"any"),
-    }
+// A format string with what it names, in order; `types` is how many of the first types must be measured for it.
+#[derive(Clone, Copy)]
+struct Message<'a> {
+    image: &'a [u8],
+    table: &'a [u16],
+    format: &'a [u8],
+    pieces: &'a [Piece],
+    types: usize,
 }
 
-// Copies the plain bytes of the format from i on, up to the next gap or the end: returns where that is.
-fn put_plain(format: &[u8], i: usize, out: &mut [u8], at: usize) -> usize
-    requires i_in_bounds { i ≤ length format.now }
-    requires format_in_bounds { at + length (run (drop i format.now)) ≤ length out.old }
-    ensures out_after { out.new ≡ put_at out.old at (run (drop i format.now)) }
-    ensures value { result ≡ i + length (run (drop i format.now)) }
-{
-    let mut j = i;
-    while j < format.len() {
-        let c = format[j];
-        if c == GAP {
-            return j;
+const FEW: usize = 64;
+
+const MANY: usize = STRUCTURED + MOST_NODES;
+
+impl Message<'_> {
+    // Its length, up to the cap: the plain bytes of the format are known by its length and its gaps.
+    fn total(&self, lens: &[usize], cap: usize) -> usize
+        requires ready { IsReady self.now }
+        requires sized { Sized self.now.table.now cap lens.now self.now.types }
+        ensures { result ≡ clipped cap (length (whole_text self.now)) }
+    {
+        let mut size = clip(0, self.format.len() - self.pieces.len(), cap);
+        for piece in self.pieces {
+            size = clip(size, piece_size(*piece, lens), cap);
         }
-        out[at + (j - i)] = c;
-        j += 1;
+        size
     }
-    j
+
+    // Each size of the array has a function of its own: a small one is soon filled. A fill with 1 is faster than one
+    // with 0.
+    fn measured_in<const ROOM: usize>(&self, cap: usize) -> usize
+        requires ready { IsReady self.now }
+        requires types_bound { self.now.types ≤ ROOM }
+        requires room_bound { ROOM ≤ most_numbers }
+        ensures { result ≡ clipped cap (length (whole_text self.now)) }
+    {
+        let mut lens = [1usize; ROOM];
+        measure(self.table, self.types, cap, &mut lens);
+        self.total(&lens, cap)
+    }
+
+    fn measured(&self, cap: usize) -> usize
+        requires { IsReady self.now }
+        ensures { result ≡ clipped cap (length (whole_text self.now)) }
+    {
+        if self.types <= FEW {
+            self.measured_in::<FEW>(cap)
+        } else {
+            self.measured_in::<MANY>(cap)
+        }
+    }
+
+    fn put_piece(&self, k: usize, out: &mut [u8], at: usize) -> usize
+        requires ready { IsReady self.now }
+        requires k_bound { k < length self.now.pieces.now }
+        requires in_bounds { at + length (piece_text self.now k) ≤ length out.old }
+        ensures out_after { out.new ≡ put_at out.old at (piece_text self.now k) }
+        ensures value { result ≡ at + length (piece_text self.now k) }
+    {
+        match self.pieces[k] {
+            Piece::Nothing => at,
+            Piece::OfType(i) => put_type(self.table, i, out, at),
+            Piece::OfText(start, len) => put(out, at, part_of_text(self.image, start, len)),
+            Piece::OfNumber(n) => put_decimal(out, at, n),
+            Piece::OfRange(p, q) => put_range(p, q, out, at),
+            Piece::OfAny => put(out, at, b"any"),
+        }
+    }
+
+    fn fill_in(&self, out: &mut [u8]) -> usize
+        requires ready { IsReady self.now }
+        requires in_bounds { length (whole_text self.now) ≤ length out.old }
+        ensures out_after { out.new ≡ put_at out.old 0 (whole_text self.now) }
+        ensures value { result ≡ length (whole_text self.now) }
+    {
+        let mut at = 0;
+        let mut k = 0;
+        for c in self.format {
+            if *c == GAP {
+                at = self.put_piece(k, out, at);
+                k += 1;
+            } else {
+                out[at] = *c;
+                at += 1;
+            }
+        }
+        at
+    }
+
+    // One more than the room is the cap: it stands for every length that does not fit.
+    fn deliver(&self, out: &mut [u8]) -> usize
+        requires { IsReady self.now }
+        ensures value { result ≡ length (fitting (length out.old) (whole_text self.now)) }
+        ensures out_after { out.new ≡ overlaid (fitting (length out.old) (whole_text self.now)) out.old }
+    {
+        let room = out.len();
+        if room < self.measured(room + 1) {
+            return 0;
+        }
+        self.fill_in(out)
+    }
 }
 
-fn fill_in(image: &[u8], table: &[u16], format: &[u8], pieces: Pieces, out: &mut [u8]) -> usize
-    requires ready { Ready image.now table.now pieces }
-    requires format_value { gaps format.now ≡ pieces.many }
-    requires format_in_bounds { length (put_in image.now table.now pieces format.now) ≤ length out.old }
-    ensures out_after { out.new ≡ put_at out.old 0
-        (put_in image.now table.now pieces format.now) }
-    ensures value { result ≡ length
-        (put_in image.now table.now pieces format.now) }
+// By T's format string of the code.
+fn tell(
+    image: &[u8],
+    table: &[u16],
+    code: Code,
+    pieces: &[Piece],
+    types: usize,
+    out: &mut [u8],
+) -> usize
+    requires ready { Ready image.now table.now types pieces.now }
+    requires many { gaps (format_of (code_number code)) ≡ length pieces.now }
+    ensures value { result ≡ length (laid_out image.now table.now pieces.now (format_of (code_number code)) out.old) }
+    ensures out_after { out.new ≡ overlaid
+        (laid_out image.now table.now pieces.now (format_of (code_number code)) out.old) out.old }
 {
-    let many = pieces.many;
-    let mut at = 0;
-    let mut k = 0;
-    let mut i = 0;
-    while k < many {
-        let gap = put_plain(format, i, out, at);
-        at = put_piece(image, table, nth_of(pieces, k), out, at + (gap - i));
-        i = gap + 1;
-        k += 1;
-    }
-    let end = put_plain(format, i, out, at);
-    at + (end - i)
-}
-
-// One more than the room is the cap: it stands for every length that does not fit.
-fn deliver(image: &[u8], table: &[u16], format: &[u8], pieces: Pieces, out: &mut [u8]) -> usize
-    requires ready { Ready image.now table.now pieces }
-    requires format_value { gaps format.now ≡ pieces.many }
-    ensures value { result ≡ length (laid_out image.now table.now pieces
-        format.now out.old) }
-    ensures out_after { out.new ≡ overlaid (laid_out image.now table.now pieces
-        format.now out.old) out.old }
-{
-    let room = out.len();
-    if room < measured(image, table, format, pieces, room + 1) {
-        return 0;
-    }
-    fill_in(image, table, format, pieces, out)
-}
-
-// By T's format string of the code: nothing for a number that is no code of a message.
-fn tell(image: &[u8], table: &[u16], code: u32, pieces: Pieces, out: &mut [u8]) -> usize
-    requires ready { Ready image.now table.now pieces }
-    requires code_value { gaps (format_of code) ≡ pieces.many }
-    ensures value { result ≡ length (laid_out image.now table.now pieces
-        (format_of code) out.old) }
-    ensures out_after { out.new ≡ overlaid (laid_out image.now table.now pieces
-        (format_of code) out.old) out.old }
-{
-    let mut format = [0u8; formats::LONGEST];
-    let len = put_format(code, &mut format);
-    deliver(image, table, part_of_text(&format, 0, len), pieces, out)
+    let message = Message {
+        image,
+        table,
+        format: format_of(code),
+        pieces,
+        types,
+    };
+    message.deliver(out)
 }
 
 // The message of a refusal, at the front of `out` if it fits: returns its length, or 0 and changes nothing. `a` and
@@ -615,20 +365,76 @@ pub fn write(
     image: &[u8],
     table: &[u16],
     counts: Counts,
-    code: u32,
+    code: Code,
     a: usize,
     b: usize,
     out: &mut [u8],
 ) -> usize
     requires headed { Headed image.now }
     requires image_value { broken_name image.now ≡ none }
-    requires tells { Tells (tab table.now counts.types counts.elements) code a b }
+    requires tells { Tells (tab table.now counts.types counts.elements) (code_number code) a b }
     ensures value { result ≡ length (told image.now
-        (tab table.now counts.types counts.elements) code a b (length out.old)) }
+        (tab table.now counts.types counts.elements) (code_number code) a b (length out.old)) }
     ensures out_after { out.new ≡ overlaid (told image.now
-        (tab table.now counts.types counts.elements) code a b (length out.old))
+        (tab table.now counts.types counts.elements) (code_number code) a b (length out.old))
         out.old }
 {
-    let pieces = pieces_of(image, table, counts, code, a, b);
-    tell(image, table, code, pieces, out)
+    match code {
+        Code::IncompatibleBranches => tell(image, table, code, &[spelled(image, a)], 0, out),
+        Code::UnpackLength => {
+            let lengths = [Piece::OfNumber(a as u32), Piece::OfNumber(b as u32)];
+            tell(image, table, code, &lengths, 0, out)
+        }
+        Code::BuiltinArity => {
+            let given = Piece::OfNumber(b as u32);
+            tell(
+                image,
+                table,
+                code,
+                &[spelled(image, a), arity(image, a), given],
+                0,
+                out,
+            )
+        }
+        Code::FunctionArity => {
+            let given = Piece::OfNumber(b as u32);
+            tell(
+                image,
+                table,
+                code,
+                &[spelled(image, a), taken_by(image, a), given],
+                0,
+                out,
+            )
+        }
+        Code::NotIterable
+        | Code::UnpackNonIterable
+        | Code::IntOrFloat
+        | Code::ExpectedBool
+        | Code::Input
+        | Code::Len
+        | Code::Range
+        | Code::MapFirst
+        | Code::MapSecond
+        | Code::FilterFirst
+        | Code::FilterSecond
+        | Code::ListIndex
+        | Code::TupleIndex
+        | Code::StringIndex
+        | Code::NotSubscriptable => { tell(image, table, code, &[Piece::OfType(a)], a + 1, out) }
+        Code::InconsistentReturn
+        | Code::CannotAssign
+        | Code::Plus
+        | Code::Times
+        | Code::Compare
+        | Code::Equality
+        | Code::NumericPair
+        | Code::DictKey => {
+            let types = [Piece::OfType(a), Piece::OfType(b)];
+            tell(image, table, code, &types, a.max(b) + 1, out)
+        }
+        Code::Break | Code::Continue | Code::InvalidTarget | Code::Condition => {
+            tell(image, table, code, &[], 0, out)
+        }
+    }
 }

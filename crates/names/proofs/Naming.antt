@@ -24,13 +24,14 @@ use Rattle.meaning.proofs.Faults.{Sound, sizes}
 use Rattle.meaning.proofs.Listed.{frame_slot, frame_long}
 use Rattle.types.specs.Table.{Tab, Wf, denote}
 use Rattle.types.proofs.Laws.{unknown_number}
-use Rattle.frames.specs.Env.{Rows, cell_room, frames_of, slot_type, held_type, HeldBelow, Fit, Holds}
-use Rattle.frames.specs.declared.Held.{Held}
-use Rattle.frames.specs.declared.Held.TheVariants.{Absent, OfType}
+use Rattle.std.specs.Prelude.{Some, None}
+use Rattle.std.specs.Option.{option_or}
+use Rattle.frames.specs.Env.{Rows, Held, frames_of, slot_type, held_type, HeldBelow, Fit, Holds}
 use Rattle.image.specs.Parts.{record_of, name_stands}
 use Rattle.meaning.proofs.Nesting.{records_count, names_many}
 use Rattle.image.proofs.Records.{text_inside, text_fits, text_of}
-use Rattle.sheet.specs.Listing.{name_cells, start_at, length_at, type_at, SameName, PutName, entry_at, listed_from, listed}
+use Rattle.sheet.specs.declared.list.ListedName.{ListedName}
+use Rattle.sheet.specs.Listing.{start_at, length_at, type_at, SameName, PutName, entry_at, listed_from, listed}
 use Rattle.bound.specs.Marks.{marks_of}
 use Rattle.bound.proofs.Marking.{marks_at}
 use Rattle.names.specs.Names.{ToldOf, Names}
@@ -82,35 +83,31 @@ module _ (ws : List Name) (f : Frame) (k : ℕ) (hw : k < length ws) (hf : k < l
 
 -- ---- what the sheet tells of a name, by what the newest frame holds for it
 
-listed_held : (bound : Bool) (o : Option Binding) (y : Ty) → slot_type o ≡ some y → slot_type (listed_slot bound o) ≡ some y
+listed_type : (o : Option Binding) (y : Ty) → slot_type o ≡ some y → slot_type (listed_slot true o) ≡ some y
 unfolding listed_slot or_else
-listed_held true none y e = absurd (none-ne-some y e)
-listed_held true (some b) y e = e
-listed_held false o y e = e
+listed_type none y e = absurd (none-ne-some y e)
+listed_type (some b) y e = e
 
-listed_bound : (o : Option Binding) → slot_type o ≡ none → slot_type (listed_slot true o) ≡ some unknown
+listed_lacking : (o : Option Binding) → slot_type o ≡ none → slot_type (listed_slot true o) ≡ some unknown
 unfolding listed_slot or_else
-listed_bound none e = refl
-listed_bound (some b) e = absurd (none-ne-some b.type (sym e))
+listed_lacking none e = refl
+listed_lacking (some b) e = absurd (none-ne-some b.type (sym e))
 
-module _ {fs : Rows} {top x : ℕ} {h : Held} (m : Holds fs top x h) (bound : Bool) where
-  pub told_held : {r : ℕ} → h ≡ OfType r → ToldOf fs top x bound (OfType r)
-  told_held {r} e = record {
-    says = λ t w. listed_held bound _ _ (rw e at (m.says t));
-    known = λ t w f. subst (HeldBelow (t.n)) e (m.known t f);
-    small = subst (HeldBelow cell_room) e m.small;
-  }
+pub told_bound : {fs : Rows} {top x : ℕ} {h : Held} → Holds fs top x h → ToldOf fs top x true (option_or h (Some 0))
+told_bound {h = None} m = record {
+  says = λ t w. rw (unknown_number w) (listed_lacking _ (m.says t));
+  known = λ t w f. omega (arith, w.base);
+  small = omega arith;
+}
+told_bound {h = Some r} m = record {
+  says = λ t w. listed_type _ _ (m.says t);
+  known = λ t w f. m.known t f;
+  small = m.small;
+}
 
-  pub told_bound : h ≡ Absent → bound ≡ true → ToldOf fs top x bound (OfType 0)
-  told_bound e b = record {
-    says = λ t w. rw (b, unknown_number w) (listed_bound _ (rw e at (m.says t)));
-    known = λ t w f. omega (arith, w.base);
-    small = omega arith;
-  }
-
-  pub told_absent : h ≡ Absent → bound ≡ false → ToldOf fs top x bound Absent
-  unfolding listed_slot
-  told_absent e b = record { says = λ t w. rw b (rw e at (m.says t)); known = λ t w f. tt; small = tt }
+pub told_held : {fs : Rows} {top x : ℕ} {h : Held} → Holds fs top x h → ToldOf fs top x false h
+unfolding listed_slot
+told_held m = record { says = λ t w. m.says t; known = λ t w f. m.known t f; small = m.small }
 
 -- ---- the frame that the sheet lists, by the module's own and what the module may bind
 
@@ -130,11 +127,8 @@ module _ (bs : List ℕ) {fs : Rows} {top k : ℕ} {marks : List Bool} {h : Held
       ap slot_type (frame_slot (bound_in bs) (newest (frames_of t fs top)) k l) ∙ rw e (m.says t w)
 
 module _ {fs : Rows} {top k : ℕ} {bound : Bool} {h : Held} (m : ToldOf fs top k bound h) where
-  told_known : {r : ℕ} → h ≡ OfType r → (t : Tab) → Wf t → Fit t fs top → r < t.n
+  told_known : {r : ℕ} → h ≡ Some r → (t : Tab) → Wf t → Fit t fs top → r < t.n
   told_known e t w f = subst (HeldBelow (t.n)) e (m.known t w f)
-
-  pub told_small : {r : ℕ} → h ≡ OfType r → r < cell_room
-  told_small e = subst (HeldBelow cell_room) e m.small
 
 -- ---- the list of c names, and one more
 
@@ -145,21 +139,21 @@ count_more i (suc n) =
     let e : suc i + n ≡ i + suc n = omega arith in
     ap (λ l. i ∷ l) (rw e at (count_more (suc i) n))
 
-listed_more : (bs : List ℕ) (t : Tab) (cells : List ℕ) (c : ℕ) → listed bs t cells (suc c) ≡ listed bs t cells c ++ (entry_at bs t cells c ∷ [])
+listed_more : (bs : List ℕ) (t : Tab) (cells : List ListedName) (c : ℕ) → listed bs t cells (suc c) ≡ listed bs t cells c ++ (entry_at bs t cells c ∷ [])
 unfolding listed listed_from
 listed_more bs t cells c =
     ap (map (entry_at bs t cells)) (rw zero-add at (count_more 0 c)) ∙ map-append (entry_at bs t cells) (count 0 c) (c ∷ [])
 
-listed_none : (bs : List ℕ) (t : Tab) (cells : List ℕ) → listed bs t cells 0 ≡ []
+listed_none : (bs : List ℕ) (t : Tab) (cells : List ListedName) → listed bs t cells 0 ≡ []
 unfolding listed listed_from count
 listed_none bs t cells = refl
 
-entry_same : (bs : List ℕ) (t : Tab) (cs ds : List ℕ) (c : ℕ) → SameName cs ds c → entry_at bs t ds c ≡ entry_at bs t cs c
+entry_same : (bs : List ℕ) (t : Tab) (cs ds : List ListedName) (c : ℕ) → SameName cs ds c → entry_at bs t ds c ≡ entry_at bs t cs c
 unfolding entry_at
 entry_same bs t cs ds c h = rw (h.start, h.size, h.type)
 
 -- names from c on do not matter to the first c
-listed_same : (bs : List ℕ) (t : Tab) (cs ds : List ℕ) (c : ℕ) → ((j : ℕ) → j < c → SameName cs ds j) → listed bs t ds c ≡ listed bs t cs c
+listed_same : (bs : List ℕ) (t : Tab) (cs ds : List ListedName) (c : ℕ) → ((j : ℕ) → j < c → SameName cs ds j) → listed bs t ds c ≡ listed bs t cs c
 listed_same bs t cs ds zero h = listed_none bs t ds ∙ sym (listed_none bs t cs)
 listed_same bs t cs ds (suc c) h =
     let a : listed bs t ds c ≡ listed bs t cs c = listed_same bs t cs ds c (λ j l. h j (omega arith)) in
@@ -168,21 +162,19 @@ listed_same bs t cs ds (suc c) h =
 
 -- ---- after k names, of which c are listed
 
-pub record Naming (bs : List ℕ) (fs : Rows) (top : ℕ) (cells : List ℕ) (k c : ℕ) : Type 0 where
+pub record Naming (bs : List ℕ) (fs : Rows) (top : ℕ) (cells : List ListedName) (k c : ℕ) : Type 0 where
   pub here : k ≤ name_count bs
   pub few : c ≤ k
-  pub long : length cells ≡ name_cells
   pub inside : (j : ℕ) → j < c → start_at cells j + length_at cells j ≤ length bs
   pub short : (j : ℕ) → j < c → length_at cells j ≤ longest_name
   pub known : (t : Tab) → Wf t → Fit t fs top → (j : ℕ) → j < c → type_at cells j < t.n
   pub answer : (t : Tab) → Wf t → Fit t fs top
       → listed bs t cells c ++ entries (drop k (names_of bs)) (drop k (shown bs t fs top)) ≡ entries (names_of bs) (shown bs t fs top)
 
-pub naming_first : (bs : List ℕ) (fs : Rows) (top : ℕ) (cells : List ℕ) → length cells ≡ name_cells → Naming bs fs top cells 0 0
-naming_first bs fs top cells l = record {
+pub naming_first : (bs : List ℕ) (fs : Rows) (top : ℕ) (cells : List ListedName) → Naming bs fs top cells 0 0
+naming_first bs fs top cells = record {
   here = omega arith;
   few = omega arith;
-  long = l;
   inside = λ j h. absurd (not-suc-le-zero h);
   short = λ j h. absurd (not-suc-le-zero h);
   known = λ t w f j h. absurd (not-suc-le-zero h);
@@ -200,12 +192,11 @@ module _ {bs : List ℕ} (s : Sound bs) (k : ℕ) (l : k < name_count bs) where
   slot_here : (t : Tab) (fs : Rows) (top : ℕ) → k < length (shown bs t fs top)
   slot_here t fs top = omega (arith, name_low, frame_long (bound_in bs) (newest (frames_of t fs top)))
 
-pub naming_skip : {bs : List ℕ} {fs : Rows} {top : ℕ} {cells : List ℕ} {k c : ℕ} → Sound bs → Naming bs fs top cells k c → k < name_count bs
-    → {marks : List Bool} → marks ≡ marks_of (bound_in bs) → {h : Held} → ToldOf fs top k (get_or marks k false) h → h ≡ Absent → Naming bs fs top cells (k + 1) c
+pub naming_skip : {bs : List ℕ} {fs : Rows} {top : ℕ} {cells : List ListedName} {k c : ℕ} → Sound bs → Naming bs fs top cells k c → k < name_count bs
+    → {marks : List Bool} → marks ≡ marks_of (bound_in bs) → {h : Held} → ToldOf fs top k (get_or marks k false) h → h ≡ None → Naming bs fs top cells (k + 1) c
 naming_skip {bs} {fs} {top} {cells} {k} {c} s n l b m a = record {
   here = omega arith;
   few = omega (arith, n.few);
-  long = n.long;
   inside = n.inside;
   short = n.short;
   known = n.known;
@@ -214,8 +205,8 @@ naming_skip {bs} {fs} {top} {cells} {k} {c} s n l b m a = record {
       rw (entries_skip (names_of bs) (shown bs t fs top) k (name_here s k l) (slot_here s k l t fs top) lacks) at (n.answer t w f);
 }
 
-module _ {bs : List ℕ} (s : Sound bs) {fs : Rows} {top k c : ℕ} {cs ds : List ℕ} {from len ty : ℕ} {marks : List Bool} {h : Held}
-    (n : Naming bs fs top cs k c) (l : k < name_count bs) (b : marks ≡ marks_of (bound_in bs)) (m : ToldOf fs top k (get_or marks k false) h) (a : h ≡ OfType ty) (p : PutName cs ds c from len ty)
+module _ {bs : List ℕ} (s : Sound bs) {fs : Rows} {top k c : ℕ} {cs ds : List ListedName} {from len ty : ℕ} {marks : List Bool} {h : Held}
+    (n : Naming bs fs top cs k c) (l : k < name_count bs) (b : marks ≡ marks_of (bound_in bs)) (m : ToldOf fs top k (get_or marks k false) h) (a : h ≡ Some ty) (p : PutName cs ds c from len ty)
     (ef : from ≡ texts_from bs + (record_of (name_records bs) k).start) (el : len ≡ (record_of (name_records bs) k).size) where
   entry_put : (t : Tab) → entry_at bs t ds c ≡ ((name_of (names_of bs) k).spelling, denote t ty)
   unfolding entry_at
@@ -235,7 +226,6 @@ module _ {bs : List ℕ} (s : Sound bs) {fs : Rows} {top k c : ℕ} {cs ds : Lis
   naming_put = record {
     here = omega arith;
     few = omega (arith, n.few);
-    long = p.long ∙ n.long;
     inside = below_more (λ j. start_at ds j + length_at ds j ≤ length bs) c
         (λ j h. omega (arith, (p.before j h).start, (p.before j h).size, n.inside j h))
         (omega (arith, p.start_is, p.length_is, text_fits s.headed s.names k l, text_inside s.headed));
@@ -252,7 +242,7 @@ listed_end : (ws : List Name) (f : Frame) (k : ℕ) (l es : List Entry) → leng
 unfolding entries
 listed_end ws f k l es h a = rw (drop_of_length-le ws h, append-nil) at a
 
-pub naming_end : {bs : List ℕ} {fs : Rows} {top : ℕ} {cells : List ℕ} {k c : ℕ} → Sound bs → Naming bs fs top cells k c → name_count bs ≤ k
+pub naming_end : {bs : List ℕ} {fs : Rows} {top : ℕ} {cells : List ListedName} {k c : ℕ} → Sound bs → Naming bs fs top cells k c → name_count bs ≤ k
     → Names bs fs top cells c
 unfolding listing
 naming_end {bs} {fs} {top} {cells} {k} {c} s n l =

@@ -5,8 +5,8 @@ use Rattle.meaning.specs.Decode.{tree_of}
 use Rattle.meaning.specs.Frames.{newest, slot_in}
 use Rattle.meaning.specs.Sheet.{listed_slot, listing}
 use Rattle.types.specs.Table.{Tab, Wf}
-use Rattle.frames.specs.Env.{Rows, frames_of, slot_type, held_type, HeldBelow, cell_room, Fit}
-use Rattle.frames.specs.declared.Held.{Held}
+use Rattle.frames.specs.Env.{Rows, Held, frames_of, slot_type, held_type, HeldBelow, cell_room, Fit}
+use Rattle.sheet.specs.declared.list.ListedName.{ListedName}
 use Rattle.sheet.specs.Listing.{Listing, listed}
 
 -- h is what the sheet tells of name x, by whether the module may bind it, whatever the table
@@ -16,7 +16,7 @@ pub record ToldOf (fs : Rows) (top x : ℕ) (bound : Bool) (h : Held) : Type 0 w
   pub small : HeldBelow cell_room h
 
 -- n names are listed: those of the newest frame and those that the module may bind, whatever the table
-pub record Names (bs : List ℕ) (fs : Rows) (top : ℕ) (cells : List ℕ) (n : ℕ) : Type 0 where
+pub record Names (bs : List ℕ) (fs : Rows) (top : ℕ) (cells : List ListedName) (n : ℕ) : Type 0 where
   pub stands : (t : Tab) → Wf t → Fit t fs top → Listing bs t cells n
   pub listed_is : (t : Tab) → Wf t → Fit t fs top
       → listed bs t cells n ≡ listing (names_of bs) (tree_of (nodes_of bs)) (newest (frames_of t fs top))

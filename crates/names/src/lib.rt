@@ -1,10 +1,9 @@
 // The names that the sheet of an accepted program lists.
 #![tactic(auto)]
 
-ghost use Rattle.std.specs.Prelude.{◌≡◌, false, ◌<◌, length, get_or};
+ghost use Rattle.std.specs.Prelude.{◌≡◌, false, ◌<◌, get_or};
 ghost use Rattle.meaning.proofs.Faults.{Sound};
 ghost use Rattle.meaning.specs.Limits.{most_frames, most_names};
-ghost use Rattle.sheet.specs.Listing.{name_cells};
 ghost use Rattle.names.specs.Names.{Names, ToldOf};
 
 use bound::{Marks, may_bind};
@@ -19,33 +18,34 @@ fn told_of(frames: &Frames, top: usize, bound: &Marks, name: usize) -> Held
     ensures { ToldOf frames.now top name (get_or bound.now name false) result }
 {
     let held = held_in(frames, top, name);
-    if let Held::OfType(ty) = held {
-        return Held::OfType(ty);
-    }
     if bound[name] {
-        return Held::OfType(types::UNKNOWN);
+        return held.or(Some(types::UNKNOWN));
     }
-    Held::Absent
+    held
 }
 
 // Lists "each name that an Assign or a For at module level may bind .. together with all names of the module frame",
 // which is the newest, in order and with their types, and gives their number.
 pub fn list_names(image: &[u8], frames: &Frames, top: usize, names: &mut NameList) -> usize
     requires sound { Sound image.now }
-    requires top_lt_most_frames { (top < most_frames) × (length names.old ≡ name_cells) }
+    requires top_lt_most_frames { top < most_frames }
     ensures { Names image.now frames.now top names.new result }
 {
     let l = areas(image);
     let bound = may_bind(image);
-    let mut k = 0;
-    let mut c = 0;
-    while k < l.names {
-        if let Held::OfType(ty) = told_of(frames, top, &bound, k) {
+    let mut count = 0;
+    for k in 0..l.names {
+        if let Some(ty) = told_of(frames, top, &bound, k) {
             let name = name_at(image, k);
-            put_name(names, c, l.texts as u32 + name.start, name.len, ty as u32);
-            c += 1;
+            put_name(
+                names,
+                count,
+                l.texts as u32 + name.start,
+                name.len,
+                ty as u32,
+            );
+            count += 1;
         }
-        k += 1;
     }
-    c
+    count
 }

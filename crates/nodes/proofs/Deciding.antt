@@ -1,8 +1,8 @@
 -- What a node gives whose children's types stand on the stack.
 use mathlib.Core.Path.{◌≡◌, refl, sym, ap, ◌∙◌}
-use mathlib.Core.Bool.{Bool, true, false}
+use mathlib.Core.Bool.{Bool}
 use mathlib.Core.List.{List, [], map}
-use Prim.Native.Nat.{ℕ, suc, ◌+◌, ◌≤◌, ◌<◌}
+use Prim.Native.Nat.{ℕ, suc, ◌+◌, ◌<◌}
 use native.Mathlib.Nat.{add-zero}
 use native.Mathlib.Omega.{arith}
 use native.Mathlib.Decide.{ℕ_discrete}
@@ -15,23 +15,19 @@ use Rattle.meaning.specs.Image.{Node as ImageNode}
 use Rattle.meaning.specs.Decode.{unary_of, binary_of, stop_of}
 use Rattle.meaning.specs.Operators.{Checked, ok, unary_rule, binary_rule}
 use Rattle.meaning.specs.Rules.{index_rule}
-use Rattle.meaning.proofs.Faults.{sizes}
-use Rattle.types.specs.Table.{Tab, tab, Wf, denote, Made}
-use Rattle.rules.specs.Outcome.{Decides, types_named, decision_code, decision_number, decision_first, decision_second}
-use Rattle.rules.specs.declared.Decision.{Decision}
-use Rattle.types.specs.Reading.{Known}
+use Rattle.types.specs.Table.{Tab, Wf, denote, Made}
+use Rattle.rules.specs.Outcome.{Decision, Decides, decision_code, decision_number, decision_first, decision_second}
 use Rattle.rules.specs.Leaves.{OfOne, OfTwo, OfNumber, Indexed, index_place, second_rule, Streams}
-use Rattle.rules.proofs.Outcomes.{known, was_ok}
-use Rattle.rules.proofs.Calls.{names_map, names_filter}
+use Rattle.rules.proofs.Outcomes.{was_ok}
+use Rattle.std.specs.Prelude.{IsErr}
 use Rattle.image.specs.declared.Cursor.{Cursor}
 use Rattle.state.specs.Giving.{Given}
-use Rattle.state.specs.Notes.{types_in, elements_in, Counted, place_in, first_in, second_in, tab_in, Noting, Kept}
-use Rattle.state.specs.Answer.{typed_code, number_of, Answered, Settles}
-use Rattle.state.specs.declared.Typed.{Typed}
-use Rattle.state.specs.declared.Typed.TheVariants as typed
-use Rattle.nodes.specs.Operands.{operand_rule, Decidable, IndexedAt, Operable, Judges, Streamable, Ruled, first_code}
-use Rattle.state.proofs.Noting.{given_answered, answered_kept, settles_answered, settles_counts, counts_small, counted_kept, counted_noting, kept_trans}
-use Rattle.nodes.specs.Clauses.{Gives, GivesAnywhere}
+use Rattle.state.specs.Notes.{place_in, first_in, second_in, tab_in, Kept}
+use Rattle.state.specs.Answer.{Typed, code_of, number_of, Settled, Settles}
+use Rattle.state.specs.declared.Notes.{Notes}
+use Rattle.state.proofs.Noting.{settled_given, settled_kept, settles_settled, kept_trans}
+use Rattle.nodes.specs.Operands.{operand_rule, Decidable, Operable, Judges, Streamable}
+use Rattle.nodes.specs.Clauses.{Gives}
 use Rattle.nodes.proofs.Laws.{decides_given, made_given, means_given, plain_means, types_at, first_type}
 
 -- ---- each kind's rule
@@ -73,53 +69,37 @@ pub given_node : {ws : List Name} {t u : Tab} {M code place number a b : ℕ} (i
     → Given ws (operand_rule e.kind e.arg i m o (map f (take e.children xs))) t u e.children M code place number a b
 given_node i m o f xs p g = rw (← p) g
 
-pub indexed_at : {cs ns ms : List ℕ} {r : Typed} {object key m n p : ℕ} {d : Decision} → Indexed cs object key d → p ≡ index_place (decision_code d) m n
-    → Settles ns ms r p d → IndexedAt cs object key m n ns ms r
-indexed_at {d = d} i e f = record { decision = d; says = i; settles = rw e at f }
-
 -- ---- what a rule decides at a node is its answer
 
-module _ {cells ns ms : List ℕ} {r : Typed} {rule : Checked} {place : ℕ} {d : Decision} (w : Wf (tab_in cells ns)) (o : Noting ns)
+module _ {cells : List ℕ} {ns ms : Notes} {r : Typed} {rule : Checked} {place : ℕ} {d : Decision} (w : Wf (tab_in cells ns))
     (x : (ws : List Name) → Decides ws (tab_in cells ns) rule place d) (f : Settles ns ms r place d) where
-  answered : Answered ns ms r (decision_code d) place (decision_number d) (decision_first d) (decision_second d)
-  answered = settles_answered d (x []).coded f
+  settled : Settled ns ms r (decision_number d) (decision_code d) place (decision_first d) (decision_second d)
+  settled = settles_settled d f
 
-  pub decided_given : {ws : List Name} (spent M : ℕ) → M ≤ 4294967296 → place < M
-      → Given ws rule (tab_in cells ns) (tab_in cells ms) spent M (typed_code r ms) (place_in ms) (number_of r) (first_in ms) (second_in ms)
-  decided_given {ws} spent M l h = given_answered answered (λ z. omega arith) (decides_given spent M w h (x ws))
+  pub decided_given : {ws : List Name} (spent M : ℕ) → place < M
+      → Given ws rule (tab_in cells ns) (tab_in cells ms) spent M (code_of r ms) (place_in ms) (number_of r) (first_in ms) (second_in ms)
+  decided_given {ws} spent M h = settled_given settled (decides_given spent M w h (x ws))
 
-  pub decided_kept : Kept ns ms (r ≡ typed.Err)
-  decided_kept = answered_kept answered o
+  pub decided_kept : Kept ns ms (IsErr r)
+  decided_kept = settled_kept settled
 
--- at node n itself
-module _ {cells ns ms : List ℕ} {r : Typed} {rule : Checked} {n : ℕ} {d : Decision} (w : Wf (tab_in cells ns)) (h : n < 2048) (o : Noting ns)
-    (x : (ws : List Name) → Decides ws (tab_in cells ns) rule n d) (f : Settles ns ms r n d) where
-  ruled : Ruled (tab_in cells ns) (tab_in cells ms) rule n (typed_code r ms) (place_in ms) (number_of r) (first_in ms) (second_in ms) × Kept ns ms (r ≡ typed.Err)
-  ruled = (
-    record { says = λ ws M l. given_answered (settles_answered d (x []).coded f) (λ z. omega arith) (decides_given 0 M w l (x ws)) },
-    answered_kept (settles_answered d (x []).coded f) o,
-  )
+  -- at node n itself
+  ruled : Gives cells cells ns ms r place (λ t. rule)
+  ruled = (record { says = λ ws M l. decided_given 0 M l }, decided_kept)
 
 -- by two types, by one, and by a type's number alone
-pub operated : {cells ns ms : List ℕ} {r : Typed} {left right n arg : ℕ} {d : Decision} → Operable (tab_in cells ns) left right n arg → Noting ns
+pub operated : {cells : List ℕ} {ns ms : Notes} {r : Typed} {left right n arg : ℕ} {d : Decision} → Operable (tab_in cells ns) left right n arg
     → OfTwo cells (λ n. binary_rule n (binary_of arg)) left right d → Settles ns ms r n d
     → Gives cells cells ns ms r n (λ t. binary_rule n (binary_of arg) (denote t left) (denote t right))
-operated {cells} {ns} {n = n} x o d f = ruled x.wf x.node o (λ ws. d.says ws (tab_in cells ns) n refl x.wf x.first x.second) f
+operated {cells} {ns} {n = n} x d f = ruled x.wf (λ ws. d.says ws (tab_in cells ns) n refl x.wf x.first x.second) f
 
-pub judged : {cells ns ms : List ℕ} {r : Typed} {rule : ℕ → Ty → Checked} {i n : ℕ} {d : Decision} → Judges (tab_in cells ns) i n → Noting ns
+pub judged : {cells : List ℕ} {ns ms : Notes} {r : Typed} {rule : ℕ → Ty → Checked} {i n : ℕ} {d : Decision} → Judges (tab_in cells ns) i n
     → OfOne cells rule i d → Settles ns ms r n d → Gives cells cells ns ms r n (λ t. rule n (denote t i))
-judged {cells} {ns} {n = n} x o d f = ruled x.wf x.node o (λ ws. d.says ws (tab_in cells ns) n refl x.wf x.below) f
+judged {cells} {ns} {n = n} x d f = ruled x.wf (λ ws. d.says ws (tab_in cells ns) n refl x.wf x.below) f
 
-pub judged_by_number : {ns ms : List ℕ} {r : Typed} {rule : ℕ → Ty → Checked} {i n : ℕ} {d : Decision} → Noting ns → OfNumber rule i d → Settles ns ms r n d
-    → GivesAnywhere ns ms r i n rule
-judged_by_number {ns} {n = n} {d = e} o d f =
-    (λ cs x. ruled x.wf x.node o (λ ws. d.says ws (tab_in cs ns) n x.wf x.below) f, settles_counts e f)
-
--- map's or filter's code names one type
-pub first_names : (filters : Bool) → types_named (first_code filters) ≡ 1
-unfolding first_code test◌then◌else◌
-first_names true = names_filter
-first_names false = names_map
+pub judged_by_number : {cells : List ℕ} {ns ms : Notes} {r : Typed} {rule : ℕ → Ty → Checked} {i n : ℕ} {d : Decision} → Judges (tab_in cells ns) i n
+    → OfNumber rule i d → Settles ns ms r n d → Gives cells cells ns ms r n (λ t. rule n (denote t i))
+judged_by_number {cells} {ns} {n = n} x d f = ruled x.wf (λ ws. d.says ws (tab_in cells ns) n x.wf x.below) f
 
 -- ---- the second argument of map and filter
 
@@ -143,18 +123,14 @@ streams_given {ws} {t} {u} {d = d} M n l w m = elim (ℕ_discrete (decision_code
   | no z ↦ let k = m.kept z in let o = m.says ws n in rw k (decides_given 0 M w l (rw k at o))
 ]
 
--- the counts that are noted
-pub streams_small : {t u : Tab} {filters : Bool} {i : ℕ} {d : Decision} → Wf t → Streams t u filters i d → (u.n < 4294967296) × (u.m < 4294967296)
-streams_small {d = d} w m = elim (ℕ_discrete (decision_code d) 0) [ yes e ↦ counts_small (m.made e).grown.wf | no z ↦ rw (m.kept z) (counts_small w) ]
-
-pub streams_gives : {cs ds ns os ms : List ℕ} {r : Typed} {p q x y : ℕ} {filters : Bool} {i n : ℕ} {d : Decision} → Streamable (tab_in cs ns) i n
-    → p ≡ types_in ns → q ≡ elements_in ns → Counted ns os x y → Streams (tab cs p q) (tab ds x y) filters i d → Settles os ms r n d
+-- os are the notes when the new counts are noted, and nothing else
+pub streams_gives : {cs ds : List ℕ} {ns os ms : Notes} {r : Typed} {filters : Bool} {i n : ℕ} {d : Decision} → Streamable (tab_in cs ns) i n
+    → Streams (tab_in cs ns) (tab_in ds os) filters i d → Kept ns os ⊥ → Settles os ms r n d
     → Gives cs ds ns ms r n (λ t. second_rule filters n (denote t i))
-streams_gives {cs} {ds} {ns} {os} {filters = filters} {i} {n} {d} s e g k m f =
-    let noted : Streams (tab_in cs ns) (tab_in ds os) filters i d = rw (k.types_are, k.elements_are) (rw (e, g) at m) in
-    let a = settles_answered d (noted.says [] n).coded f in (
-      record { says = λ ws M l. given_answered a (λ z. omega (arith, s.node)) (streams_given M n l s.asks.wf noted) },
-      kept_trans (counted_kept {E = ⊥} (λ z. z) k) (answered_kept a (counted_noting k)),
+streams_gives {n = n} {d} s m k f =
+    let a = settles_settled d f in (
+      record { says = λ ws M l. settled_given a (streams_given M n l s.asks.wf m) },
+      kept_trans k (settled_kept a),
     )
 
 -- ---- the node at hand
@@ -171,26 +147,6 @@ module _ {bs : List ℕ} {c : Cursor} {t : Tab} {st : List ℕ} {sp : ℕ} {d : 
 
   second_is : {v : ℕ} → 1 < d.children → v ≡ get_or st (sp + 1) 0 → get_or (map (denote t) (take d.children (drop sp st))) 1 unknown ≡ denote t v
   second_is h e = types_at x.listed 1 h ∙ ap (denote t) (sym e)
-
-  -- what stands on the stack
-  pub unary_room : d.kind ≡ 22 → sp < 2048
-  unary_room k = omega (arith, (x.unary k).1, x.listed.inside, x.stack)
-
-  pub index_room : d.kind ≡ 31 → sp + 1 < 2048
-  index_room k = omega (arith, (x.index k).0, x.listed.inside, x.stack)
-
-  -- what the callees ask
-  pub unary_asks : {v : ℕ} → d.kind ≡ 22 → v ≡ get_or st sp 0 → (d.arg < 3) × Known t.cells v
-  unary_asks k e = ((x.unary k).0, known x.listed.wf (first_known (omega (arith, (x.unary k).1)) e))
-
-  pub index_asks : {v : ℕ} → d.kind ≡ 31 → v ≡ get_or st sp 0 → Known t.cells v
-  index_asks k e = known x.listed.wf (first_known (omega (arith, (x.index k).0)) e)
-
-  pub index_inside : d.kind ≡ 31 → c.at + 1 < node_count bs
-  index_inside k = omega (arith, (x.index k).1)
-
-  pub few : node_count bs ≤ 4294967296
-  few = omega (arith, sizes x.headed)
 
   -- what the node gives
   pub unary_decides : {v : ℕ} {e : Decision} (ws : List Name) → d.kind ≡ 22 → v ≡ get_or st sp 0 → OfOne t.cells (λ n. unary_rule n (unary_of d.arg)) v e

@@ -13,8 +13,7 @@ use Rattle.meaning.specs.Operators.{Checked, ok}
 use Rattle.types.specs.Table.{Tab, Wf, Means, Made, Grown, denote}
 use Rattle.types.specs.Steps.{Listed}
 use Rattle.types.proofs.Laws.{plain_number, unknown_number, grown_refl}
-use Rattle.rules.specs.Outcome.{Decides, decision_code, decision_number, decision_first, decision_second}
-use Rattle.rules.specs.declared.Decision.{Decision}
+use Rattle.rules.specs.Outcome.{Decision, Decides, decision_code, decision_number, decision_first, decision_second}
 use Rattle.rules.proofs.Outcomes.{names_none, was_ok, was_refused}
 use Rattle.state.specs.Giving.{Given}
 use Rattle.nodes.specs.Operands.{literal_number}

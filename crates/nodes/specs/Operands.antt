@@ -1,7 +1,7 @@
 -- Nodes whose children are all checked before their rule looks at them: what the children's types give.
-use Rattle.std.specs.Prelude.{◌≡◌, Bool, List, [], ◌∷◌, ℕ, suc, ◌<◌, length, get_or}
+use Rattle.std.specs.Prelude.{◌≡◌, List, [], ◌∷◌, ℕ, suc, ◌<◌, length, get_or}
 use Rattle.meaning.specs.Limits.{most_nodes}
-use Rattle.meaning.specs.Base.{test◌then◌else◌, choose}
+use Rattle.meaning.specs.Base.{choose}
 use Rattle.meaning.specs.Types.{Ty, unknown, tuple, tys}
 use Rattle.meaning.specs.Image.{Name, node_count, nodes_from, nodes_of, node_of}
 use Rattle.meaning.specs.Image.{Node as ImageNode}
@@ -11,13 +11,9 @@ use Rattle.meaning.specs.Rules.{index_rule}
 use Rattle.meaning.proofs.Faults.{Headed}
 use Rattle.types.specs.Table.{Tab, Wf}
 use Rattle.types.specs.Steps.{Listed}
-use Rattle.rules.specs.Leaves.{Asks, Indexed, index_place}
+use Rattle.rules.specs.Leaves.{Asks}
 use Rattle.image.specs.declared.Cursor.{Cursor}
 use Rattle.state.specs.Giving.{Given}
-use Rattle.rules.specs.Outcome.{decision_code}
-use Rattle.rules.specs.declared.Decision.{Decision}
-use Rattle.state.specs.Answer.{Settles}
-use Rattle.state.specs.declared.Typed.{Typed}
 
 -- the number of a Literal's type
 unfoldable pub literal_number : ℕ → ℕ
@@ -45,12 +41,6 @@ pub record Decidable (bs : List ℕ) (c : Cursor) (t : Tab) (st : List ℕ) (sp 
   pub unary : d.kind ≡ 22 → (d.arg < 3) × (d.children ≡ 1)
   pub index : d.kind ≡ 31 → (d.children ≡ 2) × (suc c.at < node_count bs) × (stop_of (nodes_of bs) (suc c.at) < node_count bs)
 
--- an Index whose object is at m and whose index is at n: what the rule decides is what was answered
-pub record IndexedAt (cs : List ℕ) (object key m n : ℕ) (ns ms : List ℕ) (r : Typed) : Type 0 where
-  pub decision : Decision
-  pub says : Indexed cs object key decision
-  pub settles : Settles ns ms r (index_place (decision_code decision) m n) decision
-
 -- ---- rules that look at one or two types
 
 -- a Binary at node n, by the types of its operands
@@ -75,7 +65,3 @@ pub record Streamable (t : Tab) (i n : ℕ) : Type 0 where
 -- what `rule` gives at node n, whatever the names and the number of nodes
 pub record Ruled (t u : Tab) (rule : Checked) (n code place number a b : ℕ) : Type 0 where
   pub says : (ws : List Name) (M : ℕ) → n < M → Given ws rule t u 0 M code place number a b
-
--- the code that refuses the first argument of map, or of filter
-unfoldable pub first_code : Bool → ℕ
-first_code filters = test filters then 44 else 42

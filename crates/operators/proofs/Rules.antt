@@ -17,20 +17,6 @@ use Rattle.operators.specs.Fold.{in_order, pairs, PlaceOf}
 use Rattle.operators.proofs.Laws.{symmetric}
 use Rattle.operators.proofs.Lists.{answers, unary_answers}
 
--- ---- the last arm of a match
-
--- op is none of the numbers below n: what the arms before the last leave
-abbrev Other : ℕ → ℕ → Type 0
-Other op zero = Unit {0}
-Other op (suc n) = Other op n × (op ≡ n → ⊥)
-
-other_above : (op n : ℕ) → Other op n → n ≤ op
-other_above op zero u = omega arith
-other_above op (suc n) u = let h : n ≤ op = other_above op n u.0 in omega (arith, h, u.1)
-
-pub last : {op : ℕ} (n : ℕ) → op < suc n → Other op n → op ≡ n
-last {op} n h u = omega (arith, h, other_above op n u)
-
 -- ---- tables
 
 -- the rows that f fills, a number for each of the columns
@@ -71,14 +57,14 @@ unfolding test◌then◌else◌
 unfolded o a b true ha hb = symmetric o b a hb ha
 unfolded o a b false ha hb = refl
 
-pub rule : {op l r at : ℕ} (n : ℕ) → op ≡ n → (op < 14) × (l < 13) × (r < 13) → PlaceOf l r at
-    → get_or (get_or answers n []) at 0 ≡ operator_answer (binary_of op) l r
+pub rule : {op l r at : ℕ} → (op < 14) × (l < 13) × (r < 13) → PlaceOf l r at
+    → get_or (get_or answers op []) at 0 ≡ operator_answer (binary_of op) l r
 unfolding answer in_order
-rule {op} {l} {r} {at} n e h p =
-    rw (e, row_of answer (pairs 13) 14 n all_right (omega (arith, e, h.0)))
-    (mapped (answer n) (pairs 13) (0, 0) 0 at (rw pairs_many p.0)
-    ∙ ap (answer n) p.1
-    ∙ unfolded (binary_of n) l r (ltb r l) h.1 h.2)
+rule {op} {l} {r} {at} h p =
+    rw (row_of answer (pairs 13) 14 op all_right h.0)
+    (mapped (answer op) (pairs 13) (0, 0) 0 at (rw pairs_many p.0)
+    ∙ ap (answer op) p.1
+    ∙ unfolded (binary_of op) l r (ltb r l) h.1 h.2)
 
 -- ---- one operand
 
@@ -89,7 +75,7 @@ all_unary_right : unary_answers ≡ table unary_answer_lem 3 (count 0 13)
 unfolding unary_answers unary_answer_lem base_open types_open decode_open operators_open
 all_unary_right = refl
 
-pub unary_rule_lem : {op k : ℕ} (n : ℕ) → op ≡ n → (op < 3) × (k < 13) → get_or (get_or unary_answers n []) k 0 ≡ unary_answer (unary_of op) k
+pub unary_rule_lem : {op k : ℕ} → (op < 3) × (k < 13) → get_or (get_or unary_answers op []) k 0 ≡ unary_answer (unary_of op) k
 unfolding unary_answer_lem
-unary_rule_lem {op} {k} n e h =
-    rw (e, row_of unary_answer_lem (count 0 13) 3 n all_unary_right (omega (arith, e, h.0))) (counted (unary_answer_lem n) 0 13 k h.1)
+unary_rule_lem {op} {k} h =
+    rw (row_of unary_answer_lem (count 0 13) 3 op all_unary_right h.0) (counted (unary_answer_lem op) 0 13 k h.1)

@@ -17,7 +17,7 @@ pub type Row = [u8; PAIRS];
 pub type UnaryRow = [u8; KINDS];
 
 // A row for each of the 14 operators, in ast.rs order.
-pub const ANSWERS: [Row; 14] = [
+pub static ANSWERS: [Row; 14] = [
     // `+` takes two numbers or two Strings, Unknown for either; else 29
     [
         0, // Unknown + Unknown
@@ -1337,7 +1337,7 @@ pub const ANSWERS: [Row; 14] = [
 ];
 
 // A row for each of the 3 operators of one operand.
-pub const UNARY_ANSWERS: [UnaryRow; 3] = [
+pub static UNARY_ANSWERS: [UnaryRow; 3] = [
     // `not` takes Bool or Unknown; else 35
     [
         2, // not Unknown

@@ -2,21 +2,26 @@
 #![tactic(auto)]
 
 ghost use Rattle.std.specs.Prelude.{◌≡◌, ◌<◌, length, get_or};
+ghost use Rattle.operators.specs.Answer.{Says, SaysUnary};
 ghost use Rattle.meaning.specs.Operators.{operator_answer, unary_answer};
 ghost use Rattle.meaning.specs.Decode.{binary_of, unary_of};
 ghost use Rattle.operators.specs.Fold.{pairs, PlaceOf};
 
-pub mod codes;
 mod constants;
 
-use constants::{ANSWERS, Row, UNARY_ANSWERS, UnaryRow};
-use words::wide8;
+use codes::Code;
+use constants::{ANSWERS, UNARY_ANSWERS};
 
-// An answer below this is a plain type's number, and one above it a code. This one says: compare the whole types.
-pub const COMPARE: u32 = 8;
+// What an operator answers by kinds: a plain type, by its number; that the whole types must be equal; or a refusal.
+#[derive(Clone, Copy, PartialEq, Eq)]
+pub enum Answer {
+    Type(usize),
+    Whole,
+    Refused(Code),
+}
 
-// The row of the last operator, `or`.
-const OR: usize = 13;
+// The entry that says: compare the whole types.
+const WHOLE: u8 = 8;
 
 // How many pairs of kinds in order there are below a kind: so many answers stand before its own in a row.
 fn pairs_below(kind: u32) -> u32
@@ -38,58 +43,46 @@ fn place_of(left: u32, right: u32) -> usize
     (pairs_below(right) + left) as usize
 }
 
-// An entry of one operator's row. The row is copied at a number that the code names, so that a use builds that row on
-// the stack and not the whole table.
-fn entry(row: Row, at: usize) -> u32
-    requires { at < 91 }
-    ensures { result ≡ get_or row at 0 }
-{
-    wide8(row[at])
-}
-
-// As entry, for the operators of one operand.
-fn unary_entry(row: UnaryRow, at: usize) -> u32
-    requires { at < 13 }
-    ensures { result ≡ get_or row at 0 }
-{
-    wide8(row[at])
-}
-
-// The answer of a binary operator: row `op` of the table. All numbers are u32, as they stand in the image.
-pub fn answer_of(op: u32, left: u32, right: u32) -> u32
+// An entry of row `op`, for the kinds of the operands. All numbers are u32, as they stand in the image.
+fn entry_of(op: u32, left: u32, right: u32) -> u8
     requires { (op < 14) × (left < 13) × (right < 13) }
     ensures { result ≡ operator_answer (binary_of op) left right }
 {
-    let table = ANSWERS;
-    let at = place_of(left, right);
-    match op {
-        0 => entry(table[0], at),
-        1 => entry(table[1], at),
-        2 => entry(table[2], at),
-        3 => entry(table[3], at),
-        4 => entry(table[4], at),
-        5 => entry(table[5], at),
-        6 => entry(table[6], at),
-        7 => entry(table[7], at),
-        8 => entry(table[8], at),
-        9 => entry(table[9], at),
-        10 => entry(table[10], at),
-        11 => entry(table[11], at),
-        12 => entry(table[12], at),
-        _ => entry(table[OR], at),
-    }
+    ANSWERS[op as usize][place_of(left, right)]
 }
 
-// The answer of a unary operator.
-pub fn unary_answer_of(op: u32, kind: u32) -> u32
+// As entry_of, for the operators of one operand.
+fn unary_entry_of(op: u32, kind: u32) -> u8
     requires { (op < 3) × (kind < 13) }
     ensures { result ≡ unary_answer (unary_of op) kind }
 {
-    let table = UNARY_ANSWERS;
-    let at = kind as usize;
-    match op {
-        0 => unary_entry(table[0], at),
-        1 => unary_entry(table[1], at),
-        _ => unary_entry(table[2], at),
+    UNARY_ANSWERS[op as usize][kind as usize]
+}
+
+// The answer of a binary operator for the kinds of its operands.
+pub fn answer_of(op: u32, left: u32, right: u32) -> Answer
+    requires { (op < 14) × (left < 13) × (right < 13) }
+    ensures { Says result (operator_answer (binary_of op) left right) }
+{
+    match entry_of(op, left, right) {
+        WHOLE => Answer::Whole,
+        29 => Answer::Refused(Code::Plus),
+        30 => Answer::Refused(Code::Times),
+        31 => Answer::Refused(Code::Compare),
+        32 => Answer::Refused(Code::Equality),
+        33 => Answer::Refused(Code::NumericPair),
+        plain => Answer::Type(usize::from(plain)),
+    }
+}
+
+// The answer of a unary operator for the kind of its operand: a plain type, by its number, or a refusal.
+pub fn unary_answer_of(op: u32, kind: u32) -> Result<usize, Code>
+    requires { (op < 3) × (kind < 13) }
+    ensures { SaysUnary result (unary_answer (unary_of op) kind) }
+{
+    match unary_entry_of(op, kind) {
+        34 => Err(Code::IntOrFloat),
+        35 => Err(Code::ExpectedBool),
+        plain => Ok(usize::from(plain)),
     }
 }

@@ -1,9 +1,8 @@
 -- The lines: digits, a checksum or a second span in the place of a line's end, and what the check left in the buffers. Assumes nothing.
-use Rattle.std.proofs.Common.{◌≡◌, ℕ, ◌+◌, ◌-◌, ◌^◌, ◌<◌, ◌≤◌, Bool, true, false, eqb, leb, ◌⊎◌, List, [], ◌∷◌, ◌++◌, length, take, drop, replicate, sym, refl, ap, ◌∙◌, inl, inr, zero-add, arith, length-append, length-take-le, drop-drop, eq-eqb, ne_eqb}
+use Rattle.std.proofs.Common.{◌≡◌, ℕ, ◌+◌, ◌-◌, ◌^◌, ◌<◌, ◌≤◌, Bool, true, false, eqb, leb, ◌⊎◌, List, [], ◌∷◌, ◌++◌, length, take, drop, sym, refl, ap, ◌∙◌, inl, inr, zero-add, arith, length-append, length-take-le, drop-drop, eq-eqb, ne_eqb}
 use mathlib.Core.Option.{Option, none, some}
 use native.Mathlib.Nat.{pow-le-pow_right}
 use native.Mathlib.Decide.{dec_lt}
-use lib.ListN.{length-replicate}
 use lib.Seq.{take-append-le, take-append_seam, drop-append-add}
 use Rattle.io.specs.Digits.{last_digits, IsDigitCount}
 use Rattle.meaning.specs.Base.{test◌then◌else◌, choose, if_some, bytes, decimal, word}
@@ -16,7 +15,7 @@ use Rattle.meaning.proofs.SheetForm.{sheet_size}
 use Rattle.words.specs.Words.{put_at, Wrote}
 use Rattle.words.proofs.Laws.{decimal_length, put_overlaid, wrote, and_then}
 use Rattle.checker.specs.Answers.{Numbers, rewritten, Relaid}
-use Rattle.line.specs.Printing.{Printable, Fronted, Lined, SecondTold, answered, or_dash}
+use Rattle.line.specs.Printing.{Fronted, Lined, SecondTold, answered, or_dash}
 use Rattle.line.proofs.Pieces.{spaced_next}
 use Rattle.line.proofs.Answered.{Header, bare_header, written_header}
 use Rattle.line.proofs.Answered.{fronted as to_front}
@@ -33,9 +32,6 @@ sixteen n k h f =
     ]
 
 module _ (n k : ℕ) (out : List ℕ) (below : n < 2 ^ 64) (f : IsDigitCount 16 16 n k) (counts : k ≡ length (take k out)) where
-  pub digits_fit : (d : List ℕ) (at : ℕ) → at + 16 ≤ length d → at + length (take k out) ≤ length d
-  digits_fit d at room = omega (arith, counts, sixteen n k below f, room)
-
   pub hex_wrote : {d e : List ℕ} {at r : ℕ} → at + 16 ≤ length d → take k out ≡ last_digits 16 k n
       → e ≡ put_at d at (take k out) → r ≡ at + length (take k out) → Wrote d at (hex_of n) e r × (r ≡ at + 16)
   unfolding hex_of
@@ -43,11 +39,6 @@ module _ (n k : ℕ) (out : List ℕ) (below : n < 2 ^ 64) (f : IsDigitCount 16 
       let all : take k out ≡ hex_of n = q ∙ ap (λ (j : ℕ). last_digits 16 j n) (sixteen n k below f) in
       let long : length (hex_of n) ≡ 16 = sym (ap length all) ∙ sym counts ∙ sixteen n k below f in
       (wrote (hex_of n) (omega (arith, long, room)) (rw all at w) (rw all at p), omega (arith, p, counts, sixteen n k below f))
-
--- ---- a part of a new buffer
-
-pub part_long : (k n : ℕ) → k ≤ n → length {A = ℕ} (take k (replicate n 0)) ≡ k
-part_long k n h = length-take-le k (replicate n 0) (omega (arith, h, length-replicate {A = ℕ} n 0))
 
 -- ---- the checksum, and the line of a sheet
 
@@ -191,9 +182,6 @@ unfolding second_span
 second_size start end = rw (length-append, end_long) (omega arith)
 
 module _ {a : Answer} {old mid s s₁ t t₁ : List ℕ} {size code count : ℕ} (l : Lined a old mid s s₁ t t₁ size code count) where
-  pub end_room : size ≤ 64 + length t → length t ≤ 1024 → 1152 ≤ length old → size + 23 ≤ length mid
-  end_room h m room = omega (arith, h, l.front.long, m, room)
-
   pub some_line : 1 ≤ size
   some_line = omega (arith, l.front.ends, line_some a)
 
@@ -314,6 +302,3 @@ module _ (bs : List ℕ) {n : Numbers} (s s₁ : List ℕ) (r : Relaid (rewritte
       → length e ≡ length d → Fronted (sheet_line bs) d e m
   unfolding sheet_line
   refused_fronted ls nz w k = rw ls at (refused_front nz w k)
-
-pub no_sheet : (code : ℕ) {out : List ℕ} → (code ≡ 0 → ⊥) → 1152 ≤ length out → Printable code [] [] out
-no_sheet code nz room = record { headed = λ z. absurd (nz z); short = omega arith; room = omega (arith, room) }

@@ -5,7 +5,7 @@
 // printed line an image's has what that does not tell: the checksum of the sheet, and of 25 and 23 the second span.
 #![tactic(auto)]
 
-ghost use Rattle.std.specs.Prelude.{◌≡◌, ◌+◌, ◌*◌, ◌%◌, ◌^◌, ◌<◌, ◌≤◌, min, true, length};
+ghost use Rattle.std.specs.Prelude.{◌≡◌, ◌+◌, ◌*◌, ◌%◌, ◌^◌, ◌<◌, ◌≤◌, true, length, IfOk, IfSome};
 ghost use Rattle.line.specs.Printing.{Fronted};
 ghost use Rattle.words.specs.Words.{Wrote};
 ghost use Rattle.meaning.specs.Limits.{sheet_buffer, message_buffer};
@@ -13,14 +13,15 @@ ghost use Rattle.replay.specs.Lines.{line_room, fnv_of, hex_of, checksum, second
 ghost use Rattle.replay.specs.Lines.{read_line, sheet_line, line_for};
 
 use checker::{PLAIN, STRICT, cablebirch_write_sheet};
+use codes;
 use limits::{LARGEST_SHEET, MESSAGE_BUFFER, READ_AT_MOST, SHEET_BUFFER};
 use line::put_spaced;
-use rules::codes;
 use sheet::header;
+use std::env::FillError;
 use std::fs::File;
 use std::io::{Read, Seek, SeekFrom};
-use system::{Word, read_full, word_at, word_given};
-use words::{get_word, put, put_decimal, same, text, wide8};
+use system::{read_full, word_at};
+use words::{get_word, put, put_decimal, text};
 
 // Room for a line: what stands around its message has fewer than 128 bytes.
 const LINE: usize = MESSAGE_BUFFER + 128;
@@ -35,39 +36,19 @@ const TIGHT_MESSAGE: usize = 69;
 // FNV-1a 64 starts with this.
 const OFFSET_BASIS: u64 = 14695981039346656037;
 
-// FNV's prime is HIGH, 2^40, and LOW.
-const HIGH: u64 = 1099511627776;
-
-const LOW: u64 = 435;
-
-// 2^32, and 2^24: what of a number HIGH leaves below 2^64.
-const HALF: u64 = 4294967296;
-
-const KEPT: u64 = 16777216;
+const FNV_PRIME: u64 = 1099511628211;
 
 // The digits of a checksum.
 const DIGITS: usize = 16;
 
-// The product by FNV's prime modulo 2^64: the numbers that wrap are sums alone.
-fn times_prime(h: u64) -> u64
-    ensures { result ≡ h * 1099511628211 % 2 ^ 64 }
-{
-    let high = h % KEPT * HIGH;
-    let middle = h / HALF * LOW % HALF * HALF;
-    let low = h % HALF * LOW;
-    high.wrapping_add(middle).wrapping_add(low)
-}
-
+// "For each byte xor it in, then multiply modulo 2^64."
 fn fnv(s: &[u8]) -> u64
     ensures { result ≡ fnv_of s.now }
 {
-    let mut h = OFFSET_BASIS;
-    let mut i = 0;
-    while i < s.len() {
-        h = times_prime(h ^ wide8(s[i]) as u64);
-        i += 1;
-    }
-    h
+    s.iter().fold(
+        OFFSET_BASIS,
+        |h, b| (h ^ u64::from(*b)).wrapping_mul(FNV_PRIME),
+    )
 }
 
 fn put_hex(out: &mut [u8], at: usize, n: u64) -> usize
@@ -213,7 +194,7 @@ fn agrees(ours: &[u8], theirs: &[u8]) -> bool
     ensures { (result ≡ true → ours.now ≡ theirs.now)
         × (ours.now ≡ theirs.now → result ≡ true) }
 {
-    same(ours, theirs)
+    ours == theirs
 }
 
 // ---- a batch: each record behind its length, a word
@@ -223,63 +204,40 @@ const HEAD: usize = 4;
 // What `io::buffer` has room for.
 const BLOCK: usize = 4096;
 
-// Whether there is a record, whether it is whole, and how much of it stands in the buffer.
+// A file ends within a record or a line.
 #[derive(Clone, Copy)]
-struct Got {
-    is_there: bool,
-    is_whole: bool,
-    length: usize,
-}
+struct CutShort;
 
-fn least(a: usize, b: usize) -> usize
-    ensures { (result ≤ a) × (result ≤ b) × (result ≡ min a b) }
-{
-    if a < b { a } else { b }
-}
-
-fn skip_some<R: Read>(from: &mut R, wanted: usize) -> bool
-    requires { wanted ≤ 4096 }
-{
-    let mut block = io::buffer();
-    read_full(from, &mut block[..wanted]) == wanted
-}
-
-// Reads over the bytes of a record for which there was no room, and answers whether they were there.
-fn skip<R: Read>(from: &mut R, start: usize, to: usize) -> bool {
-    let mut at = start;
-    while at < to {
-        let wanted = least(to - at, BLOCK);
-        if !skip_some(from, wanted) {
+// Reads over so many bytes of a record for which there was no room, and answers whether they were there.
+fn skip<R: Read>(from: &mut R, length: usize) -> bool {
+    for at in (0..length).step_by(BLOCK) {
+        let mut block = io::buffer();
+        let wanted = BLOCK.min(length - at);
+        if read_full(from, &mut block[..wanted]) < wanted {
             return false;
         }
-        at += wanted;
     }
     true
 }
 
+// How much of the next record stands in the buffer; None where the batch ends.
 // A record that is longer than the buffer is cut. Its line is the same, if the buffer has 59,937 bytes: `line_cut` in
 // proofs/Cutting.antt. That what stands in the buffer is the record's front is believed, as `std` promises no bytes.
-fn next<R: Read>(from: &mut R, buf: &mut [u8]) -> Got
-    ensures { result.length ≤ length buf.new }
+fn next<R: Read>(from: &mut R, buf: &mut [u8]) -> Result<Option<usize>, CutShort>
+    ensures { IfOk result (λ r. IfSome r (λ n. n ≤ length buf.new)) }
 {
     let mut head = [0u8; HEAD];
-    let n = read_full(from, &mut head);
-    if n < HEAD {
-        return Got {
-            is_there: 0 < n,
-            is_whole: false,
-            length: 0,
-        };
+    match read_full(from, &mut head) {
+        0 => return Ok(None),
+        HEAD => {}
+        _ => return Err(CutShort),
     }
-    let length = get_word(&head, 0);
-    let kept = least(length as usize, buf.len());
-    let m = read_full(from, &mut buf[..kept]);
-    let is_whole = m == kept && skip(from, kept, length as usize);
-    Got {
-        is_there: true,
-        is_whole,
-        length: kept,
+    let length = get_word(&head, 0) as usize;
+    let kept = length.min(buf.len());
+    if read_full(from, &mut buf[..kept]) < kept || !skip(from, length - kept) {
+        return Err(CutShort);
     }
+    Ok(Some(kept))
 }
 
 const STDOUT: i32 = 1;
@@ -288,100 +246,97 @@ fn say(text: &[u8]) {
     io::write_all(STDOUT, text);
 }
 
+// Why a run stops before its end.
+#[derive(Clone, Copy)]
+enum Broken {
+    BatchCut,
+    AnswersCut,
+    MoreAnswers,
+}
+
+fn say_broken(broken: Broken) {
+    match broken {
+        Broken::BatchCut => say(b"the batch is cut short\n"),
+        Broken::AnswersCut => say(b"the answers are cut short\n"),
+        Broken::MoreAnswers => say(b"there are more answers than records\n"),
+    }
+}
+
 // The line of the next record of standard input; whether to go on.
 fn print_next<R: Read>(task: Task, input: &mut R, buf: &mut [u8], out: &mut [u8]) -> bool
     requires { line_room ≤ length out.old }
 {
-    let got = next(input, buf);
-    if !got.is_there {
-        return false;
+    match next(input, buf) {
+        Ok(Some(length)) => {
+            let n = line_of(task, &buf[..length], out);
+            io::write_all(STDOUT, &out[..n])
+        }
+        Ok(None) => false,
+        Err(CutShort) => {
+            say_broken(Broken::BatchCut);
+            false
+        }
     }
-    if !got.is_whole {
-        say(b"the batch is cut short\n");
-        return false;
-    }
-    let length = got.length;
-    let n = line_of(task, text(buf, 0, length), out);
-    io::write_all(STDOUT, text(out, 0, n))
 }
 
-// A proved loop has to end, and nothing says that the input does: it counts its turns down from a number that no batch
-// uses up.
+// A proved loop has to end, and nothing says that the input does: it counts its turns up to a number that no batch
+// reaches.
 fn print_lines<R: Read>(task: Task, input: &mut R) {
     let mut buf = [0u8; READ_AT_MOST];
     let mut out = [0u8; LINE];
-    let mut turns = u64::MAX;
-    while turns > 0 && print_next(task, input, &mut buf, &mut out) {
-        turns -= 1;
+    for _ in 0..u64::MAX {
+        if !print_next(task, input, &mut buf, &mut out) {
+            return;
+        }
     }
 }
 
 // ---- the stored list
 
-// The length of the first line with its end, 0 if no line ends here.
-fn line_length(s: &[u8]) -> usize
-    ensures { result ≤ length s.now }
+// The length of the first line with its end, if a line ends here.
+fn line_length(s: &[u8]) -> Option<usize>
+    ensures { IfSome result (λ n. n ≤ length s.now) }
 {
-    let mut i = 0;
-    while i < s.len() {
-        i += 1;
-        if s[i - 1] == b'\n' {
-            return i;
-        }
-    }
-    0
-}
-
-// Whether the file goes on there, and the length of the line.
-#[derive(Clone, Copy)]
-struct Line {
-    is_there: bool,
-    length: usize,
+    let end = s.iter().position(|b| *b == b'\n')?;
+    Some(end + 1)
 }
 
 // How much of a file stands in the buffer, from there on: nothing of a file that is not open or cannot be read.
-fn read_at(file: &mut Option<File>, at: u32, buf: &mut [u8]) -> usize
-    ensures { result ≤ length buf.new }
+fn read_at(file: &mut Option<File>, at: u32, buf: &mut [u8]) -> Option<usize>
+    ensures { IfSome result (λ n. n ≤ length buf.new) }
 {
-    let Some(open) = file else {
-        return 0;
-    };
-    match open.seek(SeekFrom::Start(u64::from(at))) {
-        Ok(_) => match open.read(buf) {
-            Ok(n) => n,
-            Err(_) => 0,
+    let open = file.as_mut()?;
+    open.seek(SeekFrom::Start(u64::from(at))).ok()?;
+    open.read(buf).ok()
+}
+
+// The length of the line that begins there; None where the list ends.
+fn line_at(answers: &mut Option<File>, at: u32, buf: &mut [u8]) -> Result<Option<usize>, CutShort>
+    ensures { IfOk result (λ r. IfSome r (λ n. n ≤ length buf.new)) }
+{
+    match read_at(answers, at, buf) {
+        None | Some(0) => Ok(None),
+        Some(n) => match line_length(&buf[..n]) {
+            Some(m) => Ok(Some(m)),
+            None => Err(CutShort),
         },
-        Err(_) => 0,
     }
 }
 
-fn line_at(answers: &mut Option<File>, at: u32, buf: &mut [u8]) -> Line
-    ensures { result.length ≤ length buf.new }
+// The lengths of a record and of its answer; None where the list ends with both.
+fn pair(
+    entry: Result<Option<usize>, CutShort>,
+    line: Result<Option<usize>, CutShort>,
+) -> Result<Option<(usize, usize)>, Broken>
+    ensures { IfOk result (λ r. IfSome r (λ p. (entry ≡ Ok (Some p.0)) × (line ≡ Ok (Some p.1)))) }
 {
-    let n = read_at(answers, at, buf);
-    Line {
-        is_there: 0 < n,
-        length: line_length(&buf[..n]),
+    match (entry, line) {
+        (Err(CutShort), _) => Err(Broken::BatchCut),
+        (Ok(Some(n)), Ok(Some(m))) => Ok(Some((n, m))),
+        (Ok(Some(_)), _) => Err(Broken::AnswersCut),
+        (Ok(None), Ok(None)) => Ok(None),
+        (Ok(None), _) => Err(Broken::MoreAnswers),
     }
-}
-
-// Whether there is a record with an answer. The list must end with both.
-fn are_there(got: Got, line: Line) -> bool {
-    if got.is_there {
-        if !got.is_whole {
-            say(b"the batch is cut short\n");
-            return false;
-        }
-        if line.length == 0 {
-            say(b"the answers are cut short\n");
-            return false;
-        }
-        return true;
-    }
-    if line.is_there {
-        say(b"there are more answers than records\n");
-    }
-    false
 }
 
 fn say_record(task: Task) {
@@ -405,10 +360,10 @@ fn say_judge(task: Task) {
 // As `image 17: ours accepted 0 0 40 #41d22a8c2066ae0c / T refused 7 0 0 0 -`. The judge's line brings the line's end.
 fn tell(task: Task, number: u32, ours: &[u8], theirs: &[u8]) {
     say_record(task);
-    io::print_decimal(STDOUT, number as u64);
+    io::print_decimal(STDOUT, u64::from(number));
     say(b": ours ");
-    if 0 < ours.len() {
-        say(text(ours, 0, ours.len() - 1));
+    if let [front @ .., _] = ours {
+        say(front);
     }
     say_judge(task);
     say(theirs);
@@ -417,25 +372,21 @@ fn tell(task: Task, number: u32, ours: &[u8], theirs: &[u8]) {
 // What came of one entry of the list, and where the next answer begins.
 #[derive(Clone, Copy)]
 struct Step {
-    goes_on: bool,
     agreed: bool,
     at: u32,
 }
 
 // The next record of a file; of one that is not open there is none.
-fn next_of(records: &mut Option<File>, buf: &mut [u8]) -> Got
-    ensures { result.length ≤ length buf.new }
+fn next_of(records: &mut Option<File>, buf: &mut [u8]) -> Result<Option<usize>, CutShort>
+    ensures { IfOk result (λ r. IfSome r (λ n. n ≤ length buf.new)) }
 {
-    let Some(open) = records else {
-        return Got {
-            is_there: false,
-            is_whole: false,
-            length: 0,
-        };
-    };
-    next(open, buf)
+    match records {
+        Some(open) => next(open, buf),
+        None => Ok(None),
+    }
 }
 
+// None where the list ends.
 fn replay_next(
     task: Task,
     records: &mut Option<File>,
@@ -443,35 +394,28 @@ fn replay_next(
     number: u32,
     at: u32,
     buf: &mut [u8],
-) -> Step
+) -> Result<Option<Step>, Broken>
     requires { at + line_room < 4294967296 }
-    ensures { result.at ≤ at + line_room }
+    ensures { IfOk result (λ r. IfSome r (λ step. step.at ≤ at + line_room)) }
 {
     let mut ours = [0u8; LINE];
     let mut theirs = [0u8; LINE];
-    let got = next_of(records, buf);
+    let entry = next_of(records, buf);
     let line = line_at(answers, at, &mut theirs);
-    if !are_there(got, line) {
-        return Step {
-            goes_on: false,
-            agreed: false,
-            at,
-        };
-    }
-    let length = got.length;
-    let n = line_of(task, text(buf, 0, length), &mut ours);
-    let m = line.length;
-    let our = text(&ours, 0, n);
-    let their = text(&theirs, 0, m);
+    let Some((n, m)) = pair(entry, line)? else {
+        return Ok(None);
+    };
+    let length = line_of(task, &buf[..n], &mut ours);
+    let our = &ours[..length];
+    let their = &theirs[..m];
     let agreed = agrees(our, their);
     if !agreed {
         tell(task, number, our, their);
     }
-    Step {
-        goes_on: true,
+    Ok(Some(Step {
         agreed,
         at: at + m as u32,
-    }
+    }))
 }
 
 #[derive(Clone, Copy)]
@@ -487,35 +431,38 @@ fn replay_all(task: Task, records: &mut Option<File>, answers: &mut Option<File>
     ensures { (result.agreed ≤ 1000000) × (result.differ ≤ 1000000) }
 {
     let mut buf = [0u8; READ_AT_MOST];
-    let mut number = 0;
-    let mut agreed = 0;
+    let mut tally = Tally {
+        agreed: 0,
+        differ: 0,
+    };
     let mut at = 0;
-    while number < MOST_ENTRIES {
-        let step = replay_next(task, records, answers, number, at, &mut buf);
-        if !step.goes_on {
-            break;
-        }
-        number += 1;
-        at = step.at;
-        if step.agreed {
-            agreed += 1;
+    for number in 0..MOST_ENTRIES {
+        match replay_next(task, records, answers, number, at, &mut buf) {
+            Ok(Some(step)) => {
+                at = step.at;
+                if step.agreed {
+                    tally.agreed += 1;
+                } else {
+                    tally.differ += 1;
+                }
+            }
+            Ok(None) => return tally,
+            Err(broken) => {
+                say_broken(broken);
+                return tally;
+            }
         }
     }
-    Tally {
-        agreed,
-        differ: number - agreed,
-    }
+    tally
 }
 
 fn opened(rt: &HostRuntime, path: &str) -> Option<File> {
-    match File::open(rt, path) {
-        Ok(file) => Some(file),
-        Err(_) => {
-            say(path.as_bytes());
-            say(b" cannot be opened\n");
-            None
-        }
+    let file = File::open(rt, path).ok();
+    if file.is_none() {
+        say(path.as_bytes());
+        say(b" cannot be opened\n");
     }
+    file
 }
 
 fn replay_files(rt: &HostRuntime, task: Task, records: &str, answers: &str) -> Tally
@@ -545,20 +492,12 @@ fn replay_stored(rt: &HostRuntime) {
 
 fn main(rt: HostRuntime) {
     let mut word = io::buffer();
-    if let Word::Absent = word_given(&rt, 1, &mut word) {
-        print_lines(Task::Images, &mut rt.stdin());
-        return;
-    }
-    let n = word_at(&rt, 1, &mut word);
-    if same(&word[..n], b"strict") {
-        print_lines(Task::Strict, &mut rt.stdin());
-    } else if same(&word[..n], b"tight") {
-        print_lines(Task::Tight, &mut rt.stdin());
-    } else if same(&word[..n], b"sheets") {
-        print_lines(Task::Sheets, &mut rt.stdin());
-    } else if same(&word[..n], b"stored") {
-        replay_stored(&rt);
-    } else {
-        say(b"usage: replay [strict | tight | sheets | stored]\n");
+    match word_at(&rt, 1, &mut word) {
+        Err(FillError::NotPresent) => print_lines(Task::Images, &mut rt.stdin()),
+        Ok(b"strict") => print_lines(Task::Strict, &mut rt.stdin()),
+        Ok(b"tight") => print_lines(Task::Tight, &mut rt.stdin()),
+        Ok(b"sheets") => print_lines(Task::Sheets, &mut rt.stdin()),
+        Ok(b"stored") => replay_stored(&rt),
+        _ => say(b"usage: replay [strict | tight | sheets | stored]\n"),
     }
 }

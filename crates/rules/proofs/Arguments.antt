@@ -1,11 +1,10 @@
 -- One argument of a builtin, by its number or its kind.
 use mathlib.Core.Path.{◌≡◌, refl, sym, ap, ◌∙◌}
-use mathlib.Core.Bool.{Bool, true, false}
+use mathlib.Core.Bool.{true, false}
 use mathlib.Core.Logic.{◌⊎◌, inl, inr}
 use mathlib.Core.List.{List, [], ◌∷◌}
-use Prim.Native.Nat.{ℕ, ◌<◌, ◌≤◌}
+use Prim.Native.Nat.{ℕ, ◌<◌}
 use native.Mathlib.Omega.{arith}
-use native.Mathlib.Decide.{ℕ_discrete}
 use borrow.Author.Tests.{eq-eqb, ne_eqb}
 use lib.Dec.{eqb}
 use Rattle.meaning.specs.Base.{◌or◌, test◌then◌else◌, is_in, base_open}
@@ -13,11 +12,17 @@ use Rattle.meaning.specs.Types.{int, maybe, plain}
 use Rattle.meaning.specs.Message.{a_type}
 use Rattle.meaning.specs.Operators.{ok, when}
 use Rattle.types.specs.Table.{Tab, Wf, denote}
+use Rattle.types.specs.declared.Kind.{Kind}
+use Rattle.types.specs.declared.Kind.TheVariants as kind
+use Rattle.types.proofs.OfKind.{same_kind}
+use Rattle.types.specs.Kinds.{kind_number}
 use Rattle.types.specs.Reading.{KindOf}
 use Rattle.types.proofs.Laws.{plain_number, same_number, same_unknown}
-use Rattle.rules.specs.declared.Decision.{Decision}
-use Rattle.rules.specs.declared.Decision.TheVariants.{«Type» as Typed, Refused}
-use Rattle.rules.specs.Outcome.{types_named, because}
+use Rattle.std.specs.Prelude.{Ok, Err}
+use Rattle.codes.specs.declared.Code.{Code}
+use Rattle.codes.specs.Codes.{code_number}
+use Rattle.codes.specs.declared.Code.TheVariants.{Len}
+use Rattle.rules.specs.Outcome.{Decision, types_named, because}
 use Rattle.rules.specs.Leaves.{OfOne, OfNumber, Expected, prompt_rule, sized_rule, bound_rule, callable_rule}
 use Rattle.rules.proofs.Outcomes.{accepts, refuses_one}
 
@@ -27,25 +32,22 @@ pub maybe_number : {t : Tab} → Wf t → (p i : ℕ) → p < t.n → i < t.n �
 unfolding maybe
 maybe_number w p i hp hi = rw (same_number w i p hi hp, same_unknown w i hi)
 
-module _ (p i c r : ℕ) where
-  pub expect_same : i ≡ p → Expected p i c r (Typed r)
+module _ (p i : ℕ) (c : Code) (r : ℕ) where
+  pub expect_yes : (i ≡ p) ⊎ ((i ≡ p → ⊥) × (i ≡ 0)) → Expected p i (code_number c) r (Ok r)
   unfolding when test◌then◌else◌ ◌or◌
-  expect_same e = record {
-    says = λ ws t n k w hi hp hr. accepts n r hr (rw (maybe_number w p i hp hi, eq-eqb i p e));
+  expect_yes e = record {
+    says = λ ws t n k w hi hp hr. accepts n r hr (rw (maybe_number w p i hp hi, agree e));
     codes = inl refl;
   }
+    where
+      agree : (i ≡ p) ⊎ ((i ≡ p → ⊥) × (i ≡ 0)) → (eqb i p or eqb i 0) ≡ true
+      agree (inl a) = rw (eq-eqb i p a)
+      agree (inr a) = rw (ne_eqb i p a.0, eq-eqb i 0 a.1)
 
-  pub expect_unknown : (i ≡ p → ⊥) → i ≡ 0 → Expected p i c r (Typed r)
+  pub expect_not : (i ≡ p → ⊥) × (i ≡ 0 → ⊥) → Expected p i (code_number c) r (Err (because c i 0))
   unfolding when test◌then◌else◌ ◌or◌
-  expect_unknown d e = record {
-    says = λ ws t n k w hi hp hr. accepts n r hr (rw (maybe_number w p i hp hi, ne_eqb i p d, eq-eqb i 0 e));
-    codes = inl refl;
-  }
-
-  pub expect_not : (i ≡ p → ⊥) → (i ≡ 0 → ⊥) → Expected p i c r (Refused (because c i 0))
-  unfolding when test◌then◌else◌ ◌or◌
-  expect_not d e = record {
-    says = λ ws t n k w hi hp hr. refuses_one n c i 0 k hi (rw (maybe_number w p i hp hi, ne_eqb i p d, ne_eqb i 0 e));
+  expect_not d = record {
+    says = λ ws t n k w hi hp hr. refuses_one n c i 0 k hi (rw (maybe_number w p i hp hi, ne_eqb i p d.0, ne_eqb i 0 d.1));
     codes = inr refl;
   }
 
@@ -84,52 +86,42 @@ module _ {i : ℕ} {d : Decision} where
 
 -- ---- len
 
-module _ (k : ℕ) where
-  pub sized_single : (k ≡ 0) ⊎ (k ≡ 3) → true ≡ is_in k (0 ∷ 3 ∷ 8 ∷ 9 ∷ 10 ∷ [])
-  unfolding is_in ◌or◌
-  sized_single (inl e) = rw e
-  sized_single (inr e) = rw e
+pub sized_in : {k : Kind} → (k ≡ kind.Unknown) ⊎ ((k ≡ kind.String) ⊎ ((k ≡ kind.List) ⊎ ((k ≡ kind.Dict) ⊎ (k ≡ kind.Tuple))))
+    → true ≡ is_in (kind_number k) (0 ∷ 3 ∷ 8 ∷ 9 ∷ 10 ∷ [])
+unfolding is_in ◌or◌
+sized_in (inl e) = rw e
+sized_in (inr (inl e)) = rw e
+sized_in (inr (inr (inl e))) = rw e
+sized_in (inr (inr (inr (inl e)))) = rw e
+sized_in (inr (inr (inr (inr e)))) = rw e
 
-  pub sized_run : 8 ≤ k → k < 11 → true ≡ is_in k (0 ∷ 3 ∷ 8 ∷ 9 ∷ 10 ∷ [])
-  unfolding is_in ◌or◌
-  sized_run l m = elim (ℕ_discrete k 8) [
-    | yes e ↦ rw e
-    | no a ↦ elim (ℕ_discrete k 9) [
-      | yes e ↦ rw e
-      | no b ↦ let e : k ≡ 10 = omega arith in rw e
-    ]
-  ]
+pub sized_none : (k : Kind) → (k ≡ kind.Unknown → ⊥) → (k ≡ kind.String → ⊥) → (k ≡ kind.List → ⊥) → (k ≡ kind.Dict → ⊥) → (k ≡ kind.Tuple → ⊥)
+    → false ≡ is_in (kind_number k) (0 ∷ 3 ∷ 8 ∷ 9 ∷ 10 ∷ [])
+unfolding is_in ◌or◌
+sized_none k a b c d e =
+    rw (
+      ne_eqb (kind_number k) 0 (λ z. a (same_kind k kind.Unknown z)),
+      ne_eqb (kind_number k) 3 (λ z. b (same_kind k kind.String z)),
+      ne_eqb (kind_number k) 8 (λ z. c (same_kind k kind.List z)),
+      ne_eqb (kind_number k) 9 (λ z. d (same_kind k kind.Dict z)),
+      ne_eqb (kind_number k) 10 (λ z. e (same_kind k kind.Tuple z)),
+    )
 
-  outside : (k < 8) ⊎ (11 ≤ k) → (m : ℕ) → 8 ≤ m → m < 11 → k ≡ m → ⊥
-  outside (inl l) m a b e = absurd (omega arith)
-  outside (inr l) m a b e = absurd (omega arith)
-
-  pub sized_none : ((k ≡ 0) ⊎ (k ≡ 3) → ⊥) → (k < 8) ⊎ (11 ≤ k) → false ≡ is_in k (0 ∷ 3 ∷ 8 ∷ 9 ∷ 10 ∷ [])
-  unfolding is_in ◌or◌
-  sized_none d l =
-      rw (
-        ne_eqb k 0 (λ e. d (inl e)),
-        ne_eqb k 3 (λ e. d (inr e)),
-        ne_eqb k 8 (outside l 8 (omega arith) (omega arith)),
-        ne_eqb k 9 (outside l 9 (omega arith) (omega arith)),
-        ne_eqb k 10 (outside l 10 (omega arith) (omega arith)),
-      )
-
-module _ {cs : List ℕ} {i k : ℕ} (kind_is : KindOf cs i k) where
+module _ {cs : List ℕ} {i : ℕ} {k : Kind} (kind_is : KindOf cs i k) where
   sized_by : (t : Tab) (n : ℕ) → t.cells ≡ cs → Wf t → i < t.n
-      → sized_rule n (denote t i) ≡ when (is_in k (0 ∷ 3 ∷ 8 ∷ 9 ∷ 10 ∷ [])) int 40 n (a_type (denote t i) ∷ [])
+      → sized_rule n (denote t i) ≡ when (is_in (kind_number k) (0 ∷ 3 ∷ 8 ∷ 9 ∷ 10 ∷ [])) int 40 n (a_type (denote t i) ∷ [])
   sized_by t n s w h = rw (kind_is.says t s w h)
 
-  pub sized_yes : {q : Bool} → q ≡ is_in k (0 ∷ 3 ∷ 8 ∷ 9 ∷ 10 ∷ []) → q ≡ true → OfOne cs sized_rule i (Typed 1)
+  pub sized_yes : true ≡ is_in (kind_number k) (0 ∷ 3 ∷ 8 ∷ 9 ∷ 10 ∷ []) → OfOne cs sized_rule i (Ok 1)
   unfolding when test◌then◌else◌ plain
-  sized_yes e y = record {
+  sized_yes e = record {
     says = λ ws t n s w h.
         accepts n 1 (omega (arith, w.base))
-        (sized_by t n s w h ∙ rw (sym e ∙ y) (ap ok (sym (plain_number w 1 (omega arith)))));
+        (sized_by t n s w h ∙ rw (sym e) (ap ok (sym (plain_number w 1 (omega arith)))));
   }
 
-  pub sized_no : {q : Bool} → q ≡ is_in k (0 ∷ 3 ∷ 8 ∷ 9 ∷ 10 ∷ []) → q ≡ false → OfOne cs sized_rule i (Refused (because 40 i 0))
+  pub sized_no : false ≡ is_in (kind_number k) (0 ∷ 3 ∷ 8 ∷ 9 ∷ 10 ∷ []) → OfOne cs sized_rule i (Err (because Len i 0))
   unfolding when test◌then◌else◌
-  sized_no e y = record {
-    says = λ ws t n s w h. refuses_one n 40 i 0 names_sized h (sized_by t n s w h ∙ rw (sym e ∙ y));
+  sized_no e = record {
+    says = λ ws t n s w h. refuses_one n Len i 0 names_sized h (sized_by t n s w h ∙ rw (sym e));
   }

@@ -2,6 +2,7 @@
 use mathlib.Core.Path.{◌≡◌, refl, sym, ap, ◌∙◌}
 use mathlib.Core.Logic.{◌⊎◌, inl, inr}
 use mathlib.Core.List.{List, [], ◌∷◌}
+use mathlib.Core.Bool.{true}
 use Prim.Native.Nat.{ℕ, ◌<◌}
 use native.Mathlib.Omega.{arith}
 use borrow.Author.Tests.{eq-eqb, ne_eqb}
@@ -13,12 +14,14 @@ use Rattle.meaning.specs.Message.{a_type}
 use Rattle.meaning.specs.Operators.{ok, when}
 use Rattle.meaning.specs.Rules.{index_rule}
 use Rattle.types.specs.Table.{Tab, Wf, denote, Means}
+use Rattle.types.specs.declared.Kind.{Kind}
+use Rattle.types.specs.Kinds.{kind_number}
 use Rattle.types.specs.Reading.{Known, KindOf, PartOf, CommonOf, IsTuple}
 use Rattle.types.proofs.Laws.{plain_number, unknown_number, same_unknown}
 use Rattle.types.proofs.Readers.{is_tuple}
-use Rattle.rules.specs.declared.Decision.{Decision}
-use Rattle.rules.specs.declared.Decision.TheVariants.{«Type» as Typed, Refused}
-use Rattle.rules.specs.Outcome.{types_named, because, decision_code, Decides}
+use Rattle.std.specs.Prelude.{Ok, Err}
+use Rattle.codes.specs.declared.Code.TheVariants.{DictKey, NotSubscriptable}
+use Rattle.rules.specs.Outcome.{Decision, types_named, because, decision_code, Decides}
 use Rattle.rules.specs.Leaves.{Expected, Keyed, index_place, Indexed}
 use Rattle.rules.proofs.Outcomes.{accepts, refuses_one, refuses_two}
 use Rattle.rules.proofs.Arguments.{maybe_number}
@@ -34,38 +37,30 @@ module _ (k i v : ℕ) where
       → (maybe (denote t k) (denote t i) or same (denote t k) unknown) ≡ (eqb i k or eqb i 0 or eqb k 0)
   key_by w hk hi = rw (maybe_number w k i hk hi, same_unknown w k hk)
 
-  pub key_same : i ≡ k → Keyed k i v (Typed v)
+  -- one of the three holds
+  pub key_yes : (i ≡ k) ⊎ (((i ≡ k → ⊥) × (i ≡ 0)) ⊎ ((i ≡ k → ⊥) × (i ≡ 0 → ⊥) × (k ≡ 0))) → Keyed k i v (Ok v)
   unfolding when test◌then◌else◌ ◌or◌
-  key_same e = record {
-    says = λ ws t n w hk hi hv. accepts n v hv (rw (key_by w hk hi, eq-eqb i k e));
+  key_yes e = record {
+    says = λ ws t n w hk hi hv. accepts n v hv (rw (key_by w hk hi, fits e));
     codes = inl refl;
   }
+    where
+      fits : (i ≡ k) ⊎ (((i ≡ k → ⊥) × (i ≡ 0)) ⊎ ((i ≡ k → ⊥) × (i ≡ 0 → ⊥) × (k ≡ 0))) → (eqb i k or eqb i 0 or eqb k 0) ≡ true
+      fits (inl a) = rw (eq-eqb i k a)
+      fits (inr (inl a)) = rw (ne_eqb i k a.0, eq-eqb i 0 a.1)
+      fits (inr (inr a)) = rw (ne_eqb i k a.0, ne_eqb i 0 a.1, eq-eqb k 0 a.2)
 
-  pub key_unknown : (i ≡ k → ⊥) → i ≡ 0 → Keyed k i v (Typed v)
+  pub key_not : (i ≡ k → ⊥) × (i ≡ 0 → ⊥) × (k ≡ 0 → ⊥) → Keyed k i v (Err (because DictKey k i))
   unfolding when test◌then◌else◌ ◌or◌
-  key_unknown d e = record {
-    says = λ ws t n w hk hi hv. accepts n v hv (rw (key_by w hk hi, ne_eqb i k d, eq-eqb i 0 e));
-    codes = inl refl;
-  }
-
-  pub key_any : (i ≡ k → ⊥) → (i ≡ 0 → ⊥) → k ≡ 0 → Keyed k i v (Typed v)
-  unfolding when test◌then◌else◌ ◌or◌
-  key_any d f e = record {
-    says = λ ws t n w hk hi hv. accepts n v hv (rw (key_by w hk hi, ne_eqb i k d, ne_eqb i 0 f, eq-eqb k 0 e));
-    codes = inl refl;
-  }
-
-  pub key_not : (i ≡ k → ⊥) → (i ≡ 0 → ⊥) → (k ≡ 0 → ⊥) → Keyed k i v (Refused (because 47 k i))
-  unfolding when test◌then◌else◌ ◌or◌
-  key_not d f e = record {
+  key_not d = record {
     says = λ ws t n w hk hi hv.
-        refuses_two n 47 k i names_key hk hi (rw (key_by w hk hi, ne_eqb i k d, ne_eqb i 0 f, ne_eqb k 0 e));
+        refuses_two n DictKey k i names_key hk hi (rw (key_by w hk hi, ne_eqb i k d.0, ne_eqb i 0 d.1, ne_eqb k 0 d.2));
     codes = inr refl;
   }
 
 -- ---- the object's kind
 
-pub known_tuple : {cs : List ℕ} {i k : ℕ} → Known cs i → KindOf cs i k → k ≡ 10 → IsTuple cs i
+pub known_tuple : {cs : List ℕ} {i : ℕ} {k : Kind} → Known cs i → KindOf cs i k → kind_number k ≡ 10 → IsTuple cs i
 known_tuple {cs} {i} d r e =
     rw d.cells at (is_tuple d.wf i d.below (sym (r.says d.table d.cells d.wf d.below) ∙ e))
 
@@ -99,27 +94,27 @@ by_int {i} {c} {r} {d} z k x ws t m n ty w h y =
     rw (at_index (decision_code d) c m n z x.codes)
     (rw (plain_number w 1 (omega arith), y.means) at (x.says ws t n k w h (omega (arith, w.base)) y.below))
 
-module _ {cs : List ℕ} {o k : ℕ} (kind_is : KindOf cs o k) (i : ℕ) where
-  own : (t : Tab) → t.cells ≡ cs → Wf t → o < t.n → {x : ℕ} → k ≡ x → kind (denote t o) ≡ x
+module _ {cs : List ℕ} {o : ℕ} {k : Kind} (kind_is : KindOf cs o k) (i : ℕ) where
+  own : (t : Tab) → t.cells ≡ cs → Wf t → o < t.n → {x : ℕ} → kind_number k ≡ x → kind (denote t o) ≡ x
   own t s w h e = sym (kind_is.says t s w h) ∙ e
 
-  pub index_unknown : k ≡ 0 → Indexed cs o i (Typed 0)
+  pub index_unknown : kind_number k ≡ 0 → Indexed cs o i (Ok 0)
   unfolding index_rule choose test◌then◌else◌
   index_unknown z = record {
     says = λ ws t m n s w ho hi.
         accepts _ 0 (omega (arith, w.base)) (rw (own t s w ho z) (ap ok (sym (unknown_number w))));
   }
 
-  pub index_other : (k ≡ 0 → ⊥) → (k ≡ 3 → ⊥) → (k ≡ 8 → ⊥) → (k ≡ 9 → ⊥) → (k ≡ 10 → ⊥) → Indexed cs o i (Refused (because 50 o 0))
+  pub index_other : (kind_number k ≡ 0 → ⊥) → (kind_number k ≡ 3 → ⊥) → (kind_number k ≡ 8 → ⊥) → (kind_number k ≡ 9 → ⊥) → (kind_number k ≡ 10 → ⊥) → Indexed cs o i (Err (because NotSubscriptable o 0))
   unfolding index_rule choose test◌then◌else◌ index_place
   index_other d0 d3 d8 d9 d10 = record {
     says = λ ws t m n s w ho hi.
-        refuses_one m 50 o 0 names_object ho
-        (rw (own t s w ho refl, ne_eqb k 0 d0, ne_eqb k 3 d3, ne_eqb k 8 d8, ne_eqb k 9 d9, ne_eqb k 10 d10));
+        refuses_one m NotSubscriptable o 0 names_object ho
+        (rw (own t s w ho refl, ne_eqb (kind_number k) 0 d0, ne_eqb (kind_number k) 3 d3, ne_eqb (kind_number k) 8 d8, ne_eqb (kind_number k) 9 d9, ne_eqb (kind_number k) 10 d10));
   }
 
   module _ {d : Decision} where
-    pub index_string : k ≡ 3 → Expected 1 i 49 3 d → Indexed cs o i d
+    pub index_string : kind_number k ≡ 3 → Expected 1 i 49 3 d → Indexed cs o i d
     unfolding index_rule choose test◌then◌else◌ plain
     index_string z x = record {
       says = λ ws t m n s w ho hi.
@@ -128,7 +123,7 @@ module _ {cs : List ℕ} {o k : ℕ} (kind_is : KindOf cs o k) (i : ℕ) where
           (record { below = omega (arith, w.base); means = plain_number w 3 (omega arith) }));
     }
 
-    pub index_list : {r : ℕ} → k ≡ 8 → PartOf cs 0 o r → Expected 1 i 46 r d → Indexed cs o i d
+    pub index_list : {r : ℕ} → kind_number k ≡ 8 → PartOf cs 0 o r → Expected 1 i 46 r d → Indexed cs o i d
     unfolding index_rule choose test◌then◌else◌
     index_list z y x = record {
       says = λ ws t m n s w ho hi.
@@ -136,7 +131,7 @@ module _ {cs : List ℕ} {o k : ℕ} (kind_is : KindOf cs o k) (i : ℕ) where
           rw e (by_int (λ e. absurd (omega arith)) names_list x ws t m n _ w hi (y.says t s w ho (λ f. absurd (omega arith))));
     }
 
-    pub index_tuple : {r : ℕ} → k ≡ 10 → CommonOf cs o r → Expected 1 i 48 r d → Indexed cs o i d
+    pub index_tuple : {r : ℕ} → kind_number k ≡ 10 → CommonOf cs o r → Expected 1 i 48 r d → Indexed cs o i d
     unfolding index_rule choose test◌then◌else◌
     index_tuple z y x = record {
       says = λ ws t m n s w ho hi.
@@ -144,7 +139,7 @@ module _ {cs : List ℕ} {o k : ℕ} (kind_is : KindOf cs o k) (i : ℕ) where
           rw e (by_int (λ e. absurd (omega arith)) names_tuple x ws t m n _ w hi (y.says t s w ho e));
     }
 
-    pub index_dict : {p q : ℕ} → k ≡ 9 → PartOf cs 0 o p → PartOf cs 1 o q → Keyed p i q d → Indexed cs o i d
+    pub index_dict : {p q : ℕ} → kind_number k ≡ 9 → PartOf cs 0 o p → PartOf cs 1 o q → Keyed p i q d → Indexed cs o i d
     unfolding index_rule choose test◌then◌else◌
     index_dict z y v x = record {
       says = λ ws t m n s w ho hi.

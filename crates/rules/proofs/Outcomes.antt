@@ -11,9 +11,10 @@ use Rattle.meaning.specs.Message.{a_type, refusal}
 use Rattle.meaning.specs.Operators.{Checked, ok, refused}
 use Rattle.types.specs.Table.{Tab, Wf, denote}
 use Rattle.rules.specs.declared.Reason.{Reason}
-use Rattle.rules.specs.declared.Decision.{Decision}
-use Rattle.rules.specs.declared.Decision.TheVariants.{«Type» as Typed, Refused}
-use Rattle.rules.specs.Outcome.{types_named, pieces, because, decision_code, decided, Decides}
+use Rattle.std.specs.Prelude.{Ok, Err}
+use Rattle.codes.specs.declared.Code.{Code}
+use Rattle.codes.specs.Codes.{code_number}
+use Rattle.rules.specs.Outcome.{Decision, types_named, pieces, because, decision_code, decided, Decides}
 
 pub known : {t : Tab} {i : ℕ} → Wf t → i < t.n → Known t.cells i
 known {t} w h = record { table = t; cells = refl; wf = w; below = h }
@@ -49,50 +50,36 @@ two_pieces ws t c a b e = rw e
 
 -- ---- decisions of each form
 
--- which of the two a decision is
-is_typed : Decision → ℕ
-is_typed (Typed n) = 1
-is_typed (Refused w) = 0
-
-pub typed_not_refused : {A : Type 0} {n : ℕ} {w : Reason} → Typed n ≡ Refused w → A
-unfolding is_typed
-typed_not_refused e = let z : ◌≡◌ {A = ℕ} 1 0 = ap is_typed e in absurd (omega arith)
-
-pub same_code : {v w : Reason} → Refused v ≡ Refused w → v.code ≡ w.code
-same_code e = ap decision_code e
-
 module _ {ws : List Name} {t : Tab} {r : Checked} (n : ℕ) where
-  pub accepts : (number : ℕ) → number < t.n → r ≡ ok (denote t number) → Decides ws t r n (Typed number)
+  pub accepts : (number : ℕ) → number < t.n → r ≡ ok (denote t number) → Decides ws t r n (Ok number)
   accepts number h s = record {
     says = s ∙ sym (was_ok ws t 0 n number 0 0 refl);
     below = λ z. h;
     first = λ l. absurd (omega (arith, zero_names_none));
     second = λ l. absurd (omega (arith, zero_names_none));
     small = λ z. absurd (z refl);
-    coded = λ w e. typed_not_refused e;
   }
 
-  module _ (c a b : ℕ) where
-    refuses : (c ≡ 0 → ⊥) → (1 ≤ types_named c → a < t.n) → (2 ≤ types_named c → b < t.n)
-        → (types_named c ≡ 0 → (a < 4294967296) × (b < 4294967296)) → r ≡ refused (refusal c n (pieces ws t c a b))
-        → Decides ws t r n (Refused (because c a b))
+  module _ (c : Code) (a b : ℕ) where
+    refuses : (code_number c ≡ 0 → ⊥) → (1 ≤ types_named (code_number c) → a < t.n) → (2 ≤ types_named (code_number c) → b < t.n)
+        → (types_named (code_number c) ≡ 0 → (a < 4294967296) × (b < 4294967296)) → r ≡ refused (refusal (code_number c) n (pieces ws t (code_number c) a b))
+        → Decides ws t r n (Err (because c a b))
     refuses z ha hb hs s = record {
-      says = s ∙ sym (was_refused ws t c n 0 a b z);
+      says = s ∙ sym (was_refused ws t (code_number c) n 0 a b z);
       below = λ e. absurd (z e);
       first = ha;
       second = hb;
       small = λ z. hs;
-      coded = λ w e y. z (same_code e ∙ y);
     }
 
-    pub refuses_one : types_named c ≡ 1 → a < t.n → r ≡ refused (refusal c n (a_type (denote t a) ∷ []))
-        → Decides ws t r n (Refused (because c a b))
+    pub refuses_one : types_named (code_number c) ≡ 1 → a < t.n → r ≡ refused (refusal (code_number c) n (a_type (denote t a) ∷ []))
+        → Decides ws t r n (Err (because c a b))
     refuses_one k h s =
-        refuses (names_code c (omega arith)) (λ l. h) (λ l. absurd (omega arith)) (λ l. absurd (omega arith))
-        (s ∙ ap (λ ps. refused (refusal c n ps)) (sym (one_piece ws t c a b k)))
+        refuses (names_code (code_number c) (omega arith)) (λ l. h) (λ l. absurd (omega arith)) (λ l. absurd (omega arith))
+        (s ∙ ap (λ ps. refused (refusal (code_number c) n ps)) (sym (one_piece ws t (code_number c) a b k)))
 
-    pub refuses_two : types_named c ≡ 2 → a < t.n → b < t.n → r ≡ refused (refusal c n (a_type (denote t a) ∷ a_type (denote t b) ∷ []))
-        → Decides ws t r n (Refused (because c a b))
+    pub refuses_two : types_named (code_number c) ≡ 2 → a < t.n → b < t.n → r ≡ refused (refusal (code_number c) n (a_type (denote t a) ∷ a_type (denote t b) ∷ []))
+        → Decides ws t r n (Err (because c a b))
     refuses_two k ha hb s =
-        refuses (names_code c (omega arith)) (λ l. ha) (λ l. hb) (λ l. absurd (omega arith))
-        (s ∙ ap (λ ps. refused (refusal c n ps)) (sym (two_pieces ws t c a b k)))
+        refuses (names_code (code_number c) (omega arith)) (λ l. ha) (λ l. hb) (λ l. absurd (omega arith))
+        (s ∙ ap (λ ps. refused (refusal (code_number c) n ps)) (sym (two_pieces ws t (code_number c) a b k)))

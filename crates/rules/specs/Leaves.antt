@@ -1,6 +1,6 @@
 -- What the leaves promise, whatever the table, the image's names and the node: numbers stand for types, as the table that the cells cs
 -- hold says.
-use Rattle.std.specs.Prelude.{◌≡◌, Bool, ◌⊎◌, List, [], ◌∷◌, ℕ, ◌<◌, eqb}
+use Rattle.std.specs.Prelude.{◌≡◌, Bool, ◌⊎◌, List, [], ◌∷◌, Option, Some, None, ℕ, ◌<◌, eqb}
 use Rattle.meaning.specs.Base.{◌or◌, test◌then◌else◌, if_some, is_in}
 use Rattle.meaning.specs.Types.{Ty, unknown, int, string, function, list, dict, map_iter, filter_iter, same, maybe, kind}
 use Rattle.meaning.specs.Image.{Name}
@@ -9,8 +9,8 @@ use Rattle.meaning.specs.Operators.{Checked, ok, refused, when}
 use Rattle.meaning.specs.Rules.{Children, list_rule, joined, dict_rule, streamed, index_rule}
 use Rattle.types.specs.Table.{Tab, capacity, Wf, denote, Made}
 use Rattle.types.specs.Reading.{perhaps}
-use Rattle.rules.specs.declared.Decision.{Decision}
-use Rattle.rules.specs.Outcome.{types_named, decision_code, decision_number, Decides}
+use Rattle.rules.specs.declared.Pair.{Pair}
+use Rattle.rules.specs.Outcome.{Decision, types_named, decision_code, decision_number, Decides}
 
 -- ---- what a rule gives at node n
 
@@ -50,24 +50,33 @@ callable_rule c n a = when (maybe function a) a c n (a_type a ∷ [])
 
 -- ---- one turn of a List's or a Dict's rule
 
--- `number` is the element type after the turn
-pub record ListStep (so_far next : ℕ) (stop : Bool) (number : ℕ) : Type 0 where
+-- what a List comes to after a turn: none ends it
+abbrev pub list_after : Tab → Option ℕ → Children → Checked
+list_after t None cs = ok (list unknown)
+list_after t (Some r) cs = list_rule (denote t r) cs
+
+-- r is the element type after the turn
+pub record ListStep (so_far next : ℕ) (r : Option ℕ) : Type 0 where
   pub says : (t : Tab) (c : ℕ × Checked) (cs : Children) → Wf t → so_far < t.n → next < t.n → c.1 ≡ ok (denote t next)
-      → list_rule (denote t so_far) (c ∷ cs) ≡ (test stop then ok (list (denote t number)) else list_rule (denote t number) cs)
-  pub below : (t : Tab) → Wf t → next < t.n → number < t.n
+      → list_rule (denote t so_far) (c ∷ cs) ≡ list_after t r cs
+  pub below : (t : Tab) → next < t.n → (k : ℕ) → r ≡ Some k → k < t.n
 
 pub record JoinedOf (a b r : ℕ) : Type 0 where
   pub says : (t : Tab) → Wf t → a < t.n → b < t.n → joined (denote t a) (denote t b) ≡ denote t r
   pub below : (t : Tab) → Wf t → b < t.n → r < t.n
 
--- `key` and `value` are the types after the turn
-pub record DictStep (k v a b : ℕ) (stop : Bool) (key value : ℕ) : Type 0 where
-  pub says : (t : Tab) (c d : ℕ × Checked) (cs : Children) → Wf t → k < t.n → v < t.n → a < t.n → b < t.n
-      → c.1 ≡ ok (denote t a) → d.1 ≡ ok (denote t b)
-      → dict_rule (denote t k) (denote t v) (c ∷ d ∷ cs)
-      ≡ (test stop then ok (dict (denote t key) (denote t value)) else dict_rule (denote t key) (denote t value) cs)
-  pub key_below : (t : Tab) → Wf t → a < t.n → key < t.n
-  pub value_below : (t : Tab) → Wf t → b < t.n → value < t.n
+-- what a Dict comes to after a turn: none ends it
+abbrev pub dict_after : Tab → Option Pair → Children → Checked
+dict_after t None cs = ok (dict unknown unknown)
+dict_after t (Some p) cs = dict_rule (denote t p.key) (denote t p.value) cs
+
+-- p has the key and the value type after the turn
+pub record DictStep (so_far next : Pair) (p : Option Pair) : Type 0 where
+  pub says : (t : Tab) (c d : ℕ × Checked) (cs : Children) → Wf t → so_far.key < t.n → so_far.value < t.n → next.key < t.n → next.value < t.n
+      → c.1 ≡ ok (denote t next.key) → d.1 ≡ ok (denote t next.value)
+      → dict_rule (denote t so_far.key) (denote t so_far.value) (c ∷ d ∷ cs) ≡ dict_after t p cs
+  pub key_below : (t : Tab) → Wf t → next.key < t.n → (q : Pair) → p ≡ Some q → q.key < t.n
+  pub value_below : (t : Tab) → Wf t → next.value < t.n → (q : Pair) → p ≡ Some q → q.value < t.n
 
 -- ---- Index
 
@@ -90,9 +99,9 @@ pub record Indexed (cs : List ℕ) (object index : ℕ) (d : Decision) : Type 0 
 
 -- ---- the second argument of map and filter
 
-pub record StreamedOf (cs : List ℕ) (i : ℕ) (there : Bool) (r : ℕ) : Type 0 where
-  pub says : (t : Tab) → t.cells ≡ cs → Wf t → i < t.n → streamed (denote t i) ≡ perhaps t there r
-  pub below : (t : Tab) → t.cells ≡ cs → Wf t → i < t.n → r < t.n
+pub record StreamedOf (cs : List ℕ) (i : ℕ) (r : Option ℕ) : Type 0 where
+  pub says : (t : Tab) → t.cells ≡ cs → Wf t → i < t.n → streamed (denote t i) ≡ perhaps t r
+  pub below : (t : Tab) → t.cells ≡ cs → Wf t → i < t.n → (k : ℕ) → r ≡ Some k → k < t.n
 
 -- filter keeps the element type, and map does not tell what it gives
 unfoldable pub stream_type : Bool → Ty → Ty

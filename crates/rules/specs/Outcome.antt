@@ -1,14 +1,14 @@
 -- What a decision means: the type of a number, or a refusal whose message names what its a and b stand for.
-use Rattle.std.specs.Prelude.{◌≡◌, List, [], ◌∷◌, ℕ, ◌≤◌, ◌<◌, eqb}
+use Rattle.std.specs.Prelude.{◌≡◌, List, [], ◌∷◌, Result, Ok, Err, ℕ, ◌≤◌, ◌<◌, eqb}
 use Rattle.meaning.specs.Base.{test◌then◌else◌, choose, is_in}
 use Rattle.meaning.specs.Image.{Role, plain, exactly, between, any, takes, Name, name_of}
 use Rattle.meaning.specs.Message.{Piece, a_type, a_text, a_number, refusal}
 use Rattle.meaning.specs.Operators.{Checked, ok, refused}
 use Rattle.meaning.specs.Rules.{described}
+use Rattle.codes.specs.declared.Code.{Code}
+use Rattle.codes.specs.Codes.{code_number}
 use Rattle.types.specs.Table.{Tab, denote}
 use Rattle.rules.specs.declared.Reason.{Reason}
-use Rattle.rules.specs.declared.Decision.{Decision}
-use Rattle.rules.specs.declared.Decision.TheVariants.{«Type» as Typed, Refused}
 
 -- ---- what a message names
 
@@ -41,30 +41,33 @@ pieces ws t c a b =
 
 -- ---- a decision in numbers: code 0 and a type's number, or a code and what its message needs
 
-abbrev pub because : ℕ → ℕ → ℕ → Reason
+abbrev pub Decision : Type 0
+Decision = Result ℕ Reason
+
+abbrev pub because : Code → ℕ → ℕ → Reason
 because c a b = record { code = c; a = a; b = b }
 
 abbrev pub decision_code : Decision → ℕ
-decision_code (Typed n) = 0
-decision_code (Refused w) = w.code
+decision_code (Ok n) = 0
+decision_code (Err w) = code_number w.code
 
 abbrev pub decision_number : Decision → ℕ
-decision_number (Typed n) = n
-decision_number (Refused w) = 0
+decision_number (Ok n) = n
+decision_number (Err w) = 0
 
 abbrev pub decision_first : Decision → ℕ
-decision_first (Typed n) = 0
-decision_first (Refused w) = w.a
+decision_first (Ok n) = 0
+decision_first (Err w) = w.a
 
 abbrev pub decision_second : Decision → ℕ
-decision_second (Typed n) = 0
-decision_second (Refused w) = w.b
+decision_second (Ok n) = 0
+decision_second (Err w) = w.b
 
 -- what these mean at node n
 unfoldable pub decided : List Name → Tab → ℕ → ℕ → ℕ → ℕ → ℕ → Checked
 decided ws t c n number a b = test eqb c 0 then ok (denote t number) else refused (refusal c n (pieces ws t c a b))
 
--- at node n the decision says what r is, its types are numbers of the table, its counts fit a word, and a refusal has a code
+-- at node n the decision says what r is, its types are numbers of the table, and its counts fit a word
 pub record Decides (ws : List Name) (t : Tab) (r : Checked) (n : ℕ) (d : Decision) : Type 0 where
   pub says : r ≡ decided ws t (decision_code d) n (decision_number d) (decision_first d) (decision_second d)
   pub below : decision_code d ≡ 0 → decision_number d < t.n
@@ -72,4 +75,3 @@ pub record Decides (ws : List Name) (t : Tab) (r : Checked) (n : ℕ) (d : Decis
   pub second : 2 ≤ types_named (decision_code d) → decision_second d < t.n
   pub small : (decision_code d ≡ 0 → ⊥) → types_named (decision_code d) ≡ 0
       → (decision_first d < 4294967296) × (decision_second d < 4294967296)
-  pub coded : (w : Reason) → d ≡ Refused w → w.code ≡ 0 → ⊥

@@ -1,43 +1,38 @@
 // What one node of an expression decides, given the types of its children: the rules of T's tc_expr, without its walk.
-#![tactic(auto)]
+#![tactic(auto, using(types::proofs::Readers::known_room, crate::proofs::Operations::read_kind))]
 
-ghost use Rattle.std.specs.Prelude.{◌≡◌, [], ◌∷◌, ◌<◌};
-ghost use Rattle.meaning.specs.Base.{is_in};
+ghost use Rattle.std.specs.Prelude.{◌≡◌, ◌<◌, Err};
 ghost use Rattle.meaning.specs.Decode.{unary_of, binary_of};
 ghost use Rattle.meaning.specs.Operators.{unary_rule, binary_rule};
 ghost use Rattle.types.specs.Table.{tab, capacity, denote, Made};
 ghost use Rattle.types.specs.Reading.{Known, IsNumber};
+ghost use Rattle.codes.specs.Codes.{code_number};
 ghost use Rattle.rules.specs.Outcome.{types_named, because};
 ghost use Rattle.rules.specs.Leaves.{OfOne, OfTwo, OfNumber, Expected, Keyed, Indexed};
 ghost use Rattle.rules.specs.Leaves.{prompt_rule, sized_rule, bound_rule, callable_rule};
 ghost use Rattle.rules.specs.Leaves.{ListStep, JoinedOf, DictStep};
 ghost use Rattle.rules.specs.Leaves.{StreamedOf, stream_type, second_code, Asks, Streams};
 
-pub mod codes;
-
-use operators::{COMPARE, answer_of, unary_answer_of};
+use codes::Code;
+use operators::{Answer, answer_of, unary_answer_of};
 use types;
-use types::{Counts, Formed, Perhaps, common_of, element_of, form, kind_of, part_of, second_of};
+use types::{Counts, Formed, Kind, common_of, element_of, form, kind_of, part_of, second_of};
 
 // A refusal as it is decided: its code and the two numbers that its message needs.
 #[derive(Clone, Copy)]
 pub struct Reason {
-    pub code: u32,
+    pub code: Code,
     pub a: usize,
     pub b: usize,
 }
 
 // What T's `SemanticResult<Ty>` is here: the number of a type, or why there is none.
-#[derive(Clone, Copy)]
-pub enum Decision {
-    Type(usize),
-    Refused(Reason),
-}
+pub type Decision = Result<usize, Reason>;
 
-fn refused(code: u32, a: usize, b: usize) -> Decision
-    ensures { result ≡ Decision.Refused (because code a b) }
+fn refused(code: Code, a: usize, b: usize) -> Decision
+    ensures { result ≡ Err (because code a b) }
 {
-    Decision::Refused(Reason { code, a, b })
+    Err(Reason { code, a, b })
 }
 
 // ---- operators
@@ -47,63 +42,41 @@ pub fn unary(table: &[u16], op: u32, i: usize) -> Decision
     requires known { Known table.now i }
     ensures { OfOne table.now (λ n. unary_rule n (unary_of op)) i result }
 {
-    let kind = kind_of(table, i);
-    let answer = unary_answer_of(op, kind as u32);
-    if answer < COMPARE {
-        return Decision::Type(answer as usize);
+    match unary_answer_of(op, kind_of(table, i).number() as u32) {
+        Ok(ty) => Ok(ty),
+        Err(code) => refused(code, i, 0),
     }
-    refused(answer, i, 0)
 }
 
-// COMPARE asks whether the whole types are equal: their numbers tell.
+// Whether the whole types are equal their numbers tell.
 pub fn binary(table: &[u16], op: u32, left: usize, right: usize) -> Decision
     requires op_bound { op < 14 }
     requires known { (Known table.now left) × (Known table.now right) }
     ensures { OfTwo table.now (λ n. binary_rule n (binary_of op)) left right result }
 {
-    let l = kind_of(table, left);
-    let r = kind_of(table, right);
-    let answer = answer_of(op, l as u32, r as u32);
-    if answer < COMPARE {
-        return Decision::Type(answer as usize);
+    let answer = answer_of(
+        op,
+        kind_of(table, left).number() as u32,
+        kind_of(table, right).number() as u32,
+    );
+    match answer {
+        Answer::Type(ty) => Ok(ty),
+        Answer::Whole if left == right => Ok(types::BOOL),
+        Answer::Whole => refused(Code::Equality, left, right),
+        Answer::Refused(code) => refused(code, left, right),
     }
-    if answer > COMPARE {
-        return refused(answer, left, right);
-    }
-    if left == right {
-        return Decision::Type(types::BOOL);
-    }
-    refused(codes::EQUALITY, left, right)
 }
 
 // ---- List and Dict
 
-// The element type after one more element, and whether the List ends with it.
-#[derive(Clone, Copy)]
-pub struct Step {
-    pub stop: bool,
-    pub number: usize,
-}
-
-// "List stops at the first mismatch."
-pub fn list_step(so_far: usize, next: usize) -> Step
-    ensures { ListStep so_far next result.stop result.number }
+// "List stops at the first mismatch": the element type after one more element, or none where the List ends, of Unknown.
+pub fn list_step(so_far: usize, next: usize) -> Option<usize>
+    ensures { ListStep so_far next result }
 {
-    if so_far == types::UNKNOWN {
-        return Step {
-            stop: false,
-            number: next,
-        };
-    }
-    if so_far == next {
-        return Step {
-            stop: false,
-            number: next,
-        };
-    }
-    Step {
-        stop: true,
-        number: types::UNKNOWN,
+    if so_far == types::UNKNOWN || so_far == next {
+        Some(next)
+    } else {
+        None
     }
 }
 
@@ -111,95 +84,67 @@ pub fn list_step(so_far: usize, next: usize) -> Step
 fn joined_of(a: usize, b: usize) -> usize
     ensures { JoinedOf a b result }
 {
-    if a == types::UNKNOWN {
-        return b;
+    if a == types::UNKNOWN || a == b {
+        b
+    } else {
+        types::UNKNOWN
     }
-    if a == b {
-        return b;
-    }
-    types::UNKNOWN
 }
 
-// The key and value types after one more pair, and whether the Dict ends with them.
+// The types of a Dict's keys and values.
 #[derive(Clone, Copy)]
 pub struct Pair {
-    pub stop: bool,
     pub key: usize,
     pub value: usize,
 }
 
-// "Dict stops only when key and value are both Unknown after a pair."
-pub fn dict_step(k: usize, v: usize, a: usize, b: usize) -> Pair
-    ensures { DictStep k v a b result.stop result.key result.value }
+// "Dict stops only when key and value are both Unknown after a pair": the types after one more pair, or none where the
+// Dict ends, of Unknown and Unknown.
+pub fn dict_step(so_far: Pair, next: Pair) -> Option<Pair>
+    ensures { DictStep so_far next result }
 {
-    let key = joined_of(k, a);
-    let value = joined_of(v, b);
-    if key != types::UNKNOWN {
-        return Pair {
-            stop: false,
-            key,
-            value,
-        };
-    }
-    if value != types::UNKNOWN {
-        return Pair {
-            stop: false,
-            key,
-            value,
-        };
-    }
-    Pair {
-        stop: true,
-        key,
-        value,
+    let key = joined_of(so_far.key, next.key);
+    let value = joined_of(so_far.value, next.value);
+    if key != types::UNKNOWN || value != types::UNKNOWN {
+        Some(Pair { key, value })
+    } else {
+        None
     }
 }
 
 // ---- one argument of a builtin
 
 // Type i where the type `wanted` or Unknown is expected: the type `result`, or the code.
-fn expect(wanted: usize, i: usize, code: u32, res: usize) -> Decision
-    ensures { Expected wanted i code res result }
+fn expect(wanted: usize, i: usize, code: Code, res: usize) -> Decision
+    ensures { Expected wanted i (code_number code) res result }
 {
-    if i == wanted {
-        return Decision::Type(res);
+    if i == wanted || i == types::UNKNOWN {
+        Ok(res)
+    } else {
+        refused(code, i, 0)
     }
-    if i == types::UNKNOWN {
-        return Decision::Type(res);
-    }
-    refused(code, i, 0)
 }
 
 // The one argument of `input`.
 pub fn prompt(a: usize) -> Decision
     ensures { OfNumber prompt_rule a result }
 {
-    expect(types::STRING, a, codes::INPUT, types::STRING)
+    expect(types::STRING, a, Code::Input, types::STRING)
 }
 
 // An argument of `range`.
 pub fn bound(a: usize) -> Decision
     ensures { OfNumber bound_rule a result }
 {
-    expect(types::INT, a, codes::RANGE, types::INT)
+    expect(types::INT, a, Code::Range, types::INT)
 }
 
 // The first argument of `map` (code 42) or `filter` (code 44).
-pub fn callable(a: usize, code: u32) -> Decision
-    requires { types_named code ≡ 1 }
-    ensures { OfNumber (callable_rule code) a result }
+pub fn callable(a: usize, code: Code) -> Decision
+    requires { types_named (code_number code) ≡ 1 }
+    ensures { OfNumber (callable_rule (code_number code)) a result }
 {
     expect(types::FUNCTION, a, code, a)
-}
-
-// Unknown, String, List, Dict, Tuple.
-fn has_length(kind: usize) -> bool
-    ensures { result ≡ is_in kind (0 ∷ 3 ∷ 8 ∷ 9 ∷ 10 ∷ []) }
-{
-    match kind {
-        types::UNKNOWN | types::STRING | types::LIST | types::DICT | types::TUPLE => true,
-        _ => false,
-    }
 }
 
 // The first argument of `len`.
@@ -207,11 +152,10 @@ pub fn len(table: &[u16], a: usize) -> Decision
     requires { a < capacity table.now }
     ensures { OfOne table.now sized_rule a result }
 {
-    let kind = kind_of(table, a);
-    if has_length(kind) {
-        return Decision::Type(types::INT);
+    match kind_of(table, a) {
+        Kind::Unknown | Kind::String | Kind::List | Kind::Dict | Kind::Tuple => Ok(types::INT),
+        _ => refused(Code::Len, a, 0),
     }
-    refused(codes::LEN, a, 0)
 }
 
 // ---- Index
@@ -220,62 +164,53 @@ pub fn len(table: &[u16], a: usize) -> Decision
 fn key(wanted: usize, i: usize, value: usize) -> Decision
     ensures { Keyed wanted i value result }
 {
-    if i == wanted {
-        return Decision::Type(value);
+    if i == wanted || i == types::UNKNOWN || wanted == types::UNKNOWN {
+        Ok(value)
+    } else {
+        refused(Code::DictKey, wanted, i)
     }
-    if i == types::UNKNOWN {
-        return Decision::Type(value);
-    }
-    if wanted == types::UNKNOWN {
-        return Decision::Type(value);
-    }
-    refused(codes::DICT_KEY, wanted, i)
 }
 
 pub fn index(table: &[u16], object: usize, index: usize) -> Decision
     requires { Known table.now object }
     ensures { Indexed table.now object index result }
 {
-    let kind = kind_of(table, object);
-    match kind {
-        types::UNKNOWN => Decision::Type(types::UNKNOWN),
-        types::STRING => expect(types::INT, index, codes::STRING_INDEX, types::STRING),
-        types::LIST => expect(types::INT, index, codes::LIST_INDEX, part_of(table, object)),
-        types::DICT => key(part_of(table, object), index, second_of(table, object)),
-        types::TUPLE => expect(
+    match kind_of(table, object) {
+        Kind::Unknown => Ok(types::UNKNOWN),
+        Kind::String => expect(types::INT, index, Code::StringIndex, types::STRING),
+        Kind::List => expect(types::INT, index, Code::ListIndex, part_of(table, object)),
+        Kind::Dict => key(part_of(table, object), index, second_of(table, object)),
+        Kind::Tuple => expect(
             types::INT,
             index,
-            codes::TUPLE_INDEX,
+            Code::TupleIndex,
             common_of(table, object),
         ),
-        _ => refused(codes::NOT_SUBSCRIPTABLE, object, 0),
+        _ => refused(Code::NotSubscriptable, object, 0),
     }
 }
 
 // ---- the second argument of map and filter
 
 // What a walk over a value of type i gives: "map refuses Dict and Tuple", and filter does as map.
-fn streamed_of(table: &[u16], i: usize) -> Perhaps
+fn streamed_of(table: &[u16], i: usize) -> Option<usize>
     requires { IsNumber table.now i }
-    ensures { StreamedOf table.now i result.there result.number }
+    ensures { StreamedOf table.now i result }
 {
-    let kind = kind_of(table, i);
-    match kind {
-        types::DICT | types::TUPLE => Perhaps {
-            there: false,
-            number: 0,
-        },
+    match kind_of(table, i) {
+        Kind::Dict | Kind::Tuple => None,
         _ => element_of(table, i),
     }
 }
 
-fn second_code(filters: bool) -> u32
-    ensures { result ≡ second_code filters }
+fn second_code(filters: bool) -> Code
+    ensures { code_number result ≡ second_code filters }
 {
     if filters {
-        return codes::FILTER_SECOND;
+        Code::FilterSecond
+    } else {
+        Code::MapSecond
     }
-    codes::MAP_SECOND
 }
 
 // The FilterIter of an element type, or the MapIter of Unknown.
@@ -288,15 +223,10 @@ fn iterator(table: &mut [u16], counts: Counts, filters: bool, element: usize) ->
         0 }
 {
     if filters {
-        return form(table, counts, types::FILTER_ITER, element, types::NO_PART);
+        form(table, counts, Kind::FilterIter, element, types::NO_PART)
+    } else {
+        form(table, counts, Kind::MapIter, types::UNKNOWN, types::NO_PART)
     }
-    form(
-        table,
-        counts,
-        types::MAP_ITER,
-        types::UNKNOWN,
-        types::NO_PART,
-    )
 }
 
 // A decision, and the counts of the table that has its type.
@@ -314,17 +244,15 @@ pub fn stream(table: &mut [u16], counts: Counts, filters: bool, b: usize) -> Str
         b
         result.decision }
 {
-    let element = streamed_of(table, b);
-    if element.there {
-        let formed = iterator(table, counts, filters, element.number);
-        let after = formed.counts;
+    let Some(element) = streamed_of(table, b) else {
         return Streamed {
-            decision: Decision::Type(formed.number),
-            counts: after,
+            decision: refused(second_code(filters), b, 0),
+            counts,
         };
-    }
+    };
+    let formed = iterator(table, counts, filters, element);
     Streamed {
-        decision: refused(second_code(filters), b, 0),
-        counts,
+        decision: Ok(formed.number),
+        counts: formed.counts,
     }
 }

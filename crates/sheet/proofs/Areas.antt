@@ -1,14 +1,14 @@
 -- Each area of the sheet: what a turn of its loop writes, and that what is left to write makes the whole.
 use mathlib.Core.Path.{◌≡◌, refl, sym, ap, ◌∙◌, subst}
 use mathlib.Core.List.{List, [], ◌∷◌, ◌++◌, map, map-append, Memᴰ}
-use Prim.Native.Nat.{ℕ, zero, suc, ◌+◌, ◌-◌, ◌*◌, ◌≤◌, ◌<◌}
+use Prim.Native.Nat.{ℕ, zero, suc, ◌+◌, ◌*◌, ◌≤◌, ◌<◌}
 use native.Mathlib.Numerals.{add-one}
 use native.Mathlib.Omega.{arith}
 use native.Mathlib.Decide.{dec_lt, ℕ_discrete}
 use borrow.Author.Tests.{eq-eqb, ne_eqb}
 use lib.ListN.{length, get_or, take, drop, drop_of_length-le, length-append, length-drop, length-map, get_or-map}
 use lib.Seq.{drop-cons, length-take-le}
-use Rattle.meaning.specs.Limits.{longest_name, most_text}
+use Rattle.meaning.specs.Limits.{longest_name}
 use Rattle.meaning.specs.Base.{test◌then◌else◌, words}
 use Rattle.meaning.specs.Types.{Ty, unknown, kind, parts, part}
 use Rattle.meaning.specs.Sheet.{Triple, laid, number, elements_in, elements_of, type_record, type_records}
@@ -16,16 +16,23 @@ use Rattle.meaning.proofs.SheetWords.{words_length, laid_length}
 use Rattle.meaning.proofs.SheetTypes.{Known, number_plain, number_le}
 use Rattle.words.specs.Words.{put_at}
 use Rattle.words.proofs.Laws.{put_nil, put_put, put_length, words_append}
+use Rattle.types.specs.declared.Kind.{Kind}
+use Rattle.types.specs.declared.Kind.TheVariants as the_kind
+use Rattle.types.specs.Kinds.{kind_number}
 use Rattle.types.specs.Table.{Tab, most_numbers, capacity, denote}
 use Rattle.types.specs.Reading.{KindOf, PartOf, PartsOf, HasPart, PartAt}
+use Rattle.types.proofs.OfKind.{same_kind}
 use Rattle.types.proofs.Parts.{kind_most, parts_few}
 use Rattle.types.proofs.Readers.{in_room, has_part}
+use Rattle.sheet.specs.declared.writer.Marks.{Marks}
+use Rattle.sheet.specs.declared.list.ListedName.{ListedName}
 use Rattle.sheet.specs.Listing.{start_at, length_at, type_at}
-use Rattle.sheet.specs.Marks.{most_written, order_from, count_in, tab_of, types_in, Marked}
+use Rattle.sheet.specs.Counting.{most_written}
+use Rattle.sheet.specs.Marks.{type_met, tab_of, types_in, Marked}
 use Rattle.sheet.specs.Writing.{listed_size, listed_records, listed_texts, ElementsIn, NumberOf, Put, Met, record_bytes, element_bytes, types_bytes, elements_bytes, names_bytes, Named, NamesFit, NamesPut, TextsFit}
 use Rattle.sheet.proofs.Meeting.{parts_stand}
 use Rattle.sheet.proofs.Marking.{types_length, type_at_lem}
-use Rattle.sheet.proofs.Names.{size_step, records_step, texts_step, none_left, all_left}
+use Rattle.sheet.proofs.Names.{size_step, records_step, texts_step, none_left}
 use Rattle.sheet.proofs.Sizes.{elements_tuple, elements_none, elements_step}
 
 -- ---- writes
@@ -65,7 +72,7 @@ part_known us ty j k h = elim (dec_lt j (length (parts ty))) [
   | no a ↦ absurd (omega (arith, ap kind (beyond (parts ty) j (omega arith))))
 ]
 
-module _ {cs ms : List ℕ} {i : ℕ} (m : Met cs ms i) where
+module _ {cs : List ℕ} {ms : Marks} {i : ℕ} (m : Met cs ms i) where
   abbrev tt₀ : Tab
   tt₀ = tab_of cs ms
 
@@ -89,11 +96,11 @@ module _ {cs ms : List ℕ} {i : ℕ} (m : Met cs ms i) where
 
   -- ---- its record
 
-  pub record_tuple : {k q : ℕ} (from : ℕ) → KindOf cs i k → k ≡ 10 → PartsOf cs i q → record_bytes tt₀ ms from i ≡ words (10 ∷ from ∷ q ∷ [])
+  pub record_tuple : {k : Kind} {q : ℕ} (from : ℕ) → KindOf cs i k → k ≡ the_kind.Tuple → PartsOf cs i q → record_bytes tt₀ ms from i ≡ words (kind_number k ∷ from ∷ q ∷ [])
   unfolding type_record test◌then◌else◌ laid
   record_tuple from told h many =
-      let e : kind (denote tt₀ i) ≡ 10 = sym (told.says tt₀ refl m.marked.wf m.below) ∙ h in
-      rw (eq-eqb _ _ e, many.says tt₀ refl m.marked.wf m.below)
+      let e : kind (denote tt₀ i) ≡ 10 = sym (told.says tt₀ refl m.marked.wf m.below) ∙ ap kind_number h in
+      rw (h, eq-eqb _ _ e, many.says tt₀ refl m.marked.wf m.below)
 
   plain_zero : number (types_in tt₀ ms) unknown ≡ 0
   unfolding kind
@@ -105,27 +112,27 @@ module _ {cs ms : List ℕ} {i : ℕ} (m : Met cs ms i) where
       ap (get_or (map (number (types_in tt₀ ms)) (parts (denote tt₀ i))) j) (sym plain_zero)
       ∙ get_or-map (number (types_in tt₀ ms)) (parts (denote tt₀ i)) j unknown
 
-  module _ {k : ℕ} (told : KindOf cs i k) where
-    own_kind : k ≡ kind (denote tt₀ i)
+  module _ {k : Kind} (told : KindOf cs i k) where
+    own_kind : kind_number k ≡ kind (denote tt₀ i)
     own_kind = told.says tt₀ refl m.marked.wf m.below
 
-    pub kind_small : k < 4294967296
+    pub kind_small : kind_number k < 4294967296
     kind_small = omega (arith, own_kind, kind_most m.marked.wf i m.below)
 
-    module _ (n : k ≡ 10 → ⊥) where
+    module _ (n : k ≡ the_kind.Tuple → ⊥) where
       not_tuple : kind (denote tt₀ i) ≡ 10 → ⊥
-      not_tuple z = n (own_kind ∙ z)
+      not_tuple z = n (same_kind k the_kind.Tuple (own_kind ∙ z))
 
       pub record_other : {r s p q : ℕ} (from : ℕ) → PartOf cs 0 i r → NumberOf ms r p → PartOf cs 1 i s → NumberOf ms s q
-          → record_bytes tt₀ ms from i ≡ words (k ∷ p ∷ q ∷ [])
+          → record_bytes tt₀ ms from i ≡ words (kind_number k ∷ p ∷ q ∷ [])
       unfolding type_record test◌then◌else◌ laid
       record_other from a x b y =
           let ma = a.says tt₀ refl m.marked.wf m.below not_tuple in
           let mb = b.says tt₀ refl m.marked.wf m.below not_tuple in
           rw (ne_eqb _ _ not_tuple, piece 0, piece 1, own_kind, part_number 0 ma.below ma.means x, part_number 1 mb.below mb.means y)
 
-      pub part_small : {r s : ℕ} → PartOf cs s i r → r < most_numbers
-      part_small a = omega (arith, (a.says tt₀ refl m.marked.wf m.below not_tuple).below, m.marked.wf.room, m.marked.wf.most)
+      pub part_small : {r s : ℕ} → PartOf cs s i r → r < length ms.numbers.now
+      part_small a = omega (arith, (a.says tt₀ refl m.marked.wf m.below not_tuple).below, m.marked.wf.room, m.marked.wf.most, m.marked.numbers_long)
 
   pub count_small : {q : ℕ} → PartsOf cs i q → q < 4294967296
   count_small p = omega (arith, p.says tt₀ refl m.marked.wf m.below, parts_few m.marked.wf i m.below)
@@ -142,20 +149,20 @@ laid_cons : (x : Triple) (xs : List Triple) → words (laid (x ∷ xs)) ≡ word
 unfolding words laid
 laid_cons x xs = refl
 
-pub record TypesLoop (t : Tab) (ms old : List ℕ) (n k from : ℕ) (out : List ℕ) : Type 0 where
+pub record TypesLoop (t : Tab) (ms : Marks) (old : List ℕ) (n k from : ℕ) (out : List ℕ) : Type 0 where
   pub marked : Marked t ms
-  pub many : n ≡ count_in ms
+  pub many : n ≡ ms.met
   pub passed : k ≤ n
   pub small : from ≤ most_numbers * k
   pub room : 40 + 12 * n ≤ length old
   pub long : length out ≡ length old
   pub left : put_at out (40 + 12 * k) (words (laid (type_records (types_in t ms) from (drop k (types_in t ms))))) ≡ put_at old 40 (types_bytes t ms)
 
-pub types_first : {t : Tab} {ms out : List ℕ} {n : ℕ} → Marked t ms → 40 + 12 * count_in ms ≤ length out → n ≡ count_in ms → TypesLoop t ms out n 0 0 out
+pub types_first : {t : Tab} {ms : Marks} {out : List ℕ} {n : ℕ} → Marked t ms → 40 + 12 * ms.met ≤ length out → n ≡ ms.met → TypesLoop t ms out n 0 0 out
 types_first m h e = record { marked = m; many = e; passed = omega arith; small = omega arith; room = omega arith; long = refl; left = refl }
 
 -- the type at place k of the sheet
-module _ {cs ms : List ℕ} {k i : ℕ} (m : Marked (tab_of cs ms) ms) (h : k < count_in ms) (e : i ≡ get_or ms (order_from + k) 0) where
+module _ {cs : List ℕ} {ms : Marks} {k i : ℕ} (m : Marked (tab_of cs ms) ms) (h : k < ms.met) (e : i ≡ type_met ms k) where
   pub met_at : Met cs ms i
   met_at = record {
     marked = m;
@@ -169,14 +176,14 @@ module _ {cs ms : List ℕ} {k i : ℕ} (m : Marked (tab_of cs ms) ms) (h : k < 
       let inside : k < length (types_in (tab_of cs ms) ms) = omega (arith, types_length m) in
       rw (drop-cons (types_in (tab_of cs ms) ms) k unknown inside, type_at_lem m k h, add-one k, e)
 
-module _ {cs ms old : List ℕ} {n k from : ℕ} {out : List ℕ} (l : TypesLoop (tab_of cs ms) ms old n k from out) where
-  pub types_met : {i : ℕ} → k < n → i ≡ get_or ms (order_from + k) 0 → Met cs ms i
+module _ {cs : List ℕ} {ms : Marks} {old : List ℕ} {n k from : ℕ} {out : List ℕ} (l : TypesLoop (tab_of cs ms) ms old n k from out) where
+  pub types_met : {i : ℕ} → k < n → i ≡ type_met ms k → Met cs ms i
   types_met h e = met_at l.marked (omega (arith, l.many)) e
 
   pub types_room : k < n → (from ≤ most_written) × (40 + 12 * k + 12 ≤ length out)
   types_room h = (omega (arith, l.small, l.many, l.marked.few), omega (arith, l.room, l.long))
 
-  pub types_next : {i r : ℕ} {new : List ℕ} → k < n → i ≡ get_or ms (order_from + k) 0 → Put out new (40 + 12 * k) (record_bytes (tab_of cs ms) ms from i) → ElementsIn cs i r
+  pub types_next : {i r : ℕ} {new : List ℕ} → k < n → i ≡ type_met ms k → Put out new (40 + 12 * k) (record_bytes (tab_of cs ms) ms from i) → ElementsIn cs i r
       → TypesLoop (tab_of cs ms) ms old n (k + 1) (from + r) new
   unfolding type_records
   types_next {i} {r} {new} h e p s =
@@ -198,7 +205,7 @@ module _ {cs ms old : List ℕ} {n k from : ℕ} {out : List ℕ} (l : TypesLoop
         left = left_next rest (omega (arith, (types_room h).1)) p place ∙ ap (put_at out (40 + 12 * k)) (sym split) ∙ l.left;
       }
 
-  pub types_sum : {i r : ℕ} → k < n → i ≡ get_or ms (order_from + k) 0 → ElementsIn cs i r → from + r ≤ 4212744
+  pub types_sum : {i r : ℕ} → k < n → i ≡ type_met ms k → ElementsIn cs i r → from + r ≤ 4212744
   types_sum h e s = omega (arith, (types_room h).0, s.small (tab_of cs ms) refl l.marked.wf (types_met h e).below)
 
   pub types_end : (k < n → ⊥) → Put old out 40 (types_bytes (tab_of cs ms) ms)
@@ -212,7 +219,7 @@ module _ {cs ms old : List ℕ} {n k from : ℕ} {out : List ℕ} (l : TypesLoop
 
 -- ---- the elements of one type
 
-pub record PartsLoop (cs ms : List ℕ) (i : ℕ) (old : List ℕ) (at n j : ℕ) (out : List ℕ) : Type 0 where
+pub record PartsLoop (cs : List ℕ) (ms : Marks) (i : ℕ) (old : List ℕ) (at n j : ℕ) (out : List ℕ) : Type 0 where
   pub met : Met cs ms i
   pub many : n ≡ length (elements_in (denote (tab_of cs ms) i))
   pub passed : j ≤ n
@@ -220,13 +227,13 @@ pub record PartsLoop (cs ms : List ℕ) (i : ℕ) (old : List ℕ) (at n j : ℕ
   pub long : length out ≡ length old
   pub left : put_at out (at + 4 * j) (words (map (number (types_in (tab_of cs ms) ms)) (drop j (elements_in (denote (tab_of cs ms) i))))) ≡ put_at old at (element_bytes (tab_of cs ms) ms i)
 
-pub parts_first : {cs ms : List ℕ} {i : ℕ} {out : List ℕ} {at n : ℕ} → Met cs ms i → at + 4 * length (elements_in (denote (tab_of cs ms) i)) ≤ length out → ElementsIn cs i n → PartsLoop cs ms i out at n 0 out
+pub parts_first : {cs : List ℕ} {ms : Marks} {i : ℕ} {out : List ℕ} {at n : ℕ} → Met cs ms i → at + 4 * length (elements_in (denote (tab_of cs ms) i)) ≤ length out → ElementsIn cs i n → PartsLoop cs ms i out at n 0 out
 parts_first {cs} {ms} {at = at} m h s =
     let e = s.says (tab_of cs ms) refl m.marked.wf m.below in
     let z : at + 4 * 0 ≡ at = omega arith in
     record { met = m; many = e; passed = omega arith; room = omega arith; long = refl; left = rw z }
 
-module _ {cs ms : List ℕ} {i : ℕ} {old : List ℕ} {at n j : ℕ} {out : List ℕ} (l : PartsLoop cs ms i old at n j out) where
+module _ {cs : List ℕ} {ms : Marks} {i : ℕ} {old : List ℕ} {at n j : ℕ} {out : List ℕ} (l : PartsLoop cs ms i old at n j out) where
   abbrev t₁ : Tab
   t₁ = tab_of cs ms
 
@@ -242,8 +249,8 @@ module _ {cs ms : List ℕ} {i : ℕ} {old : List ℕ} {at n j : ℕ} {out : Lis
   pub parts_place : j < n → HasPart cs i j
   parts_place h = has_part l.met.marked.wf i l.met.below (within_parts h)
 
-  pub parts_small : {r : ℕ} → j < n → PartAt cs i j r → r < most_numbers
-  parts_small h p = omega (arith, p.lower t₁ refl l.met.marked.wf l.met.below (within_parts h), met_small l.met)
+  pub parts_small : {r : ℕ} → j < n → PartAt cs i j r → r < length ms.numbers.now
+  parts_small h p = omega (arith, p.lower t₁ refl l.met.marked.wf l.met.below (within_parts h), met_small l.met, l.met.marked.numbers_long)
 
   pub parts_room : j < n → at + 4 * j + 4 ≤ length out
   parts_room h = omega (arith, l.room, l.long)
@@ -281,30 +288,30 @@ module _ {cs ms : List ℕ} {i : ℕ} {old : List ℕ} {at n j : ℕ} {out : Lis
 
 -- ---- the elements of all types
 
-pub record ElementsLoop (t : Tab) (ms old : List ℕ) (from n k at : ℕ) (out : List ℕ) : Type 0 where
+pub record ElementsLoop (t : Tab) (ms : Marks) (old : List ℕ) (from n k at : ℕ) (out : List ℕ) : Type 0 where
   pub marked : Marked t ms
-  pub many : n ≡ count_in ms
+  pub many : n ≡ ms.met
   pub passed : k ≤ n
   pub room : at + 4 * length (elements_of (drop k (types_in t ms))) ≤ length old
   pub long : length out ≡ length old
   pub left : put_at out at (words (map (number (types_in t ms)) (elements_of (drop k (types_in t ms))))) ≡ put_at old from (elements_bytes t ms)
 
-pub elements_first : {t : Tab} {ms out : List ℕ} {from n : ℕ} → Marked t ms → from + 4 * length (elements_of (types_in t ms)) ≤ length out → n ≡ count_in ms → ElementsLoop t ms out from n 0 from out
+pub elements_first : {t : Tab} {ms : Marks} {out : List ℕ} {from n : ℕ} → Marked t ms → from + 4 * length (elements_of (types_in t ms)) ≤ length out → n ≡ ms.met → ElementsLoop t ms out from n 0 from out
 elements_first m h e = record { marked = m; many = e; passed = omega arith; room = h; long = refl; left = refl }
 
-module _ {cs ms old : List ℕ} {from n k at : ℕ} {out : List ℕ} (l : ElementsLoop (tab_of cs ms) ms old from n k at out) where
-  pub elements_met : {i : ℕ} → k < n → i ≡ get_or ms (order_from + k) 0 → Met cs ms i
+module _ {cs : List ℕ} {ms : Marks} {old : List ℕ} {from n k at : ℕ} {out : List ℕ} (l : ElementsLoop (tab_of cs ms) ms old from n k at out) where
+  pub elements_met : {i : ℕ} → k < n → i ≡ type_met ms k → Met cs ms i
   elements_met h e = met_at l.marked (omega (arith, l.many)) e
 
-  elements_split : {i : ℕ} → k < n → i ≡ get_or ms (order_from + k) 0 → elements_of (drop k (types_in (tab_of cs ms) ms)) ≡ elements_in (denote (tab_of cs ms) i) ++ elements_of (drop (k + 1) (types_in (tab_of cs ms) ms))
+  elements_split : {i : ℕ} → k < n → i ≡ type_met ms k → elements_of (drop k (types_in (tab_of cs ms) ms)) ≡ elements_in (denote (tab_of cs ms) i) ++ elements_of (drop (k + 1) (types_in (tab_of cs ms) ms))
   elements_split h e = rw e (elements_step l.marked k (omega (arith, l.many)))
 
-  pub elements_room : {i : ℕ} → k < n → i ≡ get_or ms (order_from + k) 0 → at + 4 * length (elements_in (denote (tab_of cs ms) i)) ≤ length out
+  pub elements_room : {i : ℕ} → k < n → i ≡ type_met ms k → at + 4 * length (elements_in (denote (tab_of cs ms) i)) ≤ length out
   elements_room {i} h e =
       let t = tab_of cs ms in
       omega (arith, l.room, l.long, ap length (elements_split h e), length-append (elements_in (denote t i)) (elements_of (drop (k + 1) (types_in t ms))))
 
-  pub elements_next : {i r : ℕ} {new : List ℕ} → k < n → i ≡ get_or ms (order_from + k) 0 → Put out new at (element_bytes (tab_of cs ms) ms i) → r ≡ at + 4 * length (elements_in (denote (tab_of cs ms) i))
+  pub elements_next : {i r : ℕ} {new : List ℕ} → k < n → i ≡ type_met ms k → Put out new at (element_bytes (tab_of cs ms) ms i) → r ≡ at + 4 * length (elements_in (denote (tab_of cs ms) i))
       → ElementsLoop (tab_of cs ms) ms old from n (k + 1) r new
   elements_next {i} {r} {new} h e p er =
       let t = tab_of cs ms in
@@ -335,96 +342,77 @@ module _ {cs ms old : List ℕ} {from n k at : ℕ} {out : List ℕ} (l : Elemen
 
 -- ---- the name records
 
-pub record NamesLoop (ms cells : List ℕ) (n : ℕ) (old : List ℕ) (at k from : ℕ) (out : List ℕ) : Type 0 where
-  pub fit : NamesFit cells n old at
-  pub passed : k ≤ n
+pub record NamesLoop (ms : Marks) (ns : List ListedName) (old : List ℕ) (at k from : ℕ) (out : List ℕ) : Type 0 where
+  pub fit : NamesFit ms ns old at
   pub small : from ≤ longest_name * k
   pub long : length out ≡ length old
-  pub left : (t : Tab) → Named t ms cells n → put_at out (at + 12 * k) (words (laid (listed_records (types_in t ms) t cells from k (n - k)))) ≡ put_at old at (names_bytes t ms cells n)
+  pub left : (t : Tab) → Named t ms ns → put_at out (at + 12 * k) (words (laid (listed_records (types_in t ms) t (drop k ns) from))) ≡ put_at old at (names_bytes t ms ns)
 
-pub names_first : {ms cells : List ℕ} {n : ℕ} {out : List ℕ} {at : ℕ} → NamesFit cells n out at → NamesLoop ms cells n out at 0 0 out
-names_first {n = n} {at = at} f =
+pub names_first : {ms : Marks} {ns : List ListedName} {out : List ℕ} {at : ℕ} → NamesFit ms ns out at → NamesLoop ms ns out at 0 0 out
+names_first {at = at} f =
     let z : at + 12 * 0 ≡ at = omega arith in
-    record { fit = f; passed = omega arith; small = omega arith; long = refl; left = λ t m. rw (z, all_left n) }
+    record { fit = f; small = omega arith; long = refl; left = λ t m. rw z }
 
-module _ {ms cells : List ℕ} {n : ℕ} {old : List ℕ} {at k from : ℕ} {out : List ℕ} (l : NamesLoop ms cells n old at k from out) where
-  pub names_room : k < n → at + 12 * k + 12 ≤ length out
-  names_room h = omega (arith, l.fit.room, l.long)
+module _ {ms : Marks} {ns : List ListedName} {old : List ℕ} {at k from : ℕ} {out : List ℕ} (l : NamesLoop ms ns old at k from out) (h : k < length ns) where
+  pub names_room : at + 12 * k + 12 ≤ length out
+  names_room = omega (arith, l.fit.room, l.long)
 
-  pub names_small : {len w : ℕ} → k < n → len ≡ length_at cells k → w < 4294967296 → (from < 4294967296) × (len < 4294967296) × (w < 4294967296)
-  names_small h e b = (omega (arith, l.small, l.fit.short.few), omega (arith, l.fit.short.short k h), b)
-
-  pub names_known : {r : ℕ} → k < n → r ≡ type_at cells k → r < most_numbers
-  names_known h e = omega (arith, l.fit.known k h)
-
-  pub names_sum : {len : ℕ} → k < n → len ≡ length_at cells k → from + len ≤ most_text
-  names_sum h e = omega (arith, l.small, l.fit.short.few, l.fit.short.short k h)
-
-  pub names_next : {len r w : ℕ} {new : List ℕ} → k < n → len ≡ length_at cells k → r ≡ type_at cells k → NumberOf ms r w → Put out new (at + 12 * k) (words (from ∷ len ∷ w ∷ []))
-      → NamesLoop ms cells n old at (k + 1) (from + len) new
+  pub names_next : {w : ℕ} {new : List ℕ} → NumberOf ms (type_at ns k) w → Put out new (at + 12 * k) (words (from ∷ length_at ns k ∷ w ∷ []))
+      → NamesLoop ms ns old at (k + 1) (from + length_at ns k) new
   unfolding words laid
-  names_next {len} {r} {w} {new} h el er q p = record {
+  names_next {w} {new} q p = record {
     fit = l.fit;
-    passed = omega arith;
     small = omega (arith, l.small, l.fit.short.short k h);
     long = p.long ∙ l.long;
     left = λ t m.
         let us = types_in t ms in
-        let number_is : w ≡ number us (denote t (type_at cells k)) =
-        q.says t m.marked (omega (arith, m.known k h)) (rw er (m.member k h)) ∙ ap (λ x. number us (denote t x)) er in
-        let rest = words (laid (listed_records us t cells (from + len) (k + 1) (n - (k + 1)))) in
-        let split : words (laid (listed_records us t cells from k (n - k))) ≡ words (from ∷ len ∷ w ∷ []) ++ rest = rw (records_step n k h us t cells from, el, number_is) in
+        let len = length_at ns k in
+        let number_is : w ≡ number us (denote t (type_at ns k)) = q.says t m.marked (m.known k h) (m.member k h) in
+        let rest = words (laid (listed_records us t (drop (k + 1) ns) (from + len))) in
+        let split : words (laid (listed_records us t (drop k ns) from)) ≡ words (from ∷ len ∷ w ∷ []) ++ rest = rw (records_step ns k h us t from, number_is) in
         let place : at + 12 * (k + 1) ≡ at + 12 * k + 12 = omega arith in
-        left_next rest (omega (arith, names_room h)) p place ∙ ap (put_at out (at + 12 * k)) (sym split) ∙ l.left t m;
+        left_next rest (omega (arith, names_room)) p place ∙ ap (put_at out (at + 12 * k)) (sym split) ∙ l.left t m;
   }
 
-  pub names_end : (k < n → ⊥) → NamesPut ms cells n old out at
-  unfolding listed_records laid words
-  names_end h = record {
-    is = λ t m. sym (put_nil out (at + 12 * k)) ∙ ap (λ x. put_at out (at + 12 * k) (words (laid (listed_records (types_in t ms) t cells from k x)))) (sym (none_left n k h)) ∙ l.left t m;
-    long = l.long;
-  }
+pub names_end : {ms : Marks} {ns : List ListedName} {old : List ℕ} {at k from : ℕ} {out : List ℕ} → NamesLoop ms ns old at k from out → (k < length ns → ⊥) → NamesPut ms ns old out at
+unfolding listed_records laid words
+names_end {ms} {ns} {at = at} {k} {from} {out} l h = record {
+  is = λ t m. sym (put_nil out (at + 12 * k)) ∙ ap (λ (rs : List ListedName). put_at out (at + 12 * k) (words (laid (listed_records (types_in t ms) t rs from)))) (sym (none_left ns k h)) ∙ l.left t m;
+  long = l.long;
+}
 
 -- ---- the texts
 
-pub record TextsLoop (source cells : List ℕ) (n : ℕ) (old : List ℕ) (from k at : ℕ) (out : List ℕ) : Type 0 where
-  pub fit : TextsFit source cells n old from
-  pub passed : k ≤ n
-  pub room : at + listed_size cells k (n - k) ≤ length old
+pub record TextsLoop (source : List ℕ) (ns : List ListedName) (old : List ℕ) (from k at : ℕ) (out : List ℕ) : Type 0 where
+  pub fit : TextsFit source ns old from
+  pub room : at + listed_size (drop k ns) ≤ length old
   pub long : length out ≡ length old
-  pub left : put_at out at (listed_texts source cells k (n - k)) ≡ put_at old from (listed_texts source cells 0 n)
+  pub left : put_at out at (listed_texts source (drop k ns)) ≡ put_at old from (listed_texts source ns)
 
-pub texts_first : {source cells : List ℕ} {n : ℕ} {out : List ℕ} {from : ℕ} → TextsFit source cells n out from → TextsLoop source cells n out from 0 from out
-texts_first {n = n} f = record { fit = f; passed = omega arith; room = rw (all_left n) f.room; long = refl; left = rw (all_left n) }
+module _ {source : List ℕ} {ns : List ListedName} {old : List ℕ} {from k at : ℕ} {out : List ℕ} (l : TextsLoop source ns old from k at out) (h : k < length ns) where
+  text_length : length (take (length_at ns k) (drop (start_at ns k) source)) ≡ length_at ns k
+  text_length = length-take-le (length_at ns k) (drop (start_at ns k) source) (omega (arith, length-drop (start_at ns k) source, l.fit.inside k h))
 
-module _ {source cells : List ℕ} {n : ℕ} {old : List ℕ} {from k at : ℕ} {out : List ℕ} (l : TextsLoop source cells n old from k at out) where
-  pub texts_inside : {start len : ℕ} → k < n → start ≡ start_at cells k → len ≡ length_at cells k → start + len ≤ length source
-  texts_inside h es el = omega (arith, l.fit.inside k h)
+  pub texts_room : {s : List ℕ} → s ≡ take (length_at ns k) (drop (start_at ns k) source) → at + length s ≤ length out
+  texts_room e = omega (arith, l.room, l.long, size_step ns k h, ap length e, text_length)
 
-  text_length : {start len : ℕ} → k < n → start ≡ start_at cells k → len ≡ length_at cells k → length (take len (drop start source)) ≡ len
-  text_length {start} {len} h es el = length-take-le len (drop start source) (omega (arith, length-drop start source, texts_inside h es el))
-
-  pub texts_room : {start len : ℕ} {s : List ℕ} → k < n → start ≡ start_at cells k → len ≡ length_at cells k → s ≡ take len (drop start source) → at + length s ≤ length out
-  texts_room h es el e = omega (arith, l.room, l.long, size_step n k h cells, ap length e, text_length h es el)
-
-  pub texts_next : {start len r : ℕ} {s new : List ℕ} → k < n → start ≡ start_at cells k → len ≡ length_at cells k → s ≡ take len (drop start source) → new ≡ put_at out at s → r ≡ at + length s
-      → TextsLoop source cells n old from (k + 1) r new
-  texts_next {start} {len} {r} {s} {new} h es el e en er =
-      let fits = texts_room h es el e in
+  pub texts_next : {r : ℕ} {s new : List ℕ} → s ≡ take (length_at ns k) (drop (start_at ns k) source) → new ≡ put_at out at s → r ≡ at + length s
+      → TextsLoop source ns old from (k + 1) r new
+  texts_next {r} {s} {new} e en er =
+      let fits = texts_room e in
       let p : Put out new at s = record { is = en; long = rw en (put_length out at s fits) } in
-      let rest = listed_texts source cells (k + 1) (n - (k + 1)) in
-      let split : listed_texts source cells k (n - k) ≡ s ++ rest = rw (e, es, el) (texts_step n k h source cells) in
+      let rest = listed_texts source (drop (k + 1) ns) in
+      let split : listed_texts source (drop k ns) ≡ s ++ rest = rw e (texts_step ns k h source) in
       record {
         fit = l.fit;
-        passed = omega arith;
-        room = omega (arith, l.room, size_step n k h cells, ap length e, text_length h es el);
+        room = omega (arith, l.room, size_step ns k h, ap length e, text_length);
         long = p.long ∙ l.long;
         left = left_next rest (omega arith) p er ∙ ap (put_at out at) (sym split) ∙ l.left;
       }
 
-  pub texts_end : (k < n → ⊥) → Put old out from (listed_texts source cells 0 n)
-  unfolding listed_texts
-  texts_end h = record {
-    is = sym (put_nil out at) ∙ ap (λ x. put_at out at (listed_texts source cells k x)) (sym (none_left n k h)) ∙ l.left;
-    long = l.long;
-  }
+pub texts_end : {source : List ℕ} {ns : List ListedName} {old : List ℕ} {from k at : ℕ} {out : List ℕ} → TextsLoop source ns old from k at out → (k < length ns → ⊥) → Put old out from (listed_texts source ns)
+unfolding listed_texts
+texts_end {source} {ns} {k = k} {at} {out} l h = record {
+  is = sym (put_nil out at) ∙ ap (λ (rs : List ListedName). put_at out at (listed_texts source rs)) (sym (none_left ns k h)) ∙ l.left;
+  long = l.long;
+}

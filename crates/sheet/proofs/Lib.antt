@@ -2,7 +2,6 @@
 pub mod Rewriting
 mod Meeting
 mod Marking
-mod Lists
 mod Again
 mod Opening
 mod Visiting

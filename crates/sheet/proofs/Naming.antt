@@ -4,7 +4,7 @@ use mathlib.Core.Bool.{true}
 use mathlib.Core.List.{List, [], ◌∷◌, map}
 use Prim.Native.Nat.{ℕ, zero, suc, ◌+◌, ◌*◌, ◌≤◌, ◌<◌}
 use native.Mathlib.Omega.{arith}
-use native.Mathlib.Decide.{ℕ_discrete}
+use borrow.Author.Count.{below_more}
 use borrow.Author.Tests.{leb-true}
 use lib.ListN.{length, get_or, take, drop, length-append}
 use lib.Seq.{drop-drop}
@@ -18,8 +18,10 @@ use Rattle.meaning.proofs.Choices.{and_left, and_right}
 use Rattle.meaning.proofs.SheetForm.{sheet_is, sheet_size}
 use Rattle.meaning.specs.Limits.{longest_name}
 use Rattle.types.specs.Table.{Tab, denote}
-use Rattle.sheet.specs.Listing.{name_cells, PutName, start_at, length_at, type_at, entry_at, listed_from, listed, Listing}
-use Rattle.sheet.specs.Reading.{names_at, texts_at, words_at, triples_at, Bounds, number_in, TypesRead, NameRead, NameStep, NamesRead, Naming}
+use Rattle.sheet.specs.declared.layout.Areas.{Areas}
+use Rattle.sheet.specs.declared.list.ListedName.{ListedName}
+use Rattle.sheet.specs.Listing.{PutName, start_at, length_at, type_at, entry_at, listed_from, listed, Listing}
+use Rattle.sheet.specs.Reading.{names_at, texts_at, words_at, triples_at, Bounds, number_in, TypesRead, NameRead, NameStep, NamesRead, Headed}
 use Rattle.sheet.specs.Reading.{elements_in as elements_read}
 use Rattle.sheet.proofs.Reading.{sheet_head, number_means, number_below}
 use Rattle.sheet.proofs.Typing.{triple_at, triples_get, areas_of}
@@ -72,86 +74,68 @@ module _ (bs : List ℕ) (h : is_sheet bs ≡ true) where
 
 -- ---- one name
 
-module _ {bs : List ℕ} {k : ℕ} {cells : List ℕ} (n : Naming bs k cells) {T E N s l : ℕ} (e_t : T ≡ word bs 4) (e_e : E ≡ word bs 12) (e_n : N ≡ word bs 20)
-    (es₁ : s ≡ word bs (40 + 12 * T + 4 * E + 12 * k)) (el : l ≡ word bs (40 + 12 * T + 4 * E + 12 * k + 4)) where
-  from_is : 40 + 12 * T + 4 * E ≡ names_at bs
-  from_is = rw (e_t, e_e)
+module _ {bs : List ℕ} {a : Areas} (d : Headed bs a) {k : ℕ} (here : k < a.names) {A s l : ℕ} (e_a : A ≡ 40 + 12 * a.types + 4 * a.elements)
+    (e_s : s ≡ word bs (A + 12 * k)) (el : l ≡ word bs (A + 12 * k + 4)) where
+  from_is : A ≡ names_at bs
+  from_is = rw (e_a, d.types_is, d.elements_is)
 
   start_word : s ≡ word bs (names_at bs + 12 * k)
-  start_word = es₁ ∙ ap (λ x. word bs (x + 12 * k)) from_is
+  start_word = e_s ∙ ap (λ x. word bs (x + 12 * k)) from_is
 
   length_word : l ≡ word bs (names_at bs + 12 * k + 4)
   length_word = el ∙ ap (λ x. word bs (x + 12 * k + 4)) from_is
 
-  here_is : triple (drop (names_at bs + 12 * k) bs) ≡ (s, l, word bs (names_at bs + 12 * k + 8))
-  here_is = triple_at bs (names_at bs + 12 * k) start_word length_word refl
+  named : is_sheet bs ≡ true → (l ≤ longest_name) × (texts_at bs + s + l ≤ length bs)
+  named i = sheet_name bs i k (omega (arith, d.names_is)) (triple_at bs (names_at bs + 12 * k) start_word length_word refl)
 
   pub refuse_long : longest_name < l → is_sheet bs ≡ true → ⊥
-  refuse_long h i = absurd (omega (arith, (sheet_name bs i k n.here here_is).0))
+  refuse_long h i = absurd (omega (arith, (named i).0))
 
-  pub refuse_outside : length bs < 40 + 12 * T + 4 * E + 12 * N + s + l → is_sheet bs ≡ true → ⊥
-  refuse_outside h i = absurd (omega (arith, (sheet_name bs i k n.here here_is).1))
+  module _ {X : ℕ} (e_x : X ≡ 40 + 12 * a.types + 4 * a.elements + 12 * a.names) where
+    texts_is : X ≡ texts_at bs
+    texts_is = rw (e_x, d.types_is, d.elements_is, d.names_is)
 
-  pub name_step : {w ty : ℕ} {xs new : List ℕ} → w ≡ word bs (40 + 12 * T + 4 * E + 12 * k + 8) → ty ≡ number_in (take T xs) w → l ≤ longest_name
-      → 40 + 12 * T + 4 * E + 12 * N + s + l ≤ length bs → PutName cells new k (40 + 12 * T + 4 * E + 12 * N + s) l ty → NameStep bs xs cells new k
-  name_step {w} {ty} {xs} {new} ew ety short inside p =
-      let texts : 40 + 12 * T + 4 * E + 12 * N ≡ texts_at bs = rw (e_t, e_e, e_n) in
-      record {
-        name = record {
-          start_is = p.start_is ∙ ap (λ x. x + s) texts ∙ ap (λ x. texts_at bs + x) start_word;
-          length_is = p.length_is ∙ length_word;
-          type_is = p.type_is ∙ ety ∙ ap (number_in (take T xs)) (ew ∙ ap (λ x. word bs (x + 12 * k + 8)) from_is) ∙ ap (λ x. number_in (take x xs) (word bs (names_at bs + 12 * k + 8))) e_t;
-          short = omega (arith, p.length_is);
-          inside = omega (arith, p.start_is, p.length_is);
-        };
-        size = p.long ∙ n.size;
-        before = p.before;
-      }
+    pub refuse_outside : length bs < X + s + l → is_sheet bs ≡ true → ⊥
+    refuse_outside h i = absurd (omega (arith, (named i).1, texts_is))
+
+    pub name_step : {w ty : ℕ} {xs : List ℕ} {cells new : List ListedName} → w ≡ word bs (A + 12 * k + 8) → ty ≡ number_in xs w → l ≤ longest_name
+        → X + s + l ≤ length bs → PutName cells new k (X + s) l ty → NameStep bs xs cells new k
+    name_step {w} {ty} {xs} ew ety short inside p = record {
+      name = record {
+        start_is = p.start_is ∙ ap (λ x. x + s) texts_is ∙ ap (λ x. texts_at bs + x) start_word;
+        length_is = p.length_is ∙ length_word;
+        type_is = p.type_is ∙ ety ∙ ap (number_in xs) (ew ∙ ap (λ x. word bs (x + 12 * k + 8)) from_is);
+        short = omega (arith, p.length_is);
+        inside = omega (arith, p.start_is, p.length_is);
+      };
+      before = p.before;
+    }
 
 -- ---- all names
 
-pub record NamesLoop (bs xs : List ℕ) (n k : ℕ) (cells : List ℕ) : Type 0 where
-  pub bounds : Bounds bs
-  pub many : n ≡ word bs 20
-  pub passed : k ≤ n
-  pub read : NamesRead bs (take (word bs 4) xs) cells k
+pub names_first : {bs xs : List ℕ} {cells : List ListedName} → NamesRead bs xs cells 0
+names_first = record { each = λ k h. absurd (omega arith) }
 
-pub names_first : {bs xs cells : List ℕ} {n : ℕ} → Bounds bs → length cells ≡ name_cells → n ≡ word bs 20 → NamesLoop bs xs n 0 cells
-names_first b s e = record { bounds = b; many = e; passed = omega arith; read = record { size = s; each = λ k h. absurd (omega arith) } }
+pub names_next : {bs xs : List ℕ} {cells new : List ListedName} {k : ℕ} → NamesRead bs xs cells k → NameStep bs xs cells new k → NamesRead bs xs new (k + 1)
+names_next {bs} {xs} {cells} {new} {k} r s = record {
+  each = below_more (NameRead bs xs new) k (λ j b. kept j b (r.each j b)) s.name;
+}
+  where
+    kept : (j : ℕ) → j < k → NameRead bs xs cells j → NameRead bs xs new j
+    kept j b q = record {
+      start_is = (s.before j b).start ∙ q.start_is;
+      length_is = (s.before j b).size ∙ q.length_is;
+      type_is = (s.before j b).type ∙ q.type_is;
+      short = omega (arith, (s.before j b).size, q.short);
+      inside = omega (arith, (s.before j b).start, (s.before j b).size, q.inside);
+    }
 
-module _ {bs xs : List ℕ} {n k : ℕ} {cells : List ℕ} (l : NamesLoop bs xs n k cells) where
-  pub names_naming : k < n → Naming bs k cells
-  names_naming h = record { bounds = l.bounds; here = omega (arith, l.many); size = l.read.size }
-
-  pub names_next : {new : List ℕ} → k < n → NameStep bs xs cells new k → NamesLoop bs xs n (k + 1) new
-  names_next {new} h s = record {
-    bounds = l.bounds;
-    many = l.many;
-    passed = omega arith;
-    read = record {
-      size = s.size;
-      each = λ j b. elim (ℕ_discrete j k) [
-        | yes e ↦ subst (NameRead bs (take (word bs 4) xs) new) (sym e) s.name
-        | no e ↦ kept j (omega arith) (l.read.each j (omega arith))
-      ];
-    };
-  }
-    where
-      kept : (j : ℕ) → j < k → NameRead bs (take (word bs 4) xs) cells j → NameRead bs (take (word bs 4) xs) new j
-      kept j b r = record {
-        start_is = (s.before j b).start ∙ r.start_is;
-        length_is = (s.before j b).size ∙ r.length_is;
-        type_is = (s.before j b).type ∙ r.type_is;
-        short = omega (arith, (s.before j b).size, r.short);
-        inside = omega (arith, (s.before j b).start, (s.before j b).size, r.inside);
-      }
-
-  pub names_end : (k < n → ⊥) → NamesRead bs (take (word bs 4) xs) cells (word bs 20)
-  names_end h = subst (NamesRead bs (take (word bs 4) xs) cells) (omega (arith, l.many, l.passed)) l.read
+pub names_end : {bs xs : List ℕ} {cells : List ListedName} {k n : ℕ} → NamesRead bs xs cells k → k ≤ n → (k < n → ⊥) → NamesRead bs xs cells n
+names_end {bs} {xs} {cells} r p h = subst (NamesRead bs xs cells) (omega arith) r
 
 -- ---- they are the entries of the byte string
 
-module _ {bs xs cells : List ℕ} {t : Tab} (ty : TypesRead bs xs t) (nr : NamesRead bs (take (word bs 4) xs) cells (word bs 20)) where
+module _ {bs xs : List ℕ} {cells : List ListedName} {t : Tab} (ty : TypesRead bs xs t) (nr : NamesRead bs xs cells (word bs 20)) where
   abbrev vs : List Ty
   vs = types_from (elements_read bs) [] (triples_at bs 40 (word bs 4))
 

@@ -17,21 +17,23 @@ use Rattle.meaning.proofs.SheetTypes.{Known, Ordered}
 use Rattle.types.specs.Table.{Tab, most_numbers, denote}
 use Rattle.types.specs.Reading.{PartAt}
 use Rattle.types.proofs.Parts.{plain_kind_of, structured, parts_few}
-use Rattle.sheet.specs.Marks.{count_in, types_in, Marked, completed, Completing}
-use Rattle.sheet.specs.Opening.{type_cell, next_cell, open_type, next_part, parts_open, begun_at, New, Opened, unwound, parts_left, work}
+use Rattle.sheet.specs.declared.writer.Open.{Open}
+use Rattle.sheet.specs.declared.writer.Marks.{Marks}
+use Rattle.sheet.specs.Marks.{number_at, types_in, Marked, completed, Completing}
+use Rattle.sheet.specs.Opening.{none_open, open_type, next_part, parts_open, begun_at, New, Opened, unwound, parts_left, work}
 use Rattle.sheet.proofs.Meeting.{met_ordered, met_kept}
 use Rattle.sheet.proofs.Again.{known_more, known_snoc, met_next, met_after_part}
 use Rattle.sheet.proofs.Marking.{completing, completed_count, completed_other, completed_marked, completed_types}
 
 -- ---- what is not new is plain or has a number
 
-pub new_no : {t : Tab} {ms : List ℕ} {i : ℕ} {r : Bool} → Marked t ms → i < t.n → New ms i r → r ≡ false → 8 ≤ kind (denote t i) → Memᴰ (denote t i) (types_in t ms)
+pub new_no : {t : Tab} {ms : Marks} {i : ℕ} {r : Bool} → Marked t ms → i < t.n → New ms i r → r ≡ false → 8 ≤ kind (denote t i) → Memᴰ (denote t i) (types_in t ms)
 new_no {i = i} m b n e h =
     ⊎_elim (λ l. absurd (omega (arith, plain_kind_of m.wf i b l))) (λ g. m.known i b g) (n.no e)
 
 -- ---- the same open types come to the same
 
-unwound_same : (t : Tab) (ops new : List ℕ) (d : ℕ) → ((k : ℕ) → k < d → open_type new k ≡ open_type ops k) → (us : List Ty)
+unwound_same : (t : Tab) (ops new : List Open) (d : ℕ) → ((k : ℕ) → k < d → open_type new k ≡ open_type ops k) → (us : List Ty)
     → unwound t new d us ≡ unwound t ops d us
 unfolding unwound
 unwound_same t ops new zero h us = refl
@@ -40,7 +42,7 @@ unwound_same t ops new (suc d) h us =
 
 -- ---- d + 1 types are open: the innermost is number i, and its next part j
 
-module _ {t : Tab} {ms ops : List ℕ} {d : ℕ} (w : Opened t ms ops (suc d)) where
+module _ {t : Tab} {ms : Marks} {ops : List Open} {d : ℕ} (w : Opened t ms ops (suc d)) where
   abbrev i : ℕ
   i = open_type ops d
 
@@ -59,14 +61,11 @@ module _ {t : Tab} {ms ops : List ℕ} {d : ℕ} (w : Opened t ms ops (suc d)) w
   pub top_below : i < t.n
   top_below = omega (arith, w.within d last)
 
-  pub top_small : i < most_numbers
-  top_small = omega (arith, top_below, w.marked.wf.room, w.marked.wf.most)
-
   pub depth_small : d < most_types
   depth_small = omega (arith, w.within d last, w.high d last, w.marked.wf.room, w.marked.wf.most)
 
-  pub cells_there : next_cell d < length ops
-  cells_there = omega (arith, w.within d last, w.high d last, w.room)
+  pub open_there : d < length ops
+  open_there = omega (arith, w.within d last, w.high d last, w.room)
 
   top_high : 8 ≤ kind ty
   top_high = structured w.marked.wf i top_below (w.high d last)
@@ -89,13 +88,13 @@ module _ {t : Tab} {ms ops : List ℕ} {d : ℕ} (w : Opened t ms ops (suc d)) w
     pub top_completing : Completing ms i
     top_completing = completing t ms i w.marked top_below (w.high d last) ordered_then
 
-    abbrev ns : List ℕ
+    abbrev ns : Marks
     ns = completed ms i
 
     types_then : types_in t ns ≡ met ty us
     types_then = completed_types t ms i w.marked top_below (w.high d last) ordered_then ∙ sym now_met
 
-    count_then : count_in ns ≡ count_in ms + 1
+    count_then : ns.met ≡ ms.met + 1
     count_then = completed_count t ms i w.marked top_below (w.high d last) ordered_then (w.unmet d last)
 
     pub closed_opened : Opened t ns ops d
@@ -107,8 +106,7 @@ module _ {t : Tab} {ms ops : List ℕ} {d : ℕ} (w : Opened t ms ops (suc d)) w
       falls = λ k l a b. w.falls k l a (omega arith);
       unmet = λ k h.
           let below : i < open_type ops k = w.falls k d h last in
-          let small : open_type ops k < most_numbers = omega (arith, w.within k (omega arith), w.marked.wf.room, w.marked.wf.most) in
-          completed_other t ms i w.marked top_below (w.high d last) ordered_then (w.unmet d last) (open_type ops k) small (λ e. absurd (omega arith))
+          completed_other t ms i w.marked top_below (w.high d last) ordered_then (w.unmet d last) (open_type ops k) (λ e. absurd (omega arith))
           ∙ w.unmet k (omega arith);
       passed = λ k h. w.passed k (omega arith);
       known = λ k h.
@@ -147,17 +145,26 @@ module _ {t : Tab} {ms ops : List ℕ} {d : ℕ} (w : Opened t ms ops (suc d)) w
     -- it is passed
 
     module _ (known_part : 8 ≤ kind (denote t p) → Memᴰ (denote t p) us) where
-      abbrev next : List ℕ
-      next = set ops (next_cell d) (j + 1)
+      abbrev next : List Open
+      next = set ops d (record { ty = i; next = j + 1 })
+
+      top : get_or next d none_open ≡ record { ty = i; next = j + 1 }
+      top = get_or-set_same ops d _ none_open open_there
+
+      other : (k : ℕ) → (k ≡ d → ⊥) → get_or next k none_open ≡ get_or ops k none_open
+      other k h = get_or-set_other ops d k _ none_open h
 
       same_type : (k : ℕ) → open_type next k ≡ open_type ops k
-      same_type k = get_or-set_other ops (next_cell d) (type_cell k) _ 0 (λ e. absurd (omega arith))
+      same_type k = elim (ℕ_discrete k d) [
+        | yes e ↦ rw e (ap (λ (o : Open). o.ty) top)
+        | no e ↦ ap (λ (o : Open). o.ty) (other k e)
+      ]
 
       top_next : next_part next d ≡ j + 1
-      top_next = get_or-set_same ops (next_cell d) _ 0 cells_there
+      top_next = ap (λ (o : Open). o.next) top
 
       other_next : (k : ℕ) → (k ≡ d → ⊥) → next_part next k ≡ next_part ops k
-      other_next k h = get_or-set_other ops (next_cell d) (next_cell k) _ 0 (λ e. h (omega arith))
+      other_next k h = ap (λ (o : Open). o.next) (other k h)
 
       one_more : Known us (take (j + 1) (parts ty))
       one_more =
@@ -167,7 +174,7 @@ module _ {t : Tab} {ms ops : List ℕ} {d : ℕ} (w : Opened t ms ops (suc d)) w
       pub passed_opened : Opened t ms next (suc d)
       passed_opened = record {
         marked = w.marked;
-        room = omega (arith, w.room, length-set ops (next_cell d) (j + 1));
+        room = omega (arith, w.room, length-set ops d (record { ty = i; next = j + 1 }));
         high = λ k h. rw (same_type k) (w.high k h);
         within = λ k h. rw (same_type k) (w.within k h);
         falls = λ k l a b. rw (same_type k, same_type l) (w.falls k l a b);
@@ -191,36 +198,30 @@ module _ {t : Tab} {ms ops : List ℕ} {d : ℕ} (w : Opened t ms ops (suc d)) w
 
     -- it is begun
 
-    module _ (high : 8 ≤ p) (unmet : get_or ms p 0 ≡ 1) where
-      abbrev deeper : List ℕ
+    module _ (high : 8 ≤ p) (unmet : number_at ms p ≡ 1) where
+      abbrev deeper : List Open
       deeper = begun_at ops (suc d) p
 
-      abbrev first : List ℕ
-      first = set ops (type_cell (suc d)) p
-
-      pub begun_there : next_cell (suc d) < length ops
+      pub begun_there : suc d < length ops
       begun_there = omega (arith, part_below, w.within d last, w.room)
 
-      first_long : length first ≡ length ops
-      first_long = length-set ops (type_cell (suc d)) p
+      old : (k : ℕ) → k < suc d → get_or deeper k none_open ≡ get_or ops k none_open
+      old k h = get_or-set_other ops (suc d) k _ none_open (λ e. absurd (omega arith))
+
+      begun : get_or deeper (suc d) none_open ≡ record { ty = p; next = 0 }
+      begun = get_or-set_same ops (suc d) _ none_open begun_there
 
       old_type : (k : ℕ) → k < suc d → open_type deeper k ≡ open_type ops k
-      old_type k h =
-          get_or-set_other first (next_cell (suc d)) (type_cell k) _ 0 (λ e. absurd (omega arith))
-          ∙ get_or-set_other ops (type_cell (suc d)) (type_cell k) _ 0 (λ e. absurd (omega arith))
+      old_type k h = ap (λ (o : Open). o.ty) (old k h)
 
       old_next : (k : ℕ) → k < suc d → next_part deeper k ≡ next_part ops k
-      old_next k h =
-          get_or-set_other first (next_cell (suc d)) (next_cell k) _ 0 (λ e. absurd (omega arith))
-          ∙ get_or-set_other ops (type_cell (suc d)) (next_cell k) _ 0 (λ e. absurd (omega arith))
+      old_next k h = ap (λ (o : Open). o.next) (old k h)
 
       new_type : open_type deeper (suc d) ≡ p
-      new_type =
-          get_or-set_other first (next_cell (suc d)) (type_cell (suc d)) _ 0 (λ e. absurd (omega arith))
-          ∙ get_or-set_same ops (type_cell (suc d)) p 0 (omega (arith, begun_there))
+      new_type = ap (λ (o : Open). o.ty) begun
 
       new_next : next_part deeper (suc d) ≡ 0
-      new_next = get_or-set_same first (next_cell (suc d)) 0 0 (omega (arith, begun_there, first_long))
+      new_next = ap (λ (o : Open). o.next) begun
 
       -- an old one keeps a property, and the new one has it
       each : (P : ℕ → Type 0) → ((k : ℕ) → k < suc d → P k) → P (suc d) → (k : ℕ) → k < suc (suc d) → P k
@@ -232,7 +233,7 @@ module _ {t : Tab} {ms ops : List ℕ} {d : ℕ} (w : Opened t ms ops (suc d)) w
       pub begun_opened : Opened t ms deeper (suc (suc d))
       begun_opened = record {
         marked = w.marked;
-        room = omega (arith, w.room, first_long, length-set first (next_cell (suc d)) 0);
+        room = omega (arith, w.room, length-set ops (suc d) (record { ty = p; next = 0 }));
         high = each (λ k. 8 ≤ open_type deeper k) (λ k h. rw (old_type k h) (w.high k h)) (rw new_type high);
         within = each (λ k. open_type deeper k + k < t.n) (λ k h. rw (old_type k h) (w.within k h)) (rw new_type (omega (arith, part_below, w.within d last)));
         falls = λ k l a b. elim (ℕ_discrete l (suc d)) [
@@ -242,7 +243,7 @@ module _ {t : Tab} {ms ops : List ℕ} {d : ℕ} (w : Opened t ms ops (suc d)) w
           ])
           | no e ↦ rw (old_type k (omega arith), old_type l (omega arith)) (w.falls k l a (omega arith))
         ];
-        unmet = each (λ k. get_or ms (open_type deeper k) 0 ≡ 1) (λ k h. rw (old_type k h) (w.unmet k h)) (rw new_type unmet);
+        unmet = each (λ k. number_at ms (open_type deeper k) ≡ 1) (λ k h. rw (old_type k h) (w.unmet k h)) (rw new_type unmet);
         passed = each (λ k. next_part deeper k ≤ length (parts_open t deeper k)) (λ k h. rw (old_type k h, old_next k h) (w.passed k h)) (rw new_next (omega arith));
         known = each (λ k. Known us (take (next_part deeper k) (parts_open t deeper k))) (λ k h. rw (old_type k h, old_next k h) (w.known k h)) (rw new_next none_known);
       }

@@ -7,12 +7,11 @@ use native.Mathlib.Nat.{zero-add, mul-zero}
 use native.Mathlib.Numerals.{add-one}
 use native.Mathlib.Omega.{arith}
 use native.Mathlib.Decide.{dec_lt, ℕ_discrete}
-use borrow.Author.Tests.{eq-eqb, ne_eqb, lt-ltb, le-ltb, leb-true, leb-false}
-pub use borrow.Author.Tests.{not-true, not-false}
-use lib.Dec.{eqb, leb}
-use lib.ListN.{length, get_or, set, take, drop, length-set, length-take, get_or-map, get_or-eq_default}
+use borrow.Author.Tests.{eq-eqb, ne_eqb, lt-ltb, le-ltb}
+use lib.Dec.{eqb}
+use lib.ListN.{length, get_or, set, take, drop, length-set, get_or-map, get_or-eq_default}
 use lib.Seq.{take-suc-set, get_or-take, drop-drop}
-use Rattle.meaning.specs.Limits.{largest_sheet, most_types, most_elements, most_names}
+use Rattle.meaning.specs.Limits.{largest_sheet, most_types}
 use Rattle.meaning.specs.Base.{choose, test◌then◌else◌, word, records}
 use Rattle.meaning.specs.Types.{Ty, unknown, tuple, tys}
 use Rattle.meaning.specs.Sheet.{types_of, elements_of, spellings}
@@ -56,20 +55,6 @@ told_no {bs = bs} n = record { yes = λ e. absurd (false≢true e); no = λ e. n
 pub told_yes : {P : Type 0} {bs : List ℕ} → P → Told P bs true
 told_yes p = record { yes = λ e. p; no = λ e. absurd (false≢true (sym e)) }
 
-pub told_by : {P : Type 0} {bs : List ℕ} (x y : ℕ) {r : Bool} → r ≡ leb x y → (x ≤ y → P) → ((x ≤ y → ⊥) → is_sheet bs ≡ true → ⊥) → Told P bs r
-told_by {P} {bs} x y e f g = rw e (by (leb x y) refl)
-  where
-    by : (b : Bool) → leb x y ≡ b → Told P bs b
-    by true h = told_yes (f (leb-true x y h))
-    by false h = told_no (g (λ l. absurd (omega (arith, leb-false x y h))))
-
-pub bounded_all : (bs : List ℕ) {T E N : ℕ} {r : Bool} → length bs ≤ largest_sheet → T ≡ word bs 4 → T ≤ most_types → E ≡ word bs 12 → E ≤ most_elements → N ≡ word bs 20 → N ≤ most_names
-    → r ≡ leb (40 + 12 * T + 4 * E + 12 * N) (length bs) → Told (Bounds bs) bs r
-bounded_all bs {T} {E} {N} s e_t l_t e_e l_e e_n l_n er =
-    told_by (40 + 12 * T + 4 * E + 12 * N) (length bs) er
-    (λ h. record { short = s; types = rw (← e_t) l_t; elements = rw (← e_e) l_e; names = rw (← e_n) l_n; long = rw (← e_t, ← e_e, ← e_n) h })
-    (λ n h. n (rw (e_t, e_e, e_n) (sheet_bounds bs h).long))
-
 -- ---- numbers
 
 pub number_plain : (xs : List ℕ) (n : ℕ) → n < 8 → number_in xs n ≡ n
@@ -80,12 +65,11 @@ number_other : (xs : List ℕ) (n : ℕ) → 8 ≤ n → number_in xs n ≡ get_
 unfolding number_in test◌then◌else◌
 number_other xs n h = rw (le-ltb n 8 h)
 
-pub number_found : (xs : List ℕ) (k n : ℕ) → (n < 8 → ⊥) → n - 8 < k → get_or xs (n - 8) 0 ≡ number_in (take k xs) n
-number_found xs k n a h = sym (number_other (take k xs) n (omega arith) ∙ get_or-take k xs (n - 8) 0 h)
+pub number_found : (xs : List ℕ) (n : ℕ) → (n < 8 → ⊥) → get_or xs (n - 8) 0 ≡ number_in xs n
+number_found xs n a = sym (number_other xs n (omega arith))
 
-pub number_none : (xs : List ℕ) (k n : ℕ) → (n < 8 → ⊥) → (n - 8 < k → ⊥) → 0 ≡ number_in (take k xs) n
-number_none xs k n a h =
-    sym (number_other (take k xs) n (omega arith) ∙ get_or-eq_default (take k xs) 0 {n = n - 8} (omega (arith, length-take k xs)))
+pub number_none : (xs : List ℕ) (n : ℕ) → (n < 8 → ⊥) → (n - 8 < length xs → ⊥) → 0 ≡ number_in xs n
+number_none xs n a h = sym (number_other xs n (omega arith) ∙ get_or-eq_default xs 0 {n = n - 8} (omega arith))
 
 -- what a number means
 module _ {t : Tab} {xs : List ℕ} (b : Below t xs) where
@@ -136,8 +120,7 @@ words_snoc bs at n =
     records_snoc (λ r. word r 0) 4 n (drop at bs)
     ∙ ap (λ x. records (λ r. word r 0) 4 n (drop at bs) ++ (x ∷ [])) (ap (λ (d : List ℕ). word d 0) (drop-drop (4 * n) at bs) ∙ first_word bs (at + 4 * n))
 
-pub record GatherLoop (bs : List ℕ) (at : ℕ) (xs : List ℕ) (k q j : ℕ) (st : List ℕ) : Type 0 where
-  pub few : k ≤ most_types
+pub record GatherLoop (bs : List ℕ) (at : ℕ) (xs : List ℕ) (q j : ℕ) (st : List ℕ) : Type 0 where
   pub many : q ≤ most_types
   pub long : at + 4 * q ≤ length bs
   pub short : length bs ≤ largest_sheet
@@ -145,14 +128,13 @@ pub record GatherLoop (bs : List ℕ) (at : ℕ) (xs : List ℕ) (k q j : ℕ) (
   pub size : length st ≡ most_types
   pub are : take j st ≡ map (number_in xs) (words_at bs at j)
 
-pub gather_first : {bs : List ℕ} {at : ℕ} {xs : List ℕ} {k q : ℕ} {st : List ℕ} → Gathering bs at k q st → GatherLoop bs at xs k q 0 st
+pub gather_first : {bs : List ℕ} {at : ℕ} {xs : List ℕ} {q : ℕ} {st : List ℕ} → Gathering bs at q → length st ≡ most_types → GatherLoop bs at xs q 0 st
 unfolding words_at records
-gather_first g = record { few = g.few; many = g.many; long = g.long; short = g.short; passed = omega arith; size = g.size; are = refl }
+gather_first g e = record { many = g.many; long = g.long; short = g.short; passed = omega arith; size = e; are = refl }
 
-module _ {bs : List ℕ} {at : ℕ} {xs : List ℕ} {k q j : ℕ} {st : List ℕ} (l : GatherLoop bs at xs k q j st) where
-  pub gather_next : {w r : ℕ} → j < q → w ≡ word bs (at + 4 * j) → r ≡ number_in xs w → GatherLoop bs at xs k q (j + 1) (set st j r)
+module _ {bs : List ℕ} {at : ℕ} {xs : List ℕ} {q j : ℕ} {st : List ℕ} (l : GatherLoop bs at xs q j st) where
+  pub gather_next : {w r : ℕ} → j < q → w ≡ word bs (at + 4 * j) → r ≡ number_in xs w → GatherLoop bs at xs q (j + 1) (set st j r)
   gather_next {w} {r} h ew er = record {
-    few = l.few;
     many = l.many;
     long = l.long;
     short = l.short;
@@ -171,11 +153,11 @@ module _ {bs : List ℕ} {at : ℕ} {xs : List ℕ} {k q j : ℕ} {st : List ℕ
       let e : j ≡ q = omega (arith, l.passed) in
       record { are = subst (λ x. take x st ≡ map (number_in xs) (words_at bs at x)) e l.are; size = l.size }
 
-module _ {bs : List ℕ} {at : ℕ} {xs : List ℕ} {k q : ℕ} {t : Tab} (p : Tupling bs at xs k q t) where
-  pub tuple_gather : {st : List ℕ} → length st ≡ most_types → Gathering bs at k q st
-  tuple_gather e = record { few = p.few; many = p.many; long = p.long; short = p.short; size = e }
+module _ {bs : List ℕ} {at : ℕ} {xs : List ℕ} {q : ℕ} {t : Tab} (p : Tupling bs at xs q t) where
+  pub tuple_gather : Gathering bs at q
+  tuple_gather = record { many = p.many; long = p.long; short = p.short }
 
-  pub tuple_listed : {st : List ℕ} → Gathered bs at (take k xs) q st → Listed t st 0 q
+  pub tuple_listed : {st : List ℕ} → Gathered bs at xs q st → Listed t st 0 q
   tuple_listed {st} g = record {
     wf = p.below.wf;
     room = p.room;
@@ -185,7 +167,7 @@ module _ {bs : List ℕ} {at : ℕ} {xs : List ℕ} {k q : ℕ} {t : Tab} (p : T
         rw (zero-add j, ← get_or-take q st j 0 h, g.are) (numbers_below p.below (words_at bs at q) j);
   }
 
-  pub tuple_made : {st : List ℕ} {u : Tab} {r : ℕ} → Gathered bs at (take k xs) q st → Made t u r (tuple (tys (map (denote t) (take q (drop 0 st))))) q → Made t u r (tuple_at bs at (take k xs) q t) q
+  pub tuple_made : {st : List ℕ} {u : Tab} {r : ℕ} → Gathered bs at xs q st → Made t u r (tuple (tys (map (denote t) (take q (drop 0 st))))) q → Made t u r (tuple_at bs at xs q t) q
   tuple_made {st} {u} {r} g m =
       subst (λ (ys : List Ty). Made t u r (tuple (tys ys)) q) (ap (map (denote t)) g.are ∙ numbers_mean p.below (words_at bs at q)) m
 
@@ -203,15 +185,17 @@ none_made w e = record {
 }
 
 module _ (us : List Ty) (kind p q : ℕ) where
-  low_unknown : kind < 8 → type_from [] us (kind, p, q) ≡ unknown
+  other_unknown : (8 ≤ kind → kind ≤ 12 → ⊥) → type_from [] us (kind, p, q) ≡ unknown
   unfolding type_from choose test◌then◌else◌
-  low_unknown h =
-      rw (ne_eqb kind 8 (λ e. absurd (omega arith)), ne_eqb kind 9 (λ e. absurd (omega arith)), ne_eqb kind 10 (λ e. absurd (omega arith)), ne_eqb kind 11 (λ e. absurd (omega arith)), ne_eqb kind 12 (λ e. absurd (omega arith)))
-
-  high_unknown : 12 < kind → type_from [] us (kind, p, q) ≡ unknown
-  unfolding type_from choose test◌then◌else◌
-  high_unknown h =
-      rw (ne_eqb kind 8 (λ e. absurd (omega arith)), ne_eqb kind 9 (λ e. absurd (omega arith)), ne_eqb kind 10 (λ e. absurd (omega arith)), ne_eqb kind 11 (λ e. absurd (omega arith)), ne_eqb kind 12 (λ e. absurd (omega arith)))
+  other_unknown n =
+      let not : (k : ℕ) → 8 ≤ k → k ≤ 12 → kind ≡ k → ⊥ = λ k l m e. n (omega arith) (omega arith) in
+      rw (
+        ne_eqb kind 8 (not 8 (omega arith) (omega arith)),
+        ne_eqb kind 9 (not 9 (omega arith) (omega arith)),
+        ne_eqb kind 10 (not 10 (omega arith) (omega arith)),
+        ne_eqb kind 11 (not 11 (omega arith) (omega arith)),
+        ne_eqb kind 12 (not 12 (omega arith) (omega arith)),
+      )
 
   -- a kind with parts is formed of their meanings: the second one only for a Dict
   built_is : (a b : Ty) → 8 ≤ kind → kind ≤ 12 → (kind ≡ 10 → ⊥) → a ≡ numbered us p → (kind ≡ 9 → b ≡ numbered us q) → built kind a b ≡ type_from [] us (kind, p, q)
@@ -235,14 +219,11 @@ pub second_other : (kind x : ℕ) → (kind ≡ 9 → ⊥) → ◌≡◌ {A = �
 unfolding test◌then◌else◌
 second_other kind x n = rw (ne_eqb kind 9 n)
 
-module _ {xs : List ℕ} {k kind : ℕ} {t : Tab} (f : Forming xs k kind t) (p q : ℕ) where
-  pub form_low : kind < 8 → Made t t 0 (type_from [] (map (denote t) (take k xs)) (kind, p, q)) 0
-  form_low h = none_made f.below.wf (low_unknown (map (denote t) (take k xs)) kind p q h)
+module _ {xs : List ℕ} {kind : ℕ} {t : Tab} (f : Forming xs kind t) (p q : ℕ) where
+  pub form_none : (8 ≤ kind → kind ≤ 12 → ⊥) → Made t t 0 (type_from [] (map (denote t) xs) (kind, p, q)) 0
+  form_none n = none_made f.below.wf (other_unknown (map (denote t) xs) kind p q n)
 
-  pub form_high : 12 < kind → Made t t 0 (type_from [] (map (denote t) (take k xs)) (kind, p, q)) 0
-  form_high h = none_made f.below.wf (high_unknown (map (denote t) (take k xs)) kind p q h)
-
-  module _ {a b : ℕ} (l : kind < 8 → ⊥) (m : 12 < kind → ⊥) (ea : a ≡ number_in (take k xs) p) (eb : b ≡ (test eqb kind 9 then number_in (take k xs) q else 0)) where
+  module _ {a b : ℕ} (l : kind < 8 → ⊥) (m : 12 < kind → ⊥) (ea : a ≡ number_in xs p) (eb : b ≡ (test eqb kind 9 then number_in xs q else 0)) where
     second_below : b < t.n
     second_below = elim (ℕ_discrete kind 9) [
       | yes e ↦ rw (eb ∙ second_dict kind _ e) (number_below f.below q)
@@ -261,10 +242,10 @@ module _ {xs : List ℕ} {k kind : ℕ} {t : Tab} (f : Forming xs k kind t) (p q
       unused = λ n. eb ∙ second_other kind _ n;
     }
 
-    pub form_made : {u : Tab} {r : ℕ} → Made t u r (built kind (denote t a) (denote t b)) 0 → Made t u r (type_from [] (map (denote t) (take k xs)) (kind, p, q)) 0
+    pub form_made : {u : Tab} {r : ℕ} → Made t u r (built kind (denote t a) (denote t b)) 0 → Made t u r (type_from [] (map (denote t) xs) (kind, p, q)) 0
     form_made {u} {r} x =
         subst (λ y. Made t u r y 0)
-        (built_is (map (denote t) (take k xs)) kind p q (denote t a) (denote t b) (omega arith) (omega arith) f.other
+        (built_is (map (denote t) xs) kind p q (denote t a) (denote t b) (omega arith) (omega arith) f.other
         (ap (denote t) ea ∙ number_means f.below p)
         (λ e. ap (denote t) (eb ∙ second_dict kind _ e) ∙ number_means f.below q))
         x

@@ -138,18 +138,9 @@ unfolding type_from choose test◌then◌else◌
 from_tuple es us a b c e = rw (ne_eqb a 8 (λ z. absurd (omega arith)), ne_eqb a 9 (λ z. absurd (omega arith)), eq-eqb a 10 e)
 
 module _ {bs xs : List ℕ} {k used : ℕ} {t : Tab} (y : Typing bs xs k used t) where
-  pub typing_place : 40 + 12 * k + 12 ≤ length bs
-  typing_place = omega (arith, y.here, y.bounds.long)
-
-  pub typing_few : k ≤ most_types
-  typing_few = omega (arith, y.here, y.bounds.types)
-
-  module _ {a b c : ℕ} (ea : a ≡ word bs (40 + 12 * k)) (eb : b ≡ word bs (44 + 12 * k)) (ec : c ≡ word bs (48 + 12 * k)) where
+  module _ {a b c : ℕ} (ea : a ≡ word bs (40 + 12 * k)) (eb : b ≡ word bs (40 + 12 * k + 4)) (ec : c ≡ word bs (40 + 12 * k + 8)) where
     here_is : triple (drop (40 + 12 * k) bs) ≡ (a, b, c)
-    here_is =
-        let e4 : 44 + 12 * k ≡ 40 + 12 * k + 4 = omega arith in
-        let e8 : 48 + 12 * k ≡ 40 + 12 * k + 8 = omega arith in
-        triple_at bs (40 + 12 * k) ea (eb ∙ ap (word bs) e4) (ec ∙ ap (word bs) e8)
+    here_is = triple_at bs (40 + 12 * k) ea eb ec
 
     sum_other : (a ≡ 10 → ⊥) → tuple_sum (types_left bs k) ≡ tuple_sum (types_left bs (k + 1))
     unfolding tuple_sum test◌then◌else◌
@@ -159,10 +150,10 @@ module _ {bs xs : List ℕ} {k used : ℕ} {t : Tab} (y : Typing bs xs k used t)
     unfolding tuple_sum test◌then◌else◌
     sum_tuple e = rw (triples_step bs 40 (word bs 4) k y.here, here_is, eq-eqb a 10 e)
 
-    pub typing_forming : (a ≡ 10 → ⊥) → Forming xs k a t
-    typing_forming n = record { below = y.below; few = typing_few; room = omega (arith, y.room, y.here, y.bounds.types, y.wide); other = n }
+    pub typing_forming : (a ≡ 10 → ⊥) → Forming xs a t
+    typing_forming n = record { below = y.below; room = omega (arith, y.room, y.here, y.bounds.types, y.wide); other = n }
 
-    pub typed_other : {u : Tab} {r : ℕ} → (a ≡ 10 → ⊥) → Made t u r (type_from [] (map (denote t) (take k xs)) (a, b, c)) 0 → Typed bs xs k used t u used r
+    pub typed_other : {u : Tab} {r : ℕ} → (a ≡ 10 → ⊥) → Made t u r (type_from [] (map (denote t) xs) (a, b, c)) 0 → Typed bs xs k used t u used r
     typed_other {u} {r} n m = record {
       grown = m.grown;
       room = m.room;
@@ -170,7 +161,7 @@ module _ {bs xs : List ℕ} {k used : ℕ} {t : Tab} (y : Typing bs xs k used t)
       within = y.within;
       sum = omega (arith, y.sum, sum_other n);
       below = m.below;
-      means = m.means ∙ from_other [] (elements_read bs) (map (denote t) (take k xs)) a b c n ∙ ap (type_from (elements_read bs) (map (denote t) (take k xs))) (sym here_is);
+      means = m.means ∙ from_other [] (elements_read bs) (map (denote t) xs) a b c n ∙ ap (type_from (elements_read bs) (map (denote t) xs)) (sym here_is);
     }
 
     pub refuse_inside : {e : ℕ} → a ≡ 10 → e ≡ word bs 12 → e < b + c → is_sheet bs ≡ true → ⊥
@@ -180,10 +171,9 @@ module _ {bs xs : List ℕ} {k used : ℕ} {t : Tab} (y : Typing bs xs k used t)
     refuse_sum ten ee l s = absurd (omega (arith, y.sum, sum_tuple ten, sheet_sum bs s))
 
     module _ {e n : ℕ} (ten : a ≡ 10) (ee : e ≡ word bs 12) (inside : e < b + c → ⊥) (fits : e < used + c → ⊥) (en : n ≡ word bs 4) where
-      pub typing_tupling : Tupling bs (40 + 12 * n + 4 * b) xs k c t
+      pub typing_tupling : Tupling bs (40 + 12 * n + 4 * b) xs c t
       typing_tupling = record {
         below = y.below;
-        few = typing_few;
         room = omega (arith, y.room, y.here, y.bounds.types, y.wide);
         many = omega (arith, y.bounds.elements);
         space = omega (arith, y.space, y.bounds.elements, y.wide);
@@ -191,10 +181,10 @@ module _ {bs xs : List ℕ} {k used : ℕ} {t : Tab} (y : Typing bs xs k used t)
         short = y.bounds.short;
       }
 
-      pub typed_tuple : {u : Tab} {r : ℕ} → Made t u r (tuple_at bs (40 + 12 * n + 4 * b) (take k xs) c t) c → Typed bs xs k used t u (used + c) r
+      pub typed_tuple : {u : Tab} {r : ℕ} → Made t u r (tuple_at bs (40 + 12 * n + 4 * b) xs c t) c → Typed bs xs k used t u (used + c) r
       unfolding elements_read
       typed_tuple {u} {r} m =
-          let vs = map (denote t) (take k xs) in
+          let vs = map (denote t) xs in
           let piece : words_at bs (40 + 12 * n + 4 * b) c ≡ take c (drop b (elements_read bs)) =
           ap (λ x. words_at bs (40 + 12 * x + 4 * b) c) en ∙ sym (piece_words bs (elements_at bs) (word bs 12) b c (omega arith)) in
           record {
@@ -254,11 +244,10 @@ loop_first b w v s e = record {
 }
 
 module _ {bs xs : List ℕ} {n k used : ℕ} {t : Tab} (l : TypesLoop bs xs n k used t) where
-  pub loop_typing : k < n → Typing bs xs k used t
+  pub loop_typing : k < n → Typing bs (take k xs) k used t
   loop_typing h = record {
     bounds = l.bounds;
     here = omega (arith, l.many);
-    size = l.size;
     below = l.below;
     wide = l.wide;
     room = l.room;
@@ -267,7 +256,7 @@ module _ {bs xs : List ℕ} {n k used : ℕ} {t : Tab} (l : TypesLoop bs xs n k 
     sum = l.sum;
   }
 
-  pub loop_next : {u : Tab} {after r : ℕ} → k < n → Typed bs xs k used t u after r → TypesLoop bs (set xs k r) n (k + 1) after u
+  pub loop_next : {u : Tab} {after r : ℕ} → k < n → Typed bs (take k xs) k used t u after r → TypesLoop bs (set xs k r) n (k + 1) after u
   unfolding types_from
   loop_next {u} {after} {r} h d =
       let more : take (k + 1) (set xs k r) ≡ take k xs ++ (r ∷ []) = rw (add-one k) (take-suc-set xs k r (omega (arith, l.size, l.many, l.bounds.types))) in
@@ -293,17 +282,16 @@ module _ {bs xs : List ℕ} {n k used : ℕ} {t : Tab} (l : TypesLoop bs xs n k 
             ∙ l.left;
       }
 
-  pub loop_small : {u : Tab} {after r : ℕ} → Typed bs xs k used t u after r → r < 65536
+  pub loop_small : {u : Tab} {after r : ℕ} → Typed bs (take k xs) k used t u after r → r < 65536
   loop_small d = omega (arith, d.below, d.grown.wf.room, d.grown.wf.most)
 
-  pub loop_end : (k < n → ⊥) → TypesRead bs xs t
+  pub loop_end : (k < n → ⊥) → TypesRead bs (take n xs) t
   unfolding types_from
   loop_end h =
-      let e : k ≡ word bs 4 = omega (arith, l.many, l.passed) in
-      let short : length (triples_at bs 40 (word bs 4)) ≤ k = omega (arith, triples_many bs 40 (word bs 4)) in
+      let e : k ≡ n = omega (arith, l.passed) in
+      let short : length (triples_at bs 40 (word bs 4)) ≤ k = omega (arith, l.many, triples_many bs 40 (word bs 4)) in
       let none : types_left bs k ≡ [] = drop_of_length-le (triples_at bs 40 (word bs 4)) short in
       record {
-        size = l.size;
         below = subst (λ x. Below t (take x xs)) e l.below;
         are = ap (λ x. map (denote t) (take x xs)) (sym e) ∙ sym (ap (types_from (elements_read bs) (map (denote t) (take k xs))) none) ∙ l.left;
       }

@@ -1,16 +1,12 @@
 -- `step` and `visit`: each step comes to the same, and when no type is open any more the visited one is met.
 use mathlib.Core.Path.{◌≡◌, refl, sym, ap, ◌∙◌, subst}
-use mathlib.Core.Bool.{Bool, true, false, false≢true}
-use mathlib.Core.Logic.{inl, inr}
+use mathlib.Core.Bool.{Bool, true, false}
 use mathlib.Core.List.Memᴰ
 use mathlib.Core.List.{List}
 use Prim.Native.Nat.{ℕ, suc, ◌+◌, ◌-◌, ◌≤◌, ◌<◌}
 use native.Mathlib.Omega.{arith}
-use borrow.Author.Tests.{eqb-true, eqb-false}
-use lib.Dec.{eqb}
 use lib.ListN.{length, get_or, set, take, length-set}
-use lib.Seq.{get_or-set_same, get_or-set_other}
-use Rattle.meaning.specs.Limits.{most_types}
+use lib.Seq.{get_or-set_same}
 use Rattle.meaning.specs.Types.{Ty, parts}
 use Rattle.meaning.specs.Sheet.{met}
 use Rattle.meaning.proofs.SheetTypes.{Known}
@@ -18,26 +14,22 @@ use Rattle.types.specs.Table.{Tab, most_numbers, capacity, denote}
 use Rattle.types.specs.Reading.{PartsOf, HasPart, PartAt}
 use Rattle.types.proofs.Parts.{number_small}
 use Rattle.types.proofs.Readers.{in_room, has_part}
+use Rattle.sheet.specs.declared.writer.Open.{Open}
+use Rattle.sheet.specs.declared.writer.Marks.{Marks}
 use Rattle.sheet.specs.Marks.{tab_of, types_in, completed, Completing}
-use Rattle.sheet.specs.Opening.{type_cell, next_cell, open_type, next_part, parts_open, begun_at, New, Opened, unwound, work, Visiting, Visited, Stepping, Stepped}
+use Rattle.sheet.specs.Opening.{none_open, open_type, next_part, parts_open, begun_at, New, Opened, unwound, work, Visiting, Visited, Stepping, Stepped}
 use Rattle.sheet.proofs.Again.{met_still}
 use Rattle.sheet.proofs.Marking.{own_tab}
-use Rattle.sheet.proofs.Opening.{new_no, top_below, depth_small, cells_there, next_small, top_completing, closed_opened, closed_comes, closed_less, part_below, passed_opened, passed_comes, passed_less, begun_there, begun_opened, begun_comes, begun_less}
+use Rattle.sheet.proofs.Opening.{new_no, top_below, next_small, top_completing, closed_opened, closed_comes, closed_less, part_below, passed_opened, passed_comes, passed_less, begun_opened, begun_comes, begun_less}
 
 -- ---- what is new
 
-pub new_plain : (ms : List ℕ) (i : ℕ) → i < 8 → New ms i false
-new_plain ms i h = record { yes = λ e. absurd (false≢true e); no = λ e. inl h }
-
-pub new_by_mark : (ms : List ℕ) (i : ℕ) → 8 ≤ i → New ms i (eqb (get_or ms i 0) 1)
-new_by_mark ms i h = record { yes = λ e. (h, eqb-true _ _ e); no = λ e. inr (eqb-false _ _ e) }
-
 -- ---- one step
 
-pub begun_long : {new : List ℕ} (ops : List ℕ) (k i : ℕ) → new ≡ begun_at ops k i → length new ≡ length ops
-begun_long ops k i e = rw e (length-set (set ops (type_cell k) i) (next_cell k) 0 ∙ length-set ops (type_cell k) i)
+pub begun_long : {new : List Open} (ops : List Open) (k i : ℕ) → new ≡ begun_at ops k i → length new ≡ length ops
+begun_long ops k i e = rw e (length-set ops k (record { ty = i; next = 0 }))
 
-module _ {cs ms ops : List ℕ} {d k : ℕ} (s : Stepping cs ms ops d) (ek : k ≡ d - 1) where
+module _ {cs : List ℕ} {ms : Marks} {ops : List Open} {d k : ℕ} (s : Stepping cs ms ops d) (ek : k ≡ d - 1) where
   abbrev t : Tab
   t = tab_of cs ms
 
@@ -46,12 +38,6 @@ module _ {cs ms ops : List ℕ} {d k : ℕ} (s : Stepping cs ms ops d) (ek : k �
 
   inner : Opened t ms ops (suc k)
   inner = subst (Opened t ms ops) one_more s.opened
-
-  pub step_depth : d ≤ most_types
-  step_depth = omega (arith, depth_small inner, one_more)
-
-  pub step_cells : next_cell k < length ops
-  step_cells = cells_there inner
 
   module _ {i j : ℕ} (ei : i ≡ open_type ops k) (ej : j ≡ next_part ops k) where
     below : i < t.n
@@ -76,7 +62,7 @@ module _ {cs ms ops : List ℕ} {d k : ℕ} (s : Stepping cs ms ops d) (ek : k �
         pub step_completing : Completing ms i
         step_completing = rw ei (top_completing inner all)
 
-        pub step_closed : {ns : List ℕ} → ns ≡ completed ms i → Stepped cs ms ns ops ops d k
+        pub step_closed : {ns : Marks} → ns ≡ completed ms i → Stepped cs ms ns ops ops d k
         step_closed en =
             rw (en, ei, one_more) record { long = refl; opened = closed_opened inner all; comes_to = closed_comes inner all; less = closed_less inner all }
 
@@ -93,15 +79,13 @@ module _ {cs ms ops : List ℕ} {d k : ℕ} (s : Stepping cs ms ops d) (ek : k �
           there_open : PartAt cs (open_type ops k) (next_part ops k) p
           there_open = rw (ei, ej) at there
 
-          pub step_part : p < most_numbers
-          step_part = omega (arith, part_below inner some there_open, top_below inner, inner.marked.wf.room, inner.marked.wf.most)
+          step_small : p < most_numbers
+          step_small = omega (arith, part_below inner some there_open, top_below inner, inner.marked.wf.room, inner.marked.wf.most)
 
-          pub step_begins : {r : Bool} → New ms p r → r ≡ true → (next_cell d < length ops) × (p < most_numbers)
-          step_begins new e =
-              let h = new.yes e in
-              (rw one_more (begun_there inner some there_open h.0 h.1), step_part)
+          pub step_part : p < length ms.numbers.now
+          step_part = omega (arith, step_small, inner.marked.numbers_long)
 
-          pub step_begun : {r : Bool} {new : List ℕ} → New ms p r → r ≡ true → new ≡ begun_at ops d p → Stepped cs ms ms ops new d (d + 1)
+          pub step_begun : {r : Bool} {new : List Open} → New ms p r → r ≡ true → new ≡ begun_at ops d p → Stepped cs ms ms ops new d (d + 1)
           step_begun is e en =
               let h = is.yes e in
               let b = begun_opened inner some there_open h.0 h.1 in
@@ -111,12 +95,12 @@ module _ {cs ms ops : List ℕ} {d k : ℕ} (s : Stepping cs ms ops d) (ek : k �
               let long : length (begun_at ops d p) ≡ length ops = begun_long ops d p refl in
               rw (en, q, one_more) record { long = rw one_more at long; opened = b; comes_to = c; less = l }
 
-          pub step_passed : {r : Bool} {new : List ℕ} → New ms p r → r ≡ false → new ≡ set ops (next_cell k) (j + 1) → Stepped cs ms ms ops new d d
+          pub step_passed : {r : Bool} {new : List Open} → New ms p r → r ≡ false → new ≡ set ops k (record { ty = open_type ops k; next = next_part ops k + 1 }) → Stepped cs ms ms ops new d d
           step_passed is e en =
               let pb : p < t.n = omega (arith, part_below inner some there_open, top_below inner) in
               let known = new_no inner.marked pb is e in
-              rw (en, ej, one_more) record {
-                long = length-set ops (next_cell k) (next_part ops k + 1);
+              rw (en, one_more) record {
+                long = length-set ops k _;
                 opened = passed_opened inner some there_open known;
                 comes_to = passed_comes inner some there_open known;
                 less = passed_less inner some there_open known;
@@ -124,9 +108,12 @@ module _ {cs ms ops : List ℕ} {d k : ℕ} (s : Stepping cs ms ops d) (ek : k �
 
 -- ---- the walk
 
-module _ {cs ms ops : List ℕ} {i : ℕ} (v : Visiting cs ms ops i) where
-  pub visit_number : i < most_numbers
-  visit_number = number_small v.marked.wf i v.below
+module _ {cs : List ℕ} {ms : Marks} {ops : List Open} {i : ℕ} (v : Visiting cs ms ops i) where
+  visit_small : i < most_numbers
+  visit_small = number_small v.marked.wf i v.below
+
+  pub visit_number : i < length ms.numbers.now
+  visit_number = omega (arith, visit_small, v.marked.numbers_long)
 
   pub visit_nothing : {r : Bool} → New ms i r → r ≡ false → Visited cs ms ms i
   visit_nothing n e = record {
@@ -134,25 +121,23 @@ module _ {cs ms ops : List ℕ} {i : ℕ} (v : Visiting cs ms ops i) where
     met_is = sym (met_still _ _ v.marked.ordered (new_no v.marked v.below n e));
   }
 
-  pub visit_begins : {r : Bool} → New ms i r → r ≡ true → (next_cell 0 < length ops) × (i < most_numbers)
-  visit_begins n e = (omega (arith, (n.yes e).0, v.below, v.open_room.room), visit_number)
+  pub visit_begins : {r : Bool} → New ms i r → r ≡ true → (0 < length ops) × (i < most_numbers)
+  visit_begins n e = (omega (arith, (n.yes e).0, v.below, v.open_room.room), visit_small)
 
 -- from the visited type on, d types are open
-pub record Walking (cs ms ops : List ℕ) (i : ℕ) (ns new : List ℕ) (d : ℕ) : Type 0 where
+pub record Walking (cs : List ℕ) (ms : Marks) (ops : List Open) (i : ℕ) (ns : Marks) (new : List Open) (d : ℕ) : Type 0 where
   pub long : length new ≡ length ops
   pub opened : Opened (tab_of cs ms) ns new d
   pub comes_to : unwound (tab_of cs ms) new d (types_in (tab_of cs ms) ns) ≡ met (denote (tab_of cs ms) i) (types_in (tab_of cs ms) ms)
 
-pub walk_first : {cs ms ops new : List ℕ} {i : ℕ} {r : Bool} → Visiting cs ms ops i → New ms i r → r ≡ true → new ≡ begun_at ops 0 i → Walking cs ms new i ms new 1
+pub walk_first : {cs : List ℕ} {ms : Marks} {ops new : List Open} {i : ℕ} {r : Bool} → Visiting cs ms ops i → New ms i r → r ≡ true → new ≡ begun_at ops 0 i → Walking cs ms new i ms new 1
 unfolding unwound
 walk_first {cs} {ms} {ops} {new} {i} v n e en =
     let h = n.yes e in
-    let first = set ops (type_cell 0) i in
     let long : length (begun_at ops 0 i) ≡ length ops = begun_long ops 0 i refl in
-    let some : next_cell 0 < length ops = (visit_begins v n e).0 in
-    let type_is : open_type (begun_at ops 0 i) 0 ≡ i =
-    get_or-set_other first (next_cell 0) (type_cell 0) _ 0 (λ z. absurd (omega arith)) ∙ get_or-set_same ops (type_cell 0) i 0 (omega arith) in
-    let next_is : next_part (begun_at ops 0 i) 0 ≡ 0 = get_or-set_same first (next_cell 0) 0 0 (omega (arith, length-set ops (type_cell 0) i)) in
+    let top : get_or (begun_at ops 0 i) 0 none_open ≡ record { ty = i; next = 0 } = get_or-set_same ops 0 _ none_open (visit_begins v n e).0 in
+    let type_is : open_type (begun_at ops 0 i) 0 ≡ i = ap (λ (o : Open). o.ty) top in
+    let next_is : next_part (begun_at ops 0 i) 0 ≡ 0 = ap (λ (o : Open). o.next) top in
     let none : (ts : List Ty) → Known (types_in (tab_of cs ms) ms) (take 0 ts) = λ ts u m g. absurd (Memᴰ.not-nil m) in
     let only : (k : ℕ) → k < 1 → k ≡ 0 = λ k l. omega arith in
     rw en record {
@@ -170,14 +155,14 @@ walk_first {cs} {ms} {ops} {new} {i} v n e en =
       comes_to = ap (λ x. met (denote (tab_of cs ms) x) (types_in (tab_of cs ms) ms)) type_is;
     }
 
-module _ {cs ms ops : List ℕ} {i : ℕ} {ns new : List ℕ} {d : ℕ} (l : Walking cs ms ops i ns new d) where
+module _ {cs : List ℕ} {ms : Marks} {ops : List Open} {i : ℕ} {ns : Marks} {new : List Open} {d : ℕ} (l : Walking cs ms ops i ns new d) where
   own : tab_of cs ns ≡ tab_of cs ms
   own = own_tab l.opened.marked
 
   pub walk_step : 0 < d → Stepping cs ns new d
   walk_step h = record { opened = subst (λ u. Opened u ns new d) (sym own) l.opened; some = h }
 
-  module _ {os newer : List ℕ} {e : ℕ} (s : Stepped cs ns os new newer d e) where
+  module _ {os : Marks} {newer : List Open} {e : ℕ} (s : Stepped cs ns os new newer d e) where
     pub walk_less : work (tab_of cs ms) os newer e < work (tab_of cs ms) ns new d
     walk_less = subst (λ u. work u os newer e < work u ns new d) own s.less
 

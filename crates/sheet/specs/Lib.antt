@@ -1,3 +1,4 @@
+pub mod Counting
 pub mod Listing
 pub mod Marks
 pub mod Opening

@@ -2,10 +2,11 @@
 #![tactic(auto)]
 
 pub mod header;
+mod layout;
 pub mod list;
 mod reader;
 pub mod records;
 mod writer;
 
 pub use reader::{ReadSheet, TABLE_CELLS, read};
-pub use writer::{Written, write};
+pub use writer::write;

@@ -1,53 +1,54 @@
 // The names of a sheet with their types, as the writer takes them and the reader gives them.
-ghost use Rattle.std.specs.Prelude.{◌≡◌, length, ◌<◌};
+ghost use Rattle.std.specs.Prelude.{◌≡◌, ◌<◌};
 ghost use Rattle.meaning.specs.Limits.{most_names};
-ghost use Rattle.sheet.specs.Listing.{name_cells, start_at, length_at, type_at, PutName};
+ghost use Rattle.sheet.specs.Listing.{start_at, length_at, type_at, PutName};
 
 use limits::MOST_NAMES;
-use words::wide32;
 
-// Three words a name: where the text starts in the bytes that it lies in, how long it is, and the type's number in the
-// table. The start is the first.
-const NAME_CELLS: usize = 3;
+// Where a name's text starts in the bytes that it lies in, how long it is, and the type's number in the table.
+#[derive(Clone, Copy)]
+pub struct ListedName {
+    pub start: u32,
+    pub len: u32,
+    pub ty: u32,
+}
 
-const LENGTH: usize = 1;
+const NO_NAME: ListedName = ListedName {
+    start: 0,
+    len: 0,
+    ty: 0,
+};
 
-const TYPE: usize = 2;
-
-const ALL_CELLS: usize = NAME_CELLS * MOST_NAMES;
-
-pub type NameList = [u32; ALL_CELLS];
+pub type NameList = [ListedName; MOST_NAMES];
 
 // A list before a name is written to it.
-pub const NO_ENTRIES: NameList = [0u32; ALL_CELLS];
+pub const NO_ENTRIES: NameList = [NO_NAME; MOST_NAMES];
 
 pub fn start_of(names: &NameList, k: usize) -> usize
     requires { k < most_names }
     ensures { result ≡ start_at names.now k }
 {
-    wide32(names[NAME_CELLS * k])
+    names[k].start as usize
 }
 
 pub fn length_of(names: &NameList, k: usize) -> usize
     requires { k < most_names }
     ensures { result ≡ length_at names.now k }
 {
-    wide32(names[NAME_CELLS * k + LENGTH])
+    names[k].len as usize
 }
 
 pub fn type_of(names: &NameList, k: usize) -> usize
     requires { k < most_names }
     ensures { result ≡ type_at names.now k }
 {
-    wide32(names[NAME_CELLS * k + TYPE])
+    names[k].ty as usize
 }
 
 // Writes name k: where its text starts, how long it is, and its type.
 pub fn put_name(names: &mut NameList, k: usize, start: u32, len: u32, ty: u32)
-    requires { (k < most_names) × (length names.old ≡ name_cells) }
+    requires { k < most_names }
     ensures { PutName names.old names.new k start len ty }
 {
-    names[NAME_CELLS * k] = start;
-    names[NAME_CELLS * k + LENGTH] = len;
-    names[NAME_CELLS * k + TYPE] = ty;
+    names[k] = ListedName { start, len, ty };
 }

@@ -1,31 +1,26 @@
 // The sheet's reader: it refuses no more than it must to read on, and then the writer decides.
-ghost use Rattle.std.specs.Prelude.{◌≡◌, [], map, false, eqb, length, take, ℕ, ◌+◌, ◌≤◌, ◌<◌};
+ghost use Rattle.std.specs.Prelude.{◌≡◌, [], map, false, eqb, length, take, MatchOption, ℕ, ◌+◌, ◌≤◌, ◌<◌};
 ghost use Rattle.meaning.specs.Base.{word, test◌then◌else◌};
 ghost use Rattle.meaning.specs.Limits.{most_types};
-ghost use Rattle.meaning.specs.Read.{type_from};
+ghost use Rattle.meaning.specs.Read.{type_from, is_sheet};
+ghost use Rattle.types.specs.Kinds.{kind_number};
 ghost use Rattle.types.specs.Table.{most_numbers, capacity, Fresh, tab, denote, Wf, Made};
-ghost use Rattle.sheet.specs.Listing.{name_cells, Listing, listed};
-ghost use Rattle.sheet.specs.Reading.{Bounds, Told, number_in, Gathering, Gathered, Tupling, tuple_at, Forming};
+ghost use Rattle.sheet.specs.Listing.{Listing, listed};
+ghost use Rattle.sheet.specs.Reading.{Headed, Told, number_in, Gathering, Gathered, Tupling, tuple_at, Forming};
 ghost use Rattle.sheet.specs.Reading.{Typing, Typed as TypeRead, TypesRead};
-ghost use Rattle.sheet.specs.Reading.{NameStep, NamesRead, Naming, TextsInside, TextsTold, Compared, Reads};
+ghost use Rattle.sheet.specs.Reading.{NameStep, NamesRead, TextsInside, TextsTold, Compared, Reads};
 
 use crate::header;
-use crate::list::{NameList, length_of, put_name, start_of};
+use crate::layout::Areas;
+use crate::list::{ListedName, NameList, put_name};
 use crate::records::{ELEMENT, NAME_RECORD, SECOND_WORD, THIRD_WORD, TYPE_RECORD};
 use crate::writer::write;
 use limits::{LARGEST_SHEET, LONGEST_NAME, MOST_ELEMENTS, MOST_NAMES, MOST_TYPES};
 use types::{
-    CELLS, Counts, DICT, FILTER_ITER, FRESH, Formed, LIST, NO_PART, STRUCTURED, TUPLE, UNKNOWN,
-    form, start, tuple_of,
+    CELLS, Counts, FRESH, Formed, Kind, NO_PART, STRUCTURED, UNKNOWN, form, numbered, start,
+    tuple_of,
 };
-use words::{get_word, same, text, text_stands, wide16, wide32};
-
-// The bytes at which the words of the first type record start.
-const FIRST_KIND: usize = header::LENGTH;
-
-const FIRST_P: usize = header::LENGTH + SECOND_WORD;
-
-const FIRST_Q: usize = header::LENGTH + THIRD_WORD;
+use words::{get_word, same, text, text_stands};
 
 // A table with room for whatever a sheet may hold.
 pub const TABLE_CELLS: usize = CELLS * (STRUCTURED + MOST_TYPES);
@@ -33,25 +28,24 @@ pub const TABLE_CELLS: usize = CELLS * (STRUCTURED + MOST_TYPES);
 // The table's numbers of the types that were read, and those of one Tuple's elements.
 type Numbers = [u16; MOST_TYPES];
 
-// Whether the bytes are a sheet; if so, the counts of the table that was read from them, and how many names.
+// What was read from a sheet: the counts of its table, and how many names.
 #[derive(Clone, Copy)]
 pub struct ReadSheet {
-    pub stands: bool,
     pub counts: Counts,
     pub names: usize,
 }
 
-// Whether the bytes may still be a sheet, and the counts of the table.
+// Bytes that may be a sheet, with what their header says.
 #[derive(Clone, Copy)]
-struct Types {
-    stands: bool,
-    counts: Counts,
+struct Sheet<'a> {
+    bytes: &'a [u8],
+    areas: Areas,
+    ghost headed: { Headed bytes.now areas },
 }
 
-// The same after one type: its number, and how many elements were read.
+// The type of one record: its number, how many elements were read by then, and the counts of the table that has it.
 #[derive(Clone, Copy)]
 struct Typed {
-    stands: bool,
     number: usize,
     used: usize,
     counts: Counts,
@@ -62,279 +56,220 @@ fn word_at(sheet: &[u8], at: usize) -> usize
     ensures value { result ≡ word sheet.now at }
     ensures upper_bound { result < 4294967296 }
 {
-    wide32(get_word(sheet, at))
+    get_word(sheet, at) as usize
 }
 
-// Whether the counts keep the limits and the areas lie within.
-fn bounded(sheet: &[u8]) -> bool
-    ensures { Told (Bounds sheet.now) sheet.now result }
+// What the header says, if the counts keep the limits and the areas lie within.
+fn areas_of(sheet: &[u8]) -> Option<Areas>
+    ensures { MatchOption result (is_sheet sheet.now ≡ false) (λ a. Headed sheet.now a) }
 {
-    if sheet.len() < header::LENGTH {
-        return false;
-    }
-    if LARGEST_SHEET < sheet.len() {
-        return false;
+    if sheet.len() < header::LENGTH || LARGEST_SHEET < sheet.len() {
+        return None;
     }
     let types = word_at(sheet, header::TYPE_COUNT);
-    if MOST_TYPES < types {
-        return false;
-    }
     let elements = word_at(sheet, header::ELEMENT_COUNT);
-    if MOST_ELEMENTS < elements {
-        return false;
-    }
     let names = word_at(sheet, header::NAME_COUNT);
-    if MOST_NAMES < names {
-        return false;
+    if MOST_TYPES < types || MOST_ELEMENTS < elements || MOST_NAMES < names {
+        return None;
     }
-    header::LENGTH + TYPE_RECORD * types + ELEMENT * elements + NAME_RECORD * names <= sheet.len()
+    let areas = Areas {
+        types,
+        elements,
+        names,
+    };
+    if sheet.len() < areas.texts_at() {
+        return None;
+    }
+    Some(areas)
 }
 
-// The table's number of the sheet's number n: the first k types of the sheet have a number.
-fn number_in(numbers: &Numbers, k: usize, n: usize) -> usize
-    requires { k ≤ most_types }
-    ensures value { result ≡ number_in (take k numbers.now) n }
+// The table's number of the sheet's number n, by the numbers of the types before.
+fn number_in(numbers: &[u16], n: usize) -> usize
+    ensures value { result ≡ number_in numbers.now n }
     ensures upper_bound { result < 65536 }
 {
     if n < STRUCTURED {
         return n;
     }
-    if n - STRUCTURED < k {
-        return wide16(numbers[n - STRUCTURED]);
+    if n - STRUCTURED < numbers.len() {
+        return usize::from(numbers[n - STRUCTURED]);
     }
     UNKNOWN
 }
 
 // The table's numbers of the q words at a place.
-fn gather(sheet: &[u8], at: usize, numbers: &Numbers, k: usize, q: usize, stack: &mut Numbers)
-    requires { Gathering sheet.now at k q stack.old }
-    ensures { Gathered sheet.now at (take k numbers.now) q stack.new }
+fn gather(sheet: &[u8], at: usize, numbers: &[u16], q: usize, stack: &mut Numbers)
+    requires { Gathering sheet.now at q }
+    ensures { Gathered sheet.now at numbers.now q stack.new }
 {
-    let mut j = 0;
-    while j < q {
-        stack[j] = number_in(numbers, k, word_at(sheet, at + ELEMENT * j)) as u16;
-        j += 1;
+    for j in 0..q {
+        stack[j] = number_in(numbers, word_at(sheet, at + ELEMENT * j)) as u16;
     }
 }
 
 fn form_tuple(
     sheet: &[u8],
     at: usize,
-    numbers: &Numbers,
-    k: usize,
+    numbers: &[u16],
     q: usize,
     table: &mut [u16],
     counts: Counts,
 ) -> Formed
-    requires { Tupling sheet.now at numbers.now k q (tab table.old counts.types counts.elements) }
+    requires { Tupling sheet.now at numbers.now q (tab table.old counts.types counts.elements) }
     ensures { Made (tab table.old counts.types counts.elements)
         (tab table.new result.counts.types result.counts.elements)
         result.number
-        (tuple_at sheet.now at (take k numbers.now) q
-        (tab table.old counts.types counts.elements))
+        (tuple_at sheet.now at numbers.now q (tab table.old counts.types counts.elements))
         q }
 {
     let mut stack = [FRESH; MOST_TYPES];
-    gather(sheet, at, numbers, k, q, &mut stack);
+    gather(sheet, at, numbers, q, &mut stack);
     tuple_of(table, counts, &stack, 0, q)
 }
 
-fn second_in(numbers: &Numbers, k: usize, kind: usize, q: usize) -> usize
-    requires { k ≤ most_types }
-    ensures { result ≡ (test eqb kind 9 then number_in (take k numbers.now) q else 0) }
+fn second_in(numbers: &[u16], kind: Kind, q: usize) -> usize
+    ensures { result ≡ (test eqb (kind_number kind) 9 then number_in numbers.now q else 0) }
 {
-    if kind == DICT {
-        return number_in(numbers, k, q);
+    match kind {
+        Kind::Dict => number_in(numbers, q),
+        _ => NO_PART,
     }
-    NO_PART
 }
 
 // A kind that is none is read as Unknown.
 fn form_other(
-    numbers: &Numbers,
-    k: usize,
+    numbers: &[u16],
     kind: usize,
     p: usize,
     q: usize,
     table: &mut [u16],
     counts: Counts,
 ) -> Formed
-    requires { Forming numbers.now k kind (tab table.old counts.types counts.elements) }
+    requires { Forming numbers.now kind (tab table.old counts.types counts.elements) }
     ensures { Made (tab table.old counts.types counts.elements)
         (tab table.new result.counts.types result.counts.elements)
         result.number
         (type_from [] (map (denote (tab table.old counts.types counts.elements))
-        (take k numbers.now)) (kind, p, q))
+        numbers.now) (kind, p, q))
         0 }
 {
-    if kind < LIST {
+    if kind < STRUCTURED || kind > Kind::FilterIter as usize {
         return Formed {
             number: UNKNOWN,
             counts,
         };
     }
-    if FILTER_ITER < kind {
-        return Formed {
-            number: UNKNOWN,
-            counts,
-        };
-    }
-    let a = number_in(numbers, k, p);
-    let b = second_in(numbers, k, kind, q);
+    let kind = numbered(kind);
+    let a = number_in(numbers, p);
+    let b = second_in(numbers, kind, q);
     form(table, counts, kind, a, b)
 }
 
-// The type of record k. A Tuple's elements must be among those of the sheet, and all Tuples together may not have more
-// of them.
+// The type of record k, by the numbers of the types before. A Tuple's elements must be among those of the sheet, and
+// all Tuples together may not have more of them.
 fn read_type(
-    sheet: &[u8],
+    sheet: &Sheet,
     k: usize,
     used: usize,
-    numbers: &Numbers,
+    numbers: &[u16],
     table: &mut [u16],
     counts: Counts,
-) -> Typed
-    requires { Typing sheet.now numbers.now k used (tab table.old counts.types counts.elements) }
-    ensures { Told (TypeRead sheet.now numbers.now k used
-        (tab table.old counts.types counts.elements)
-        (tab table.new result.counts.types result.counts.elements)
-        result.used result.number)
-        sheet.now result.stands }
+) -> Option<Typed>
+    requires { Typing sheet.now.bytes.now numbers.now k used (tab table.old counts.types counts.elements) }
+    ensures { MatchOption result (is_sheet sheet.now.bytes.now ≡ false) (λ r.
+        TypeRead sheet.now.bytes.now numbers.now k used (tab table.old counts.types counts.elements)
+        (tab table.new r.counts.types r.counts.elements) r.used r.number) }
 {
-    let kind = word_at(sheet, FIRST_KIND + TYPE_RECORD * k);
-    let p = word_at(sheet, FIRST_P + TYPE_RECORD * k);
-    let q = word_at(sheet, FIRST_Q + TYPE_RECORD * k);
-    if kind != TUPLE {
-        let f = form_other(numbers, k, kind, p, q, table, counts);
-        let grown = f.counts;
-        return Typed {
-            stands: true,
+    let at = header::LENGTH + TYPE_RECORD * k;
+    let kind = word_at(sheet.bytes, at);
+    let p = word_at(sheet.bytes, at + SECOND_WORD);
+    let q = word_at(sheet.bytes, at + THIRD_WORD);
+    if kind != Kind::Tuple as usize {
+        let f = form_other(numbers, kind, p, q, table, counts);
+        return Some(Typed {
             number: f.number,
             used,
-            counts: grown,
-        };
+            counts: f.counts,
+        });
     }
-    let elements = word_at(sheet, header::ELEMENT_COUNT);
-    if elements < p + q {
-        return Typed {
-            stands: false,
-            number: 0,
-            used,
-            counts,
-        };
+    if sheet.areas.elements < p + q || sheet.areas.elements < used + q {
+        return None;
     }
-    if elements < used + q {
-        return Typed {
-            stands: false,
-            number: 0,
-            used,
-            counts,
-        };
-    }
-    let at = header::LENGTH + TYPE_RECORD * word_at(sheet, header::TYPE_COUNT) + ELEMENT * p;
-    let f = form_tuple(sheet, at, numbers, k, q, table, counts);
-    let grown = f.counts;
-    Typed {
-        stands: true,
+    let f = form_tuple(
+        sheet.bytes,
+        sheet.areas.elements_at() + ELEMENT * p,
+        numbers,
+        q,
+        table,
+        counts,
+    );
+    Some(Typed {
         number: f.number,
         used: used + q,
-        counts: grown,
-    }
+        counts: f.counts,
+    })
 }
 
 // The types of all records; the table holds the plain types alone before.
-fn read_types(sheet: &[u8], table: &mut [u16], numbers: &mut Numbers) -> Types
-    requires bounds { Bounds sheet.now }
+fn read_types(sheet: &Sheet, table: &mut [u16], numbers: &mut Numbers) -> Option<Counts>
     requires wf { Wf (tab table.old 8 0) }
-    requires most_numbers_bound { (most_numbers ≤ capacity table.old) × (length numbers.old ≡ most_types) }
-    ensures { Told (TypesRead sheet.now numbers.new
-        (tab table.new result.counts.types result.counts.elements))
-        sheet.now result.stands }
+    requires most_numbers_bound { most_numbers ≤ capacity table.old }
+    ensures { MatchOption result (is_sheet sheet.now.bytes.now ≡ false) (λ r.
+        TypesRead sheet.now.bytes.now (take sheet.now.areas.types numbers.new) (tab table.new r.types r.elements)) }
 {
-    let n = word_at(sheet, header::TYPE_COUNT);
-    let mut k: usize = 0;
-    let mut used: usize = 0;
-    let mut types: usize = STRUCTURED;
-    let mut elements: usize = 0;
-    while k < n {
-        let r = read_type(sheet, k, used, numbers, table, Counts { types, elements });
-        let grown = r.counts;
-        if !r.stands {
-            return Types {
-                stands: false,
-                counts: grown,
-            };
-        }
+    let mut used = 0;
+    let mut counts = Counts {
+        types: STRUCTURED,
+        elements: 0,
+    };
+    for k in 0..sheet.areas.types {
+        let r = read_type(sheet, k, used, &numbers[..k], table, counts)?;
         numbers[k] = r.number as u16;
         used = r.used;
-        types = grown.types;
-        elements = grown.elements;
-        k += 1;
+        counts = r.counts;
     }
-    Types {
-        stands: true,
-        counts: Counts { types, elements },
-    }
+    Some(counts)
 }
 
 // Name k: its text must lie in the bytes and be short enough.
-fn read_name(sheet: &[u8], k: usize, numbers: &Numbers, names: &mut NameList) -> bool
-    requires { Naming sheet.now k names.old }
-    ensures { Told (NameStep sheet.now numbers.now
-        names.old names.new k) sheet.now result }
+fn read_name(sheet: &Sheet, k: usize, numbers: &[u16], names: &mut NameList) -> bool
+    requires { k < sheet.now.areas.names }
+    ensures { Told (NameStep sheet.now.bytes.now numbers.now names.old names.new k) sheet.now.bytes.now result }
 {
-    let types = word_at(sheet, header::TYPE_COUNT);
-    let from = header::LENGTH
-        + TYPE_RECORD * types
-        + ELEMENT * word_at(sheet, header::ELEMENT_COUNT);
-    let texts = from + NAME_RECORD * word_at(sheet, header::NAME_COUNT);
-    let at = from + NAME_RECORD * k;
-    let start = word_at(sheet, at);
-    let len = word_at(sheet, at + SECOND_WORD);
-    let ty = number_in(numbers, types, word_at(sheet, at + THIRD_WORD));
-    if LONGEST_NAME < len {
+    let at = sheet.areas.names_at() + NAME_RECORD * k;
+    let start = sheet.areas.texts_at() + word_at(sheet.bytes, at);
+    let len = word_at(sheet.bytes, at + SECOND_WORD);
+    let ty = number_in(numbers, word_at(sheet.bytes, at + THIRD_WORD));
+    if LONGEST_NAME < len || sheet.bytes.len() < start + len {
         return false;
     }
-    if sheet.len() < texts + start + len {
-        return false;
-    }
-    put_name(names, k, (texts + start) as u32, len as u32, ty as u32);
+    put_name(names, k, start as u32, len as u32, ty as u32);
     true
 }
 
-fn read_names(sheet: &[u8], numbers: &Numbers, names: &mut NameList) -> bool
-    requires bounds { Bounds sheet.now }
-    requires names_len { length names.old ≡ name_cells }
-    ensures { Told (NamesRead sheet.now (take (word sheet.now 4) numbers.now)
-        names.new (word sheet.now 20)) sheet.now result }
+fn read_names(sheet: &Sheet, numbers: &[u16], names: &mut NameList) -> bool
+    ensures { Told (NamesRead sheet.now.bytes.now numbers.now names.new sheet.now.areas.names)
+        sheet.now.bytes.now result }
 {
-    let n = word_at(sheet, header::NAME_COUNT);
-    let mut k = 0;
-    while k < n {
+    for k in 0..sheet.areas.names {
         if !read_name(sheet, k, numbers, names) {
             return false;
         }
-        k += 1;
     }
     true
 }
 
-fn texts_stand(sheet: &[u8], names: &NameList, count: usize) -> bool
-    requires { TextsInside sheet.now names.now count }
-    ensures { TextsTold sheet.now names.now count result }
+fn texts_stand(sheet: &[u8], names: &[ListedName]) -> bool
+    requires { TextsInside sheet.now names.now }
+    ensures { TextsTold sheet.now names.now result }
 {
-    let mut k: usize = 0;
-    let mut last: usize = 0;
-    let mut size: usize = 0;
-    while k < count {
-        let start = start_of(names, k);
-        let len = length_of(names, k);
-        if !text_stands(text(sheet, last, size), text(sheet, start, len)) {
+    let mut last = text(sheet, 0, 0);
+    for name in names {
+        let spelling = text(sheet, name.start as usize, name.len as usize);
+        if !text_stands(last, spelling) {
             return false;
         }
-        last = start;
-        size = len;
-        k += 1;
+        last = spelling;
     }
     true
 }
@@ -346,62 +281,37 @@ fn rewrites(sheet: &[u8], table: &[u16], counts: Counts, names: &NameList, count
         (tab table.now counts.types counts.elements) names.now count) result }
 {
     let mut out = [0u8; LARGEST_SHEET];
-    let w = write(sheet, table, counts, names, count, &mut out);
-    if !w.fits {
-        return false;
+    match write(sheet, table, counts, names, count, &mut out) {
+        Some(length) => same(sheet, text(&out, 0, length)),
+        None => false,
     }
-    same(sheet, text(&out, 0, w.length))
-}
-
-fn refused() -> ReadSheet
-    ensures { result.stands ≡ false }
-{
-    ReadSheet {
-        stands: false,
-        counts: Counts {
-            types: STRUCTURED,
-            elements: 0,
-        },
-        names: 0,
-    }
-}
-
-// A call of its own, since answers say `start` for a function's entry.
-fn begin_table(table: &mut [u16])
-    requires { Fresh table.old }
-    ensures { Wf (tab table.new 8 0) }
-{
-    start(table);
 }
 
 // Reads a sheet into a table of its types and a list of its names: whatever the bytes, it says whether they are one.
 // The table is one of TABLE_CELLS.
-pub fn read(sheet: &[u8], table: &mut [u16], names: &mut NameList) -> ReadSheet
-    requires { (capacity table.old ≡ most_numbers) × (length names.old ≡ name_cells) × Fresh table.old }
-    ensures { Reads sheet.now result.stands
-        (tab table.new result.counts.types result.counts.elements) names.new result.names }
+pub fn read(sheet: &[u8], table: &mut [u16], names: &mut NameList) -> Option<ReadSheet>
+    requires { (capacity table.old ≡ most_numbers) × Fresh table.old }
+    ensures { Reads sheet.now result table.new names.new }
 {
-    if !bounded(sheet) {
-        return refused();
-    }
-    begin_table(table);
+    let areas = areas_of(sheet)?;
+    let headed = Sheet {
+        bytes: sheet,
+        areas,
+    };
+    start(table);
     let mut numbers = [FRESH; MOST_TYPES];
-    let types = read_types(sheet, table, &mut numbers);
-    if !types.stands {
-        return refused();
+    let counts = read_types(&headed, table, &mut numbers)?;
+    if !read_names(&headed, &numbers[..areas.types], names) {
+        return None;
     }
-    if !read_names(sheet, &numbers, names) {
-        return refused();
+    if !texts_stand(sheet, &names[..areas.names]) {
+        return None;
     }
-    let counts = types.counts;
-    let n = word_at(sheet, header::NAME_COUNT);
-    if !texts_stand(sheet, names, n) {
-        return refused();
+    if !rewrites(sheet, table, counts, names, areas.names) {
+        return None;
     }
-    let stands = rewrites(sheet, table, counts, names, n);
-    ReadSheet {
-        stands,
+    Some(ReadSheet {
         counts,
-        names: n,
-    }
+        names: areas.names,
+    })
 }

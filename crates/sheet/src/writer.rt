@@ -1,148 +1,139 @@
 // The sheet's writer: the types of the names by one walk, then area after area.
-ghost use Rattle.std.specs.Prelude.{◌≡◌, [], ◌∷◌, length, get_or, ℕ, ◌+◌, ◌*◌, ◌≤◌, ◌<◌};
+ghost use Rattle.std.specs.Prelude.{◌≡◌, [], ◌∷◌, map, length, get_or, ℕ, ◌+◌, ◌*◌, ◌≤◌, ◌<◌};
 ghost use Rattle.meaning.specs.Base.{words};
 ghost use Rattle.meaning.specs.Limits.{most_names, most_text, most_types};
 ghost use Rattle.meaning.specs.Sheet.{elements_in, sheet_of};
 ghost use Rattle.types.specs.Table.{most_numbers, capacity, tab, denote};
-ghost use Rattle.sheet.specs.Listing.{Listing, listed, Wrote};
-ghost use Rattle.sheet.specs.Marks.{mark_cells, most_written, count_in, type_count, begun};
-ghost use Rattle.sheet.specs.Marks.{Completing, completed, Marked, tab_of};
-ghost use Rattle.sheet.specs.Opening.{few_types, next_cell, begun_at, New, OpenRoom};
-ghost use Rattle.sheet.specs.Opening.{Visiting, Visited, Stepping, Stepped};
+ghost use Rattle.sheet.specs.Listing.{Listing, entry_of, listed, Wrote};
+ghost use Rattle.sheet.specs.Counting.{most_written};
+ghost use Rattle.sheet.specs.Marks.{type_met, Completing, completed, Marked, tab_of};
+ghost use Rattle.sheet.specs.Opening.{New, OpenRoom, Visiting, Visited, Stepping, Stepped};
 ghost use Rattle.sheet.specs.Writing.{elements_met, Meeting, MetAll, ElementsIn, Short, listed_size, NumberOf};
 ghost use Rattle.sheet.specs.Writing.{Put, Met, record_bytes, element_bytes, types_bytes, elements_bytes, NamesFit};
 ghost use Rattle.sheet.specs.Writing.{NamesPut, TextsFit, listed_texts, header_bytes, Filling};
 
 use crate::header;
-use crate::list::{NameList, length_of, start_of, type_of};
+use crate::layout::Areas;
+use crate::list::{ListedName, NameList};
 use crate::records::{ELEMENT, NAME_RECORD, SECOND_WORD, THIRD_WORD, TYPE_RECORD};
 use limits::MOST_TYPES;
-use types::{Counts, FRESH, STRUCTURED, TUPLE, kind_of, part_at, part_of, parts_of, second_of};
-use words::{put, put_word, text, wide16};
-
-// The marks of the walk over the types: for each number of the table the type's number in the sheet; then the table's
-// numbers in the sheet's order; then how many these are, and the table's counts. Their length is a multiple of 16
-// bytes.
-const ORDER: usize = STRUCTURED + MOST_TYPES;
-
-const MET: usize = ORDER + MOST_TYPES;
-
-const TYPE_COUNT: usize = MET + 1;
-
-const ELEMENT_COUNT: usize = MET + 2;
-
-const MARK_CELLS: usize = MET + 8;
-
-type Marks = [u16; MARK_CELLS];
+use types::{Counts, FRESH, Kind, STRUCTURED, kind_of, part_at, part_of, parts_of, second_of};
+use words::{put, put_word, text};
 
 // A mark of a type that has no number yet: no structured type has this one. It is what the marks are filled with.
 const UNMET: u16 = FRESH;
 
-// The types that the walk has begun and not completed, two cells each: the type's number and the place of its next
-// part. A part has a lower number than the whole, so no more are open than the table has structured types.
-const OPEN_CELLS: usize = 2;
+// The marks of the walk over the types: for each number of the table the type's number in the sheet; the table's
+// numbers in the sheet's order, and how many these are; and the table's counts. The arrays lie outside, since a struct
+// is made by copying what it holds.
+#[derive(Drop)]
+struct Marks<'a> {
+    numbers: &'a mut [u16],
+    order: &'a mut [u16],
+    met: usize,
+    counts: Counts,
+}
 
-const NEXT_PART: usize = 1;
+// A type that the walk has begun and not completed, and the place of its next part. A part has a lower number than the
+// whole, so no more are open than the table has structured types.
+#[derive(Clone, Copy)]
+struct Open {
+    ty: u16,
+    next: u16,
+}
+
+const NONE_OPEN: Open = Open {
+    ty: FRESH,
+    next: FRESH,
+};
 
 // Most tables have few types.
 const FEW: usize = 64;
 
-const FEW_OPEN: usize = OPEN_CELLS * FEW;
-
-const ALL_OPEN: usize = OPEN_CELLS * MOST_TYPES;
-
-// Whether the sheet fits, and its length: 0 if it does not fit.
-#[derive(Clone, Copy)]
-pub struct Written {
-    pub fits: bool,
-    pub length: usize,
-}
-
-fn mark(marks: &Marks, at: usize) -> usize
-    requires { at < mark_cells }
-    ensures value { result ≡ get_or marks.now at 0 }
-    ensures upper_bound { result < 65536 }
-{
-    wide16(marks[at])
-}
-
 // ---- the walk: parts left to right and before the whole, each type once
 
-// Gives i the next number of the sheet, unless it has one.
-fn complete(marks: &mut Marks, i: usize)
-    requires { Completing marks.old i }
-    ensures { marks.new ≡ completed marks.old i }
-{
-    if marks[i] == UNMET {
-        let k = mark(marks, MET);
-        marks[i] = (STRUCTURED + k) as u16;
-        marks[ORDER + k] = i as u16;
-        marks[MET] = (k + 1) as u16;
+impl Marks<'_> {
+    // Gives i the next number of the sheet, unless it has one.
+    fn complete(&mut self, i: usize)
+        requires { Completing self.old i }
+        ensures { self.new ≡ completed self.old i }
+    {
+        if self.numbers[i] == UNMET {
+            self.numbers[i] = (STRUCTURED + self.met) as u16;
+            self.order[self.met] = i as u16;
+            self.met += 1;
+        }
     }
-}
 
-// Whether type i is to be given a number: a plain type never is.
-fn is_new(marks: &Marks, i: usize) -> bool
-    requires { i < most_numbers }
-    ensures { New marks.now i result }
-{
-    if i < STRUCTURED {
-        return false;
+    // Whether type i is to be given a number: a plain type never is.
+    fn is_new(&self, i: usize) -> bool
+        requires { i < length self.now.numbers.now }
+        ensures { New self.now i result }
+    {
+        STRUCTURED <= i && self.numbers[i] == UNMET
     }
-    marks[i] == UNMET
-}
 
-fn path_cell(path: &[u16], at: usize) -> usize
-    requires { at < length path.now }
-    ensures value { result ≡ get_or path.now at 0 }
-    ensures upper_bound { result < 65536 }
-{
-    wide16(path[at])
-}
+    // The number in the sheet of type i, which is plain or was met.
+    fn number_of(&self, i: usize) -> usize
+        requires { i < length self.now.numbers.now }
+        ensures number_of { NumberOf self.now i result }
+        ensures upper_bound { result < 65536 }
+    {
+        if i < STRUCTURED {
+            return i;
+        }
+        usize::from(self.numbers[i])
+    }
 
-// Type i is open type k from here on.
-fn begin_type(path: &mut [u16], k: usize, i: usize)
-    requires { (next_cell k < length path.old) × (i < most_numbers) }
-    ensures { path.new ≡ begun_at path.old k i }
-{
-    path[OPEN_CELLS * k] = i as u16;
-    path[OPEN_CELLS * k + NEXT_PART] = 0;
+    // The table's number of type k of the sheet.
+    fn type_at(&self, k: usize) -> usize
+        requires { k < length self.now.order.now }
+        ensures { result ≡ type_met self.now k }
+    {
+        usize::from(self.order[k])
+    }
 }
 
 // One step of the walk, at the innermost of the open types: it is completed if no part is left. A part that is to be
 // given a number is begun, and looked at again once it has one; any other is passed. Returns how many are open then.
-fn step(table: &[u16], marks: &mut Marks, path: &mut [u16], depth: usize) -> usize
+fn step(table: &[u16], marks: &mut Marks, path: &mut [Open], depth: usize) -> usize
     requires { Stepping table.now marks.old path.old depth }
     ensures { Stepped table.now marks.old marks.new
         path.old path.new depth result }
 {
     let k = depth - 1;
-    let i = path_cell(path, OPEN_CELLS * k);
-    let j = path_cell(path, OPEN_CELLS * k + NEXT_PART);
+    let i = usize::from(path[k].ty);
+    let j = usize::from(path[k].next);
     if j == parts_of(table, i) {
-        complete(marks, i);
+        marks.complete(i);
         return k;
     }
     let p = part_at(table, i, j);
-    if is_new(marks, p) {
-        begin_type(path, depth, p);
+    if marks.is_new(p) {
+        path[depth] = Open {
+            ty: p as u16,
+            next: 0,
+        };
         return depth + 1;
     }
-    path[OPEN_CELLS * k + NEXT_PART] = (j + 1) as u16;
+    path[k].next += 1;
     depth
 }
 
 // Gives type i and what it is made of their numbers. Types nest up to MOST_TYPES deep: calls would need a frame for
-// each, so the open ones wait in cells.
-fn visit(table: &[u16], i: usize, marks: &mut Marks, path: &mut [u16])
+// each, so the open ones wait in an array.
+fn visit(table: &[u16], i: usize, marks: &mut Marks, path: &mut [Open])
     requires { Visiting table.now marks.old path.old i }
     ensures visited { Visited table.now marks.old marks.new i }
     ensures path_len_unchanged { length path.new ≡ length path.old }
 {
-    if !is_new(marks, i) {
+    if !marks.is_new(i) {
         return;
     }
-    begin_type(path, 0, i);
+    path[0] = Open {
+        ty: i as u16,
+        next: 0,
+    };
     let mut depth = 1;
     while 0 < depth {
         depth = step(table, marks, path, depth);
@@ -150,48 +141,34 @@ fn visit(table: &[u16], i: usize, marks: &mut Marks, path: &mut [u16])
 }
 
 // Visits the types of the names, in their order.
-fn meet_each(table: &[u16], names: &NameList, count: usize, marks: &mut Marks, path: &mut [u16])
-    requires meeting { Meeting table.now marks.old names.now count }
+fn meet_each(table: &[u16], names: &[ListedName], marks: &mut Marks, path: &mut [Open])
+    requires meeting { Meeting table.now marks.old names.now }
     requires open_room { OpenRoom marks.old path.old }
-    ensures { MetAll table.now marks.old marks.new
-        names.now count }
+    ensures { MetAll table.now marks.old marks.new names.now }
 {
-    let mut k = 0;
-    while k < count {
-        visit(table, type_of(names, k), marks, path);
-        k += 1;
+    for name in names {
+        visit(table, name.ty as usize, marks, path);
     }
 }
 
-// A function of its own for each size of the array: a small one is soon filled.
-fn meet_few(table: &[u16], names: &NameList, count: usize, marks: &mut Marks)
-    requires meeting { Meeting table.now marks.old names.now count }
-    requires marks_bound { type_count marks.old ≤ few_types }
-    ensures { MetAll table.now marks.old marks.new
-        names.now count }
+// A function of its own for each size of the array, with a frame of its own: a small one is soon filled.
+fn meet_in<const TYPES: usize>(table: &[u16], names: &[ListedName], marks: &mut Marks)
+    requires meeting { Meeting table.now marks.old names.now }
+    requires room { (marks.old.counts.types ≤ TYPES + 8) × (TYPES ≤ most_types) }
+    ensures { MetAll table.now marks.old marks.new names.now }
 {
-    let mut path = [FRESH; FEW_OPEN];
-    meet_each(table, names, count, marks, &mut path);
+    let mut path = [NONE_OPEN; TYPES];
+    meet_each(table, names, marks, &mut path);
 }
 
-fn meet_many(table: &[u16], names: &NameList, count: usize, marks: &mut Marks)
-    requires { Meeting table.now marks.old names.now count }
-    ensures { MetAll table.now marks.old marks.new
-        names.now count }
+fn meet_all(table: &[u16], names: &[ListedName], marks: &mut Marks)
+    requires { Meeting table.now marks.old names.now }
+    ensures { MetAll table.now marks.old marks.new names.now }
 {
-    let mut path = [FRESH; ALL_OPEN];
-    meet_each(table, names, count, marks, &mut path);
-}
-
-fn meet_all(table: &[u16], names: &NameList, count: usize, marks: &mut Marks)
-    requires { Meeting table.now marks.old names.now count }
-    ensures { MetAll table.now marks.old marks.new
-        names.now count }
-{
-    if mark(marks, TYPE_COUNT) <= FEW {
-        meet_few(table, names, count, marks);
+    if marks.counts.types <= FEW {
+        meet_in::<FEW>(table, names, marks);
     } else {
-        meet_many(table, names, count, marks);
+        meet_in::<MOST_TYPES>(table, names, marks);
     }
 }
 
@@ -202,10 +179,10 @@ fn elements_in(table: &[u16], i: usize) -> usize
     requires { i < capacity table.now }
     ensures { ElementsIn table.now i result }
 {
-    if kind_of(table, i) == TUPLE {
-        return parts_of(table, i);
+    match kind_of(table, i) {
+        Kind::Tuple => parts_of(table, i),
+        _ => 0,
     }
-    0
 }
 
 // How many elements the types of the sheet have.
@@ -214,43 +191,22 @@ fn elements_of(table: &[u16], marks: &Marks) -> usize
     ensures value { result ≡ length (elements_met table.now marks.now) }
     ensures upper_bound { result ≤ most_written }
 {
-    let n = mark(marks, MET);
-    let mut k = 0;
     let mut sum = 0;
-    while k < n {
-        sum += elements_in(table, mark(marks, ORDER + k));
-        k += 1;
+    for k in 0..marks.met {
+        sum += elements_in(table, marks.type_at(k));
     }
     sum
 }
 
 // How many bytes the names' texts have.
-fn size_of(names: &NameList, count: usize) -> usize
-    requires { Short names.now count }
-    ensures { (result ≡ listed_size names.now 0 count) × (result ≤ most_text) }
+fn size_of(names: &[ListedName]) -> usize
+    requires { length names.now ≤ most_names }
+    ensures { result ≡ listed_size names.now }
 {
-    let mut k = 0;
-    let mut sum = 0;
-    while k < count {
-        sum += length_of(names, k);
-        k += 1;
-    }
-    sum
+    names.iter().map(|name| name.len as usize).sum()
 }
 
 // ---- areas
-
-// The number in the sheet of type i, which is plain or was met.
-fn number_of(marks: &Marks, i: usize) -> usize
-    requires { i < most_numbers }
-    ensures number_of { NumberOf marks.now i result }
-    ensures upper_bound { result < 65536 }
-{
-    if i < STRUCTURED {
-        return i;
-    }
-    mark(marks, i)
-}
 
 fn put_three(out: &mut [u8], at: usize, a: usize, b: usize, c: usize)
     requires at_in_bounds { at + 12 ≤ length out.old }
@@ -270,29 +226,27 @@ fn write_type(table: &[u16], marks: &Marks, i: usize, from: usize, out: &mut [u8
         (record_bytes (tab_of table.now marks.now) marks.now from i) }
 {
     let kind = kind_of(table, i);
-    if kind == TUPLE {
-        put_three(out, at, TUPLE, from, parts_of(table, i));
-    } else {
-        let p = number_of(marks, part_of(table, i));
-        let q = number_of(marks, second_of(table, i));
-        put_three(out, at, kind, p, q);
-    }
+    let (p, q) = match kind {
+        Kind::Tuple => (from, parts_of(table, i)),
+        _ => (
+            marks.number_of(part_of(table, i)),
+            marks.number_of(second_of(table, i)),
+        ),
+    };
+    put_three(out, at, kind.number(), p, q);
 }
 
 fn write_types(table: &[u16], marks: &Marks, out: &mut [u8])
     requires marked { Marked (tab_of table.now marks.now) marks.now }
-    requires marks_in_bounds { 40 + 12 * count_in marks.now ≤ length out.old }
+    requires marks_in_bounds { 40 + 12 * marks.now.met ≤ length out.old }
     ensures { Put out.old out.new 40
         (types_bytes (tab_of table.now marks.now) marks.now) }
 {
-    let n = mark(marks, MET);
-    let mut k = 0;
     let mut from = 0;
-    while k < n {
-        let i = mark(marks, ORDER + k);
+    for k in 0..marks.met {
+        let i = marks.type_at(k);
         write_type(table, marks, i, from, out, header::LENGTH + TYPE_RECORD * k);
         from += elements_in(table, i);
-        k += 1;
     }
 }
 
@@ -306,11 +260,9 @@ fn write_parts(table: &[u16], marks: &Marks, i: usize, out: &mut [u8], at: usize
         + 4 * length (elements_in (denote (tab_of table.now marks.now) i)) }
 {
     let n = elements_in(table, i);
-    let mut j = 0;
-    while j < n {
-        let w = number_of(marks, part_at(table, i, j));
+    for j in 0..n {
+        let w = marks.number_of(part_at(table, i, j));
         put_word(out, at + ELEMENT * j, w as u32);
-        j += 1;
     }
     at + ELEMENT * n
 }
@@ -321,98 +273,84 @@ fn write_elements(table: &[u16], marks: &Marks, out: &mut [u8], from: usize)
     ensures { Put out.old out.new from
         (elements_bytes (tab_of table.now marks.now) marks.now) }
 {
-    let n = mark(marks, MET);
-    let mut k = 0;
     let mut at = from;
-    while k < n {
-        at = write_parts(table, marks, mark(marks, ORDER + k), out, at);
-        k += 1;
+    for k in 0..marks.met {
+        at = write_parts(table, marks, marks.type_at(k), out, at);
     }
 }
 
-fn write_names(marks: &Marks, names: &NameList, count: usize, out: &mut [u8], at: usize)
-    requires { NamesFit names.now count out.old at }
-    ensures { NamesPut marks.now names.now count
-        out.old out.new at }
+fn write_names(marks: &Marks, names: &[ListedName], out: &mut [u8], at: usize)
+    requires { NamesFit marks.now names.now out.old at }
+    ensures { NamesPut marks.now names.now out.old out.new at }
 {
-    let mut k = 0;
     let mut from = 0;
-    while k < count {
-        let len = length_of(names, k);
-        let ty = number_of(marks, type_of(names, k));
+    for (k, name) in names.iter().enumerate() {
+        let len = name.len as usize;
+        let ty = marks.number_of(name.ty as usize);
         put_three(out, at + NAME_RECORD * k, from, len, ty);
         from += len;
-        k += 1;
     }
 }
 
-fn write_texts(source: &[u8], names: &NameList, count: usize, out: &mut [u8], from: usize)
-    requires { TextsFit source.now names.now count out.old from }
-    ensures { Put out.old out.new from
-        (listed_texts source.now names.now 0 count) }
+fn write_texts(source: &[u8], names: &[ListedName], out: &mut [u8], from: usize)
+    requires { TextsFit source.now names.now out.old from }
+    ensures { Put out.old out.new from (listed_texts source.now names.now) }
 {
-    let mut k = 0;
     let mut at = from;
-    while k < count {
-        let start = start_of(names, k);
-        let len = length_of(names, k);
-        at = put(out, at, text(source, start, len));
-        k += 1;
+    for name in names {
+        at = put(
+            out,
+            at,
+            text(source, name.start as usize, name.len as usize),
+        );
     }
 }
 
 // ---- the whole
 
-fn write_header(out: &mut [u8], types: usize, elements: usize, names: usize, size: usize)
-    requires { (types ≤ most_types) × (elements ≤ most_written) × (names ≤ most_names) × (size ≤ most_text)
-        × (40 ≤ length out.old) }
-    ensures { Put out.old out.new 0 (header_bytes types elements names size) }
+fn write_header(out: &mut [u8], areas: Areas, size: usize)
+    requires { (size ≤ most_text) × (40 ≤ length out.old) }
+    ensures { Put out.old out.new 0 (header_bytes areas.types areas.elements areas.names size) }
 {
-    let a = header::LENGTH + TYPE_RECORD * types;
-    let b = a + ELEMENT * elements;
-    let c = b + NAME_RECORD * names;
-    put_three(out, header::VERSION, header::OURS, types, header::LENGTH);
-    put_three(out, header::ELEMENT_COUNT, elements, a, names);
-    put_three(out, header::NAMES, b, size, c);
-    put_word(out, header::TOTAL, (c + size) as u32);
+    put_three(
+        out,
+        header::VERSION,
+        header::OURS,
+        areas.types,
+        header::LENGTH,
+    );
+    put_three(
+        out,
+        header::ELEMENT_COUNT,
+        areas.elements,
+        areas.elements_at(),
+        areas.names,
+    );
+    put_three(out, header::NAMES, areas.names_at(), size, areas.texts_at());
+    put_word(out, header::TOTAL, (areas.texts_at() + size) as u32);
 }
 
 fn fill(
     source: &[u8],
     table: &[u16],
     marks: &Marks,
-    names: &NameList,
-    count: usize,
-    elements: usize,
+    names: &[ListedName],
+    areas: Areas,
     size: usize,
     out: &mut [u8],
 )
-    requires { Filling source.now table.now marks.now names.now count elements size out.old }
+    requires { Filling source.now table.now marks.now names.now areas size out.old }
     ensures { Put out.old out.new 0
-        (sheet_of (listed source.now (tab_of table.now marks.now)
-        names.now count)) }
+        (sheet_of (map (entry_of source.now (tab_of table.now marks.now)) names.now)) }
 {
-    let types = mark(marks, MET);
-    let a = header::LENGTH + TYPE_RECORD * types;
-    let b = a + ELEMENT * elements;
-    let c = b + NAME_RECORD * count;
-    write_header(out, types, elements, count, size);
+    write_header(out, areas, size);
     write_types(table, marks, out);
-    write_elements(table, marks, out, a);
-    write_names(marks, names, count, out, b);
-    write_texts(source, names, count, out, c);
+    write_elements(table, marks, out, areas.elements_at());
+    write_names(marks, names, out, areas.names_at());
+    write_texts(source, names, out, areas.texts_at());
 }
 
-fn begin(marks: &mut Marks, counts: Counts)
-    requires { (counts.types ≤ most_numbers) × (counts.elements ≤ most_numbers) }
-    ensures { marks.new ≡ begun marks.old counts.types counts.elements }
-{
-    marks[MET] = 0;
-    marks[TYPE_COUNT] = counts.types as u16;
-    marks[ELEMENT_COUNT] = counts.elements as u16;
-}
-
-// Writes the sheet of the names to the front of `out` if it fits: if not, no byte changes.
+// Writes the sheet of the names to the front of `out` if it fits, and gives its length: if not, no byte changes.
 pub fn write(
     source: &[u8],
     table: &[u16],
@@ -420,30 +358,31 @@ pub fn write(
     names: &NameList,
     count: usize,
     out: &mut [u8],
-) -> Written
+) -> Option<usize>
     requires { Listing source.now (tab table.now counts.types counts.elements) names.now count }
     ensures { Wrote (listed source.now (tab table.now counts.types counts.elements)
-        names.now count) result.fits result.length out.old out.new }
+        names.now count) result out.old out.new }
 {
-    let mut marks = [UNMET; MARK_CELLS];
-    begin(&mut marks, counts);
-    meet_all(table, names, count, &mut marks);
-    let elements = elements_of(table, &marks);
-    let size = size_of(names, count);
-    let total = header::LENGTH
-        + TYPE_RECORD * mark(&marks, MET)
-        + ELEMENT * elements
-        + NAME_RECORD * count
-        + size;
+    let mut numbers = [UNMET; STRUCTURED + MOST_TYPES];
+    let mut order = [UNMET; MOST_TYPES];
+    let mut marks = Marks {
+        numbers: &mut numbers,
+        order: &mut order,
+        met: 0,
+        counts,
+    };
+    let names = &names[..count];
+    meet_all(table, names, &mut marks);
+    let areas = Areas {
+        types: marks.met,
+        elements: elements_of(table, &marks),
+        names: names.len(),
+    };
+    let size = size_of(names);
+    let total = areas.texts_at() + size;
     if out.len() < total {
-        return Written {
-            fits: false,
-            length: 0,
-        };
+        return None;
     }
-    fill(source, table, &marks, names, count, elements, size, out);
-    Written {
-        fits: true,
-        length: total,
-    }
+    fill(source, table, &marks, names, areas, size, out);
+    Some(total)
 }

@@ -55,10 +55,10 @@ pub shown_dotted : (ty : Ty) → leb (length (text ty)) longest_shown ≡ false 
 unfolding shown test◌then◌else◌
 shown_dotted ty e = rw e
 
--- a kind that has no dotted form
-pub no_dots : (k : ℕ) → (k ≡ 8 → ⊥) → (k ≡ 9 → ⊥) → (k ≡ 10 → ⊥) → (k ≡ 11 → ⊥) → (k ≡ 12 → ⊥) → dotted k ≡ []
+-- a plain kind has no dotted form
+pub no_dots : (k : ℕ) → k < 8 → dotted k ≡ []
 unfolding dotted choose test◌then◌else◌ bytes
-no_dots k a b c d e = rw (ne_eqb k 8 a, ne_eqb k 9 b, ne_eqb k 10 c, ne_eqb k 11 d, ne_eqb k 12 e)
+no_dots k h = rw (ne_eqb k 8 (omega arith), ne_eqb k 9 (omega arith), ne_eqb k 10 (omega arith), ne_eqb k 11 (omega arith), ne_eqb k 12 (omega arith))
 
 pub wrote_nothing : (d : List ℕ) (at : ℕ) → at ≤ length d → Wrote d at [] d at
 wrote_nothing d at h = record { same = sym (put_nil d at); ends = omega arith; long = refl; inside = h }

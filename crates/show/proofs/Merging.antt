@@ -141,30 +141,31 @@ module _ {olds news : List Entry} {p : Place} {d : List ℕ} (a : Ahead olds new
 
 -- ---- all of them
 
-pub record ChangesLeft (olds news : List Entry) (d₀ d : List ℕ) (i j at : ℕ) : Type 0 where
-  pub olds_in : i ≤ length olds
-  pub news_in : j ≤ length news
-  pub left : Left d at (changes_text (left_from olds news i j)) d₀ 0 (changes_text (changes olds news))
+pub record ChangesLeft (olds news : List Entry) (d₀ d : List ℕ) (p : Place) : Type 0 where
+  pub olds_in : p.old ≤ length olds
+  pub news_in : p.new ≤ length news
+  pub left : Left d p.at (changes_text (left_from olds news p.old p.new)) d₀ 0 (changes_text (changes olds news))
 
-pub changes_first : (olds news : List Entry) (d : List ℕ) → length (changes_text (changes olds news)) ≤ length d → ChangesLeft olds news d d 0 0 0
+pub changes_first : (olds news : List Entry) (d : List ℕ) → length (changes_text (changes olds news)) ≤ length d
+    → ChangesLeft olds news d d (record { old = 0; new = 0; at = 0 })
 changes_first olds news d h = record { olds_in = omega arith; news_in = omega arith; left = left_all d 0 (changes_text (changes olds news)) (omega (arith, h)) }
 
-module _ {olds news : List Entry} {d₀ d : List ℕ} {i j at : ℕ} (l : ChangesLeft olds news d₀ d i j at) where
-  pub changes_ahead : i + j < length olds + length news → Ahead olds news (record { old = i; new = j; at = at }) d
+module _ {olds news : List Entry} {d₀ d : List ℕ} {p : Place} (l : ChangesLeft olds news d₀ d p) where
+  pub changes_ahead : p.old + p.new < length olds + length news → Ahead olds news p d
   changes_ahead h = record { olds_in = l.olds_in; news_in = l.news_in; some_left = h; room = l.left.fits }
 
-  pub changes_next : {q : Place} {e : List ℕ} → Stepped olds news (record { old = i; new = j; at = at }) q d e → ChangesLeft olds news d₀ e q.old q.new q.at
+  pub changes_next : {q : Place} {e : List ℕ} → Stepped olds news p q d e → ChangesLeft olds news d₀ e q
   changes_next {q} s = record {
     olds_in = s.olds_in;
     news_in = s.news_in;
     left = left_step s.line (changes_text (left_from olds news q.old q.new)) (left_as s.left l.left) s.wrote.same s.wrote.ends;
   }
 
-  pub changes_end : (i + j < length olds + length news → ⊥) → Wrote d₀ 0 (changes_text (changes olds news)) d at
+  pub changes_end : (p.old + p.new < length olds + length news → ⊥) → Wrote d₀ 0 (changes_text (changes olds news)) d p.at
   unfolding changes_text changes all_came
   changes_end n =
-      let o : length olds ≤ i = omega (arith, n, l.olds_in, l.news_in) in
-      let w : length news ≤ j = omega (arith, n, l.olds_in, l.news_in) in
-      let none : changes_text (left_from olds news i j) ≡ [] = rw (drop_of_length-le olds o, drop_of_length-le news w) in
+      let o : length olds ≤ p.old = omega (arith, n, l.olds_in, l.news_in) in
+      let w : length news ≤ p.new = omega (arith, n, l.olds_in, l.news_in) in
+      let none : changes_text (left_from olds news p.old p.new) ≡ [] = rw (drop_of_length-le olds o, drop_of_length-le news w) in
       let z = left_none (left_as none l.left) in
       record { same = z.0; ends = z.1; long = l.left.long; inside = omega (arith, l.left.fits) }

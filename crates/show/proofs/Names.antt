@@ -1,6 +1,5 @@
 -- A sheet that was read: its names are the sheet's, each with its type.
 use mathlib.Core.Path.{◌≡◌, refl, sym, ap, ◌∙◌}
-use mathlib.Core.Bool.{true}
 use mathlib.Core.List.{List, []}
 use Prim.Native.Nat.{ℕ, ◌+◌, ◌<◌, ◌≤◌}
 use native.Mathlib.Nat.{zero-add}
@@ -19,62 +18,50 @@ use Rattle.types.proofs.Parts.{type_is}
 use Rattle.message.specs.Texts.{AllKnown}
 use Rattle.sheet.specs.Listing.{start_at, length_at, type_at, listed, listed_from, Listing}
 use Rattle.sheet.specs.Listing.{entry_at as entry_in}
-use Rattle.sheet.specs.Reading.{Reads}
-use Rattle.sheet.specs.declared.reader.ReadSheet.{ReadSheet}
-use Rattle.show.specs.Words.{Opened, entry_of, Named}
+use Rattle.show.specs.Words.{entry_of}
+use Rattle.show.specs.declared.Opened.{Opened}
 
-module _ {bs cs cells : List ℕ} {r : ReadSheet} (o : Opened bs cs cells r) where
+module _ (o : Opened) where
   abbrev its : Tab
-  its = tab cs r.counts.types r.counts.elements
+  its = tab o.table.now o.read.counts.types o.read.counts.elements
 
-  pub its_names : Listing bs its cells r.names
-  its_names = o.reads.listing o.stands
+  pub its_names : Listing o.sheet.now its o.names.now o.read.names
+  its_names = o.reads.listing
 
-  pub its_sheet : SheetOf bs (entries_in bs)
-  its_sheet = sheet_is bs (sym o.reads.stands_is ∙ o.stands)
+  pub its_sheet : SheetOf o.sheet.now (entries_in o.sheet.now)
+  its_sheet = sheet_is o.sheet.now (sym o.reads.stands_is)
 
-  pub names_many : length (entries_in bs) ≡ r.names
+  pub names_many : length (entries_in o.sheet.now) ≡ o.read.names
   unfolding listed listed_from
-  names_many = ap length (sym (o.reads.listed_is o.stands)) ∙ length-map (count 0 r.names) (entry_in bs its cells) ∙ count_long 0 r.names
+  names_many = ap length (sym o.reads.listed_is) ∙ length-map (count 0 o.read.names) (entry_in o.sheet.now its o.names.now) ∙ count_long 0 o.read.names
 
-  module _ {k : ℕ} (h : k < r.names) where
-    pub entry_is : entry_of bs k ≡ (take (length_at cells k) (drop (start_at cells k) bs), denote its (type_at cells k))
+  module _ {k : ℕ} (h : k < o.read.names) where
+    pub entry_is : entry_of o.sheet.now k ≡ (take (length_at o.names.now k) (drop (start_at o.names.now k) o.sheet.now), denote its (type_at o.names.now k))
     unfolding listed listed_from entry_in
     entry_is =
-        ap (λ (es : List Entry). get_or es k ([], unknown)) (sym (o.reads.listed_is o.stands)) ∙ counted_at (entry_in bs its cells) ([], unknown) 0 r.names k h
-        ∙ ap (entry_in bs its cells) (zero-add k)
+        ap (λ (es : List Entry). get_or es k ([], unknown)) (sym o.reads.listed_is) ∙ counted_at (entry_in o.sheet.now its o.names.now) ([], unknown) 0 o.read.names k h
+        ∙ ap (entry_in o.sheet.now its o.names.now) (zero-add k)
 
     pub few_names : k < most_names
     few_names = omega (arith, h, its_names.few)
 
-    pub name_inside : start_at cells k + length_at cells k ≤ length bs
+    pub name_inside : start_at o.names.now k + length_at o.names.now k ≤ length o.sheet.now
     name_inside = its_names.inside k h
 
-    pub name_is : take (length_at cells k) (drop (start_at cells k) bs) ≡ (entry_of bs k).0
+    pub name_is : take (length_at o.names.now k) (drop (start_at o.names.now k) o.sheet.now) ≡ (entry_of o.sheet.now k).0
     name_is = ap (λ (e : Entry). e.0) (sym entry_is)
 
-    pub name_told : {s : List ℕ} {from size : ℕ} → s ≡ take size (drop from bs) → from ≡ start_at cells k → size ≡ length_at cells k → s ≡ (entry_of bs k).0
+    pub name_told : {s : List ℕ} {from size : ℕ} → s ≡ take size (drop from o.sheet.now) → from ≡ start_at o.names.now k → size ≡ length_at o.names.now k → s ≡ (entry_of o.sheet.now k).0
     name_told e f z = rw (e, f, z) name_is
 
-    pub types_known : AllKnown cs (type_at cells k + 1)
+    pub types_known : AllKnown o.table.now (type_at o.names.now k + 1)
     types_known =
-        let w = its_names.wf in
+        let v = its_names.wf in
         let l = its_names.known k h in
         record {
-          most = omega (arith, l, w.room, w.most);
-          each = λ i b. record { table = its; cells = refl; wf = w; below = omega (arith, b, l) };
+          most = omega (arith, l, v.room, v.most);
+          each = λ i b. record { table = its; cells = refl; wf = v; below = omega (arith, b, l) };
         }
 
-    pub type_told : type_of cs (type_at cells k) ≡ (entry_of bs k).1
-    type_told = type_is its cs refl (type_at cells k) (its_names.known k h) ∙ ap (λ (e : Entry). e.1) (sym entry_is)
-
-  pub its_named : Named bs cells r.names
-  its_named = record { few = its_names.few; many = names_many; inside = λ k h. name_inside h; spelled = λ k h. name_is h }
-
-pub spelled_as : {bs cells : List ℕ} {n : ℕ} → Named bs cells n → {k : ℕ} → k < n → {s : List ℕ} {from size : ℕ} → s ≡ take size (drop from bs) → from ≡ start_at cells k → size ≡ length_at cells k
-    → s ≡ (entry_of bs k).0
-spelled_as w {k} h e f z = rw (e, f, z) (w.spelled k h)
-
--- what the reader tells of a sheet, where it stands
-pub opened : {bs cs cells : List ℕ} {r : ReadSheet} → Reads bs r.stands (tab cs r.counts.types r.counts.elements) cells r.names → r.stands ≡ true → Opened bs cs cells r
-opened x e = record { stands = e; reads = x }
+    pub type_told : type_of o.table.now (type_at o.names.now k) ≡ (entry_of o.sheet.now k).1
+    type_told = type_is its o.table.now refl (type_at o.names.now k) (its_names.known k h) ∙ ap (λ (e : Entry). e.1) (sym entry_is)

@@ -1,6 +1,5 @@
 -- What `show` and `changes` promise, from their parts; and that no second outcome fits.
 use mathlib.Core.Path.{◌≡◌, refl, sym, ap, ◌∙◌}
-use mathlib.Core.Bool.{Bool, false}
 use mathlib.Core.Logic.{inl, inr}
 use mathlib.Core.List.{List, [], ◌∷◌}
 use mathlib.Core.Option.{none, some}
@@ -10,21 +9,20 @@ use lib.ListN.{length, take}
 use lib.Seq.{length-take-le}
 use Rattle.meaning.specs.Limits.{largest_show, largest_changes}
 use Rattle.meaning.specs.Base.{test◌then◌else◌, choose}
-use Rattle.meaning.specs.Read.{entries_in, read_sheet}
+use Rattle.meaning.specs.Read.{entries_in, read_sheet, SheetOf}
 use Rattle.meaning.specs.Show.{entries_text, changes_text, changes, InWords, in_words, show_answer, changes_answer}
 use Rattle.meaning.proofs.Answers.{overlaid_front, overlaid_none}
-use Rattle.meaning.proofs.SheetForm.{read_some, read_no}
+use Rattle.meaning.proofs.SheetForm.{sheet_is, read_some, read_no}
 use Rattle.meaning.proofs.Shown.{entries_size, changes_size}
 use Rattle.meaning.proofs.InWords.{words_fit, words_too_long, show_some, show_none, changes_none, changes_both}
 use Rattle.words.specs.Words.{put_at, Wrote}
 use Rattle.words.proofs.Laws.{put_overlaid}
-use Rattle.types.specs.Table.{Tab}
 use Rattle.sheet.specs.Reading.{Reads}
+use Rattle.std.specs.Prelude.{Some, None, Ok, Err}
+use Rattle.show.specs.Words.{Tells, Telling, telling_code, telling_length}
+use Rattle.show.specs.declared.Untold.TheVariants.{NoRoom, NoSheet}
+use Rattle.sheet.specs.declared.list.ListedName.{ListedName}
 use Rattle.sheet.specs.declared.reader.ReadSheet.{ReadSheet}
-use Rattle.show.specs.Words.{Opened, Tells, telling_code, telling_length}
-use Rattle.show.specs.declared.Telling.{Telling}
-use Rattle.show.specs.declared.Telling.TheVariants.{Told, NoRoom, NoSheet}
-use Rattle.show.proofs.Names.{its_sheet}
 
 -- ---- a text is handed out
 
@@ -49,46 +47,52 @@ front_is {d} {s} {e} {n} p =
 
 -- ---- a sheet, or none
 
-module _ {bs cells : List ℕ} {t : Tab} {n : ℕ} {stands : Bool} (r : Reads bs stands t cells n) where
-  none_read : stands ≡ false → read_sheet bs ≡ none
-  none_read e = read_no bs (sym r.stands_is ∙ e)
+module _ {bs cs : List ℕ} {cells : List ListedName} (r : Reads bs None cs cells) where
+  none_read : read_sheet bs ≡ none
+  none_read = read_no bs (sym r.stands_is)
 
-  pub not_shown : stands ≡ false → (room : ℕ) (out : List ℕ) → Tells (show_answer bs room) 12 0 out out
-  not_shown e room out = rw (show_none bs room (none_read e)) (refused 12 out)
+  pub not_shown : (room : ℕ) (out : List ℕ) → Tells (show_answer bs room) 12 0 out out
+  not_shown room out = rw (show_none bs room none_read) (refused 12 out)
 
-  pub old_none : stands ≡ false → (new : List ℕ) (room : ℕ) (out : List ℕ) → Tells (changes_answer bs new room) 12 0 out out
-  old_none e new room out = rw (changes_none bs new room (inl (none_read e))) (refused 12 out)
+  pub old_none : (new : List ℕ) (room : ℕ) (out : List ℕ) → Tells (changes_answer bs new room) 12 0 out out
+  old_none new room out = rw (changes_none bs new room (inl none_read)) (refused 12 out)
 
-  pub new_none : stands ≡ false → (old : List ℕ) (room : ℕ) (out : List ℕ) → Tells (changes_answer old bs room) 12 0 out out
-  new_none e old room out = rw (changes_none old bs room (inr (none_read e))) (refused 12 out)
+  pub new_none : (old : List ℕ) (room : ℕ) (out : List ℕ) → Tells (changes_answer old bs room) 12 0 out out
+  new_none old room out = rw (changes_none old bs room (inr none_read)) (refused 12 out)
 
-module _ {bs cs cells : List ℕ} {r : ReadSheet} (o : Opened bs cs cells r) where
-  pub shown_room : length (entries_text (entries_in bs)) ≤ largest_show
-  shown_room = entries_size (entries_in bs) (its_sheet o).limits
+module _ {bs cs : List ℕ} {cells : List ListedName} {s : ReadSheet} (r : Reads bs (Some s) cs cells) where
+  its_sheet : SheetOf bs (entries_in bs)
+  its_sheet = sheet_is bs (sym r.stands_is)
 
   its_read : read_sheet bs ≡ some (entries_in bs)
-  its_read = (read_some bs (entries_in bs)).1 (its_sheet o)
+  its_read = (read_some bs (entries_in bs)).1 its_sheet
 
-  pub shown_all : (room : ℕ) {s : List ℕ} → s ≡ entries_text (entries_in bs) → show_answer bs room ≡ in_words room s
+  pub shown_room : length (entries_text (entries_in bs)) ≤ largest_show
+  shown_room = entries_size (entries_in bs) its_sheet.limits
+
+  pub shown_all : (room : ℕ) {t : List ℕ} → t ≡ entries_text (entries_in bs) → show_answer bs room ≡ in_words room t
   shown_all room e = rw e (show_some bs room its_read)
 
-module _ {bs cs cells bs₂ cs₂ cells₂ : List ℕ} {r r₂ : ReadSheet} (o : Opened bs cs cells r) (o₂ : Opened bs₂ cs₂ cells₂ r₂) where
-  pub changes_room : length (changes_text (changes (entries_in bs) (entries_in bs₂))) ≤ largest_changes
-  changes_room = changes_size (entries_in bs) (entries_in bs₂) (its_sheet o).limits (its_sheet o₂).limits
+  module _ {bs₂ cs₂ : List ℕ} {cells₂ : List ListedName} {s₂ : ReadSheet} (r₂ : Reads bs₂ (Some s₂) cs₂ cells₂) where
+    other_sheet : SheetOf bs₂ (entries_in bs₂)
+    other_sheet = sheet_is bs₂ (sym r₂.stands_is)
 
-  pub changes_all : (room : ℕ) {s : List ℕ} → s ≡ changes_text (changes (entries_in bs) (entries_in bs₂)) → changes_answer bs bs₂ room ≡ in_words room s
-  changes_all room e = rw e (changes_both bs bs₂ room (its_read o) (its_read o₂))
+    pub changes_room : length (changes_text (changes (entries_in bs) (entries_in bs₂))) ≤ largest_changes
+    changes_room = changes_size (entries_in bs) (entries_in bs₂) its_sheet.limits other_sheet.limits
+
+    pub changes_all : (room : ℕ) {t : List ℕ} → t ≡ changes_text (changes (entries_in bs) (entries_in bs₂)) → changes_answer bs bs₂ room ≡ in_words room t
+    changes_all room e = rw e (changes_both bs bs₂ room its_read ((read_some bs₂ (entries_in bs₂)).1 other_sheet))
 
 -- ---- no second outcome fits
 
 unfoldable telling_from : ℕ → ℕ → Telling
-telling_from code size = choose code NoSheet ((0, Told size) ∷ (10, NoRoom) ∷ [])
+telling_from code size = choose code (Err NoSheet) ((0, Ok size) ∷ (10, Err NoRoom) ∷ [])
 
 telling_back : (r : Telling) → telling_from (telling_code r) (telling_length r) ≡ r
 unfolding telling_from choose test◌then◌else◌
-telling_back (Told n) = refl
-telling_back NoRoom = refl
-telling_back NoSheet = refl
+telling_back (Ok n) = refl
+telling_back (Err NoRoom) = refl
+telling_back (Err NoSheet) = refl
 
 pub one_telling : (a : InWords) (r q : Telling) {old new₁ new₂ : List ℕ} → Tells a (telling_code r) (telling_length r) old new₁ → Tells a (telling_code q) (telling_length q) old new₂
     → (r ≡ q) × (new₁ ≡ new₂)

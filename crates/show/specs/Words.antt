@@ -1,28 +1,31 @@
 -- What the functions that tell a sheet in words need and leave.
-use Rattle.std.specs.Prelude.{◌≡◌, true, List, [], ◌∷◌, ◌++◌, ℕ, ◌+◌, ◌-◌, ◌*◌, ◌<◌, ◌≤◌, length, get_or, take, drop}
+use mathlib.Core.HLevel.{hedberg}
+use Rattle.std.proofs.Props.{props}
+use Rattle.std.specs.Prelude.{◌≡◌, List, [], ◌∷◌, ◌++◌, ℕ, ◌+◌, ◌-◌, ◌*◌, ◌<◌, ◌≤◌, length, get_or, drop, Some, Result, Ok, Err}
 use Rattle.meaning.specs.Limits.{most_names, longest_name, largest_sheet}
 use Rattle.meaning.specs.Base.{bytes}
-use Rattle.meaning.specs.Types.{Ty, unknown}
+use Rattle.meaning.specs.Types.{Ty, Ty-discrete, unknown}
 use Rattle.meaning.specs.Sheet.{Entry}
 use Rattle.meaning.specs.Read.{entries_in}
 use Rattle.meaning.specs.Answer.{overlaid}
 use Rattle.meaning.specs.Show.{Change, came, went, turned, change_text, changes_text, retyped, changes, InWords}
 use Rattle.words.specs.Words.{Wrote}
-use Rattle.types.specs.Table.{tab}
-use Rattle.sheet.specs.Listing.{start_at, length_at}
+use Rattle.types.specs.Table.{Chained}
 use Rattle.sheet.specs.Reading.{Reads}
+use Rattle.sheet.specs.declared.list.ListedName.{ListedName}
 use Rattle.sheet.specs.declared.reader.ReadSheet.{ReadSheet}
 use Rattle.show.specs.declared.Next.{Next}
 use Rattle.show.specs.declared.Next.TheVariants.{Came, Went, Both}
 use Rattle.show.specs.declared.Place.{Place}
-use Rattle.show.specs.declared.Telling.{Telling}
-use Rattle.show.specs.declared.Telling.TheVariants.{Told, NoRoom, NoSheet}
+use Rattle.show.specs.declared.Untold.{Untold}
+use Rattle.show.specs.declared.Untold.TheVariants.{NoRoom, NoSheet}
 
 -- ---- a sheet that was read into a table and a list of names
 
-pub record Opened (bs cs cells : List ℕ) (r : ReadSheet) : Type 0 where
-  pub stands : r.stands ≡ true
-  pub reads : Reads bs r.stands (tab cs r.counts.types r.counts.elements) cells r.names
+-- that it was is so in one way only: a ghost field asks it
+pub Reads-prop : {bs cs : List ℕ} {s : ReadSheet} {cells : List ListedName} → IsProp (Reads bs (Some s) cs cells)
+unfolding Chained
+Reads-prop = Prim.hlevel (hedberg Ty-discrete, props)
 
 abbrev pub entry_at : List Entry → ℕ → Entry
 entry_at es k = get_or es k ([], unknown)
@@ -30,13 +33,6 @@ entry_at es k = get_or es k ([], unknown)
 -- its name k, with its type
 abbrev pub entry_of : List ℕ → ℕ → Entry
 entry_of bs k = entry_at (entries_in bs) k
-
--- the texts of its names lie in the bytes, whatever the table
-pub record Named (bs cells : List ℕ) (n : ℕ) : Type 0 where
-  pub few : n ≤ most_names
-  pub many : length (entries_in bs) ≡ n
-  pub inside : (k : ℕ) → k < n → start_at cells k + length_at cells k ≤ length bs
-  pub spelled : (k : ℕ) → k < n → take (length_at cells k) (drop (start_at cells k) bs) ≡ (entry_of bs k).0
 
 -- the largest sheet of one name: the largest of all without the records and texts of the other names
 abbrev pub largest_alone : ℕ
@@ -78,15 +74,18 @@ pub record Stepped (olds news : List Entry) (p q : Place) (d e : List ℕ) : Typ
 
 -- ---- the answers, by their numbers, and what is left of the buffer
 
+-- the length of the text that was told, or why none was
+abbrev pub Telling : Type 0
+Telling = Result ℕ Untold
+
 abbrev pub telling_code : Telling → ℕ
-telling_code (Told n) = 0
-telling_code NoRoom = 10
-telling_code NoSheet = 12
+telling_code (Ok n) = 0
+telling_code (Err NoRoom) = 10
+telling_code (Err NoSheet) = 12
 
 abbrev pub telling_length : Telling → ℕ
-telling_length (Told n) = n
-telling_length NoRoom = 0
-telling_length NoSheet = 0
+telling_length (Ok n) = n
+telling_length (Err e) = 0
 
 pub record Tells (a : InWords) (code size : ℕ) (old new : List ℕ) : Type 0 where
   pub code_is : code ≡ a.code

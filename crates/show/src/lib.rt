@@ -1,7 +1,7 @@
 // A sheet in words, for the people who approve it: its names with their types, and what changed between two sheets.
 #![tactic(auto)]
 
-ghost use Rattle.std.specs.Prelude.{◌≡◌, not, [], ◌∷◌, ◌++◌, ◌+◌, ◌<◌, ◌≤◌, leb, length, take};
+ghost use Rattle.std.specs.Prelude.{◌≡◌, Some, not, [], ◌∷◌, ◌++◌, ◌+◌, ◌<◌, ◌≤◌, leb, length, take};
 ghost use Rattle.meaning.specs.Limits.{longest_shown};
 ghost use Rattle.meaning.specs.Base.{bytes};
 ghost use Rattle.meaning.specs.Types.{text, same as same_type};
@@ -9,10 +9,12 @@ ghost use Rattle.meaning.specs.Sheet.{sheet_of};
 ghost use Rattle.meaning.specs.Read.{entries_in};
 ghost use Rattle.meaning.specs.Show.{dotted, shown, entry_text, entries_text, came, went, turned, changes_text};
 ghost use Rattle.meaning.specs.Show.{changes as changes_of, in_words, show_answer, changes_answer};
+ghost use Rattle.types.specs.Kinds.{kind_number};
 ghost use Rattle.types.specs.Reading.{type_at};
 ghost use Rattle.words.specs.Words.{Wrote};
 ghost use Rattle.message.specs.Texts.{AllKnown};
-ghost use Rattle.show.specs.Words.{Opened, Named, entry_of, largest_alone, retold, Follows, Ahead, Stepped};
+ghost use Rattle.sheet.specs.Reading.{Reads};
+ghost use Rattle.show.specs.Words.{Reads-prop, entry_of, largest_alone, retold, Follows, Ahead, Stepped};
 ghost use Rattle.show.specs.Words.{telling_code, telling_length, Tells};
 
 use limits::{
@@ -20,25 +22,26 @@ use limits::{
     MOST_NODES,
 };
 use message::{measure, put_type};
-use sheet::list::{NO_ENTRIES, NameList, length_of, put_name, start_of, type_of};
+use sheet::list::{NO_ENTRIES, NameList, length_of, start_of, type_of};
 use sheet::records::NAME_RECORD;
 use sheet::{ReadSheet, TABLE_CELLS, read};
-use types;
-use types::{FRESH, kind_of};
+use types::{FRESH, Kind, STRUCTURED, kind_of};
 use words::{before, put, same, text as part_of_text};
 
-// What comes back: code 0 with the length of the text, 10 if that does not fit, or 12 for what is no sheet.
+// Why nothing was told: code 10 for a text that does not fit, 12 for what is no sheet.
 #[derive(Clone, Copy)]
-pub enum Telling {
-    Told(usize),
+pub enum Untold {
     NoRoom,
     NoSheet,
 }
 
+// The length of the text that was told.
+pub type Telling = Result<usize, Untold>;
+
 // ---- a type
 
 // Room for the length of each type's text.
-const MOST_NUMBERS: usize = types::STRUCTURED + MOST_NODES;
+const MOST_NUMBERS: usize = STRUCTURED + MOST_NODES;
 
 // Whether the text of type i is shown whole. One more than the longest stands for every longer one.
 fn is_short(table: &[u16], i: usize) -> bool
@@ -50,17 +53,17 @@ fn is_short(table: &[u16], i: usize) -> bool
     lens[i] <= LONGEST_SHOWN
 }
 
-fn put_dotted(kind: usize, out: &mut [u8], at: usize) -> usize
-    requires { at + length (dotted kind) ≤ length out.old }
-    ensures { Wrote out.old at (dotted kind) out.new result }
+// What a type of this kind is shown as where it is too long.
+fn dotted(kind: Kind) -> &'static [u8]
+    ensures { result.now ≡ dotted (kind_number kind) }
 {
     match kind {
-        types::LIST => put(out, at, b"List(..)"),
-        types::DICT => put(out, at, b"Dict(..)"),
-        types::TUPLE => put(out, at, b"Tuple(..)"),
-        types::MAP_ITER => put(out, at, b"MapIter(..)"),
-        types::FILTER_ITER => put(out, at, b"FilterIter(..)"),
-        _ => at,
+        Kind::List => b"List(..)",
+        Kind::Dict => b"Dict(..)",
+        Kind::Tuple => b"Tuple(..)",
+        Kind::MapIter => b"MapIter(..)",
+        Kind::FilterIter => b"FilterIter(..)",
+        _ => b"",
     }
 }
 
@@ -72,153 +75,127 @@ fn put_shown(table: &[u16], i: usize, out: &mut [u8], at: usize) -> usize
     if is_short(table, i) {
         return put_type(table, i, out, at);
     }
-    put_dotted(kind_of(table, i), out, at)
+    put(out, at, dotted(kind_of(table, i)))
 }
 
 // ---- a name with its type
 
-// As `step: Int`.
-fn put_entry(
-    sheet: &[u8],
-    table: &[u16],
-    names: &NameList,
-    opened: ReadSheet,
-    k: usize,
-    out: &mut [u8],
-    at: usize,
-) -> usize
-    requires opened { Opened sheet.now table.now names.now opened × (k < opened.names) }
-    requires k_in_bounds { at + length (entry_text (entry_of sheet.now k)) ≤ length out.old }
-    ensures { Wrote out.old at (entry_text (entry_of sheet.now k)) out.new result }
-{
-    let name = part_of_text(sheet, start_of(names, k), length_of(names, k));
-    let colon = put(out, at, name);
-    let ty = put(out, colon, b": ");
-    put_shown(table, type_of(names, k), out, ty)
+// A sheet that was read: the table of its types, the list of its names, and how many there are of both.
+#[derive(Clone, Copy)]
+struct Opened<'a> {
+    sheet: &'a [u8],
+    table: &'a [u16],
+    names: &'a NameList,
+    read: ReadSheet,
+    ghost reads: { Reads sheet.now (Some read) table.now names.now } by { Reads-prop },
 }
 
-// All names, a line each.
-fn put_entries(
-    sheet: &[u8],
-    table: &[u16],
-    names: &NameList,
-    opened: ReadSheet,
-    out: &mut [u8],
-) -> usize
-    requires opened { Opened sheet.now table.now names.now opened }
-    requires sheet_in_bounds { length (entries_text (entries_in sheet.now)) ≤ length out.old }
-    ensures { Wrote out.old 0 (entries_text (entries_in sheet.now)) out.new result }
-{
-    let n = opened.names;
-    let mut k = 0;
-    let mut at = 0;
-    while k < n {
-        let end = put_entry(sheet, table, names, opened, k, out, at);
-        at = put(out, end, b"\n");
-        k += 1;
+impl<'a> Opened<'a> {
+    fn name(&self, k: usize) -> &'a [u8]
+        requires { k < self.now.read.names }
+        ensures { result.now ≡ (entry_of self.now.sheet.now k).0 }
+    {
+        part_of_text(
+            self.sheet,
+            start_of(self.names, k),
+            length_of(self.names, k),
+        )
     }
-    at
+
+    // The number of the type of name k in the sheet's table.
+    fn type_of(&self, k: usize) -> usize
+        requires { k < self.now.read.names }
+        ensures known { AllKnown self.now.table.now (result + 1) }
+        ensures means { type_at self.now.table.now result ≡ (entry_of self.now.sheet.now k).1 }
+    {
+        type_of(self.names, k)
+    }
+
+    // As `step: Int`.
+    fn put_entry(&self, k: usize, out: &mut [u8], at: usize) -> usize
+        requires k_bound { k < self.now.read.names }
+        requires in_bounds { at + length (entry_text (entry_of self.now.sheet.now k)) ≤ length out.old }
+        ensures { Wrote out.old at (entry_text (entry_of self.now.sheet.now k)) out.new result }
+    {
+        let colon = put(out, at, self.name(k));
+        let ty = put(out, colon, b": ");
+        put_shown(self.table, self.type_of(k), out, ty)
+    }
+
+    // All names, a line each.
+    fn put_entries(&self, out: &mut [u8]) -> usize
+        requires { length (entries_text (entries_in self.now.sheet.now)) ≤ length out.old }
+        ensures { Wrote out.old 0 (entries_text (entries_in self.now.sheet.now)) out.new result }
+    {
+        let mut at = 0;
+        for k in 0..self.read.names {
+            let end = self.put_entry(k, out, at);
+            at = put(out, end, b"\n");
+        }
+        at
+    }
+
+    // Name k with what became of it: `+ mode: String`, `- laps: List(Int)`.
+    fn put_signed(&self, sign: &[u8], k: usize, out: &mut [u8], at: usize) -> usize
+        requires k_bound { k < self.now.read.names }
+        requires in_bounds { at
+            + length (sign.now ++ entry_text (entry_of self.now.sheet.now k) ++ bytes "\n") ≤ length out.old }
+        ensures { Wrote out.old at
+            (sign.now ++ entry_text (entry_of self.now.sheet.now k) ++ bytes "\n") out.new result }
+    {
+        let entry = put(out, at, sign);
+        let end = self.put_entry(k, out, entry);
+        put(out, end, b"\n")
+    }
+
+    // The sheet of name k alone. Returns its length.
+    fn write_alone(&self, k: usize, out: &mut [u8]) -> usize
+        requires k_bound { k < self.now.read.names }
+        requires out_len { length out.old ≡ largest_alone }
+        ensures out_after { take result out.new ≡ sheet_of (entry_of self.now.sheet.now k ∷ []) }
+        ensures upper_bound { result ≤ length out.new }
+    {
+        let mut alone = NO_ENTRIES;
+        alone[0] = self.names[k];
+        sheet::write(self.sheet, self.table, self.read.counts, &alone, 1, out).unwrap()
+    }
 }
 
 // ---- what changed
 
-// Name k with what became of it: `+ mode: String`, `- laps: List(Int)`.
-fn put_signed(
-    sign: &[u8],
-    sheet: &[u8],
-    table: &[u16],
-    names: &NameList,
-    opened: ReadSheet,
-    k: usize,
-    out: &mut [u8],
-    at: usize,
-) -> usize
-    requires opened { Opened sheet.now table.now names.now opened × (k < opened.names) }
-    requires bytes_in_bounds { at + length (sign.now ++ entry_text (entry_of sheet.now k) ++ bytes "\n") ≤ length out.old }
-    ensures { Wrote out.old at
-        (sign.now ++ entry_text (entry_of sheet.now k) ++ bytes "\n") out.new result }
-{
-    let entry = put(out, at, sign);
-    let end = put_entry(sheet, table, names, opened, k, out, entry);
-    put(out, end, b"\n")
-}
-
-// Name i of the old sheet with the type that it has in the new one: `~ step: Int -> Float`.
-fn put_turned(
-    sheet: &[u8],
-    table: &[u16],
-    names: &NameList,
-    opened: ReadSheet,
-    i: usize,
-    new_table: &[u16],
-    new_type: usize,
-    out: &mut [u8],
-    at: usize,
-) -> usize
-    requires opened { Opened sheet.now table.now names.now opened × (i < opened.names) }
-    requires all_known { AllKnown new_table.now (new_type + 1) }
-    requires new_type_in_bounds { at + length (retold (entry_of sheet.now i) (type_at new_table.now new_type))
+// Name i of the old sheet with the type that it has in the new one, as name j: `~ step: Int -> Float`.
+fn put_turned(old: &Opened, i: usize, new: &Opened, j: usize, out: &mut [u8], at: usize) -> usize
+    requires i_bound { i < old.now.read.names }
+    requires j_bound { j < new.now.read.names }
+    requires in_bounds { at + length (retold (entry_of old.now.sheet.now i) (entry_of new.now.sheet.now j).1)
         ≤ length out.old }
     ensures { Wrote out.old at
-        (retold (entry_of sheet.now i) (type_at new_table.now new_type))
+        (retold (entry_of old.now.sheet.now i) (entry_of new.now.sheet.now j).1)
         out.new result }
 {
     let entry = put(out, at, b"~ ");
-    let arrow = put_entry(sheet, table, names, opened, i, out, entry);
+    let arrow = old.put_entry(i, out, entry);
     let ty = put(out, arrow, b" -> ");
-    let end = put_shown(new_table, new_type, out, ty);
+    let end = put_shown(new.table, new.type_of(j), out, ty);
     put(out, end, b"\n")
 }
 
 // No sheet of one name is longer: the largest of all has a record and a text for each other name besides.
 const LARGEST_ALONE: usize = LARGEST_SHEET - (MOST_NAMES - 1) * (NAME_RECORD + LONGEST_NAME);
 
-// The sheet of name k alone. Returns its length.
-fn write_alone(
-    sheet: &[u8],
-    table: &[u16],
-    names: &NameList,
-    opened: ReadSheet,
-    k: usize,
-    out: &mut [u8],
-) -> usize
-    requires opened { Opened sheet.now table.now names.now opened × (k < opened.names) }
-    requires out_len { length out.old ≡ largest_alone }
-    ensures out_after { take result out.new ≡ sheet_of (entry_of sheet.now k ∷ []) }
-    ensures upper_bound { result ≤ length out.new }
-{
-    let mut alone = NO_ENTRIES;
-    let start = start_of(names, k) as u32;
-    let len = length_of(names, k) as u32;
-    put_name(&mut alone, 0, start, len, type_of(names, k) as u32);
-    let w = sheet::write(sheet, table, opened.counts, &alone, 1, out);
-    w.length
-}
-
 // Whether a name that both sheets have turned from one type to another. Numbers of two tables tell nothing of it: the
 // types are equal exactly when the sheets of the name alone are.
-fn has_turned(
-    old_sheet: &[u8],
-    old_table: &[u16],
-    old_names: &NameList,
-    old: ReadSheet,
-    i: usize,
-    new_sheet: &[u8],
-    new_table: &[u16],
-    new_names: &NameList,
-    new: ReadSheet,
-    j: usize,
-) -> bool
-    requires opened { Opened old_sheet.now old_table.now old_names.now old × (i < old.names) }
-    requires opened_2 { Opened new_sheet.now new_table.now new_names.now new × (j < new.names) }
-    requires i_value { (entry_of old_sheet.now i).0 ≡ (entry_of new_sheet.now j).0 }
-    ensures { result ≡ not (same_type (entry_of old_sheet.now i).1
-        (entry_of new_sheet.now j).1) }
+fn has_turned(old: &Opened, i: usize, new: &Opened, j: usize) -> bool
+    requires i_bound { i < old.now.read.names }
+    requires j_bound { j < new.now.read.names }
+    requires one_name { (entry_of old.now.sheet.now i).0 ≡ (entry_of new.now.sheet.now j).0 }
+    ensures { result ≡ not (same_type (entry_of old.now.sheet.now i).1
+        (entry_of new.now.sheet.now j).1) }
 {
     let mut was = [0u8; LARGEST_ALONE];
     let mut is = [0u8; LARGEST_ALONE];
-    let n = write_alone(old_sheet, old_table, old_names, old, i, &mut was);
-    let m = write_alone(new_sheet, new_table, new_names, new, j, &mut is);
+    let n = old.write_alone(i, &mut was);
+    let m = new.write_alone(j, &mut is);
     !same(part_of_text(&was, 0, n), part_of_text(&is, 0, m))
 }
 
@@ -231,29 +208,19 @@ enum Next {
 }
 
 // By the order of the first names that are left: the names of both sheets ascend.
-fn next_of(
-    old_sheet: &[u8],
-    old_names: &NameList,
-    olds: usize,
-    i: usize,
-    new_sheet: &[u8],
-    new_names: &NameList,
-    news: usize,
-    j: usize,
-) -> Next
-    requires named { Named old_sheet.now old_names.now olds
-        × Named new_sheet.now new_names.now news }
-    requires i_le_olds { (i ≤ olds) × (j ≤ news) × (i + j < olds + news) }
-    ensures { Follows (entries_in old_sheet.now) (entries_in new_sheet.now) i j result }
+fn next_of(old: &Opened, i: usize, new: &Opened, j: usize) -> Next
+    requires { (i ≤ old.now.read.names) × (j ≤ new.now.read.names)
+        × (i + j < old.now.read.names + new.now.read.names) }
+    ensures { Follows (entries_in old.now.sheet.now) (entries_in new.now.sheet.now) i j result }
 {
-    if i == olds {
+    if i == old.read.names {
         return Next::Came;
     }
-    if j == news {
+    if j == new.read.names {
         return Next::Went;
     }
-    let was = part_of_text(old_sheet, start_of(old_names, i), length_of(old_names, i));
-    let is = part_of_text(new_sheet, start_of(new_names, j), length_of(new_names, j));
+    let was = old.name(i);
+    let is = new.name(j);
     if before(is, was) {
         return Next::Came;
     }
@@ -272,112 +239,59 @@ struct Place {
 }
 
 // Tells of the next name: nothing, if both sheets have it with one type.
-fn tell_next(
-    old_sheet: &[u8],
-    old_table: &[u16],
-    old_names: &NameList,
-    old: ReadSheet,
-    new_sheet: &[u8],
-    new_table: &[u16],
-    new_names: &NameList,
-    new: ReadSheet,
-    from: Place,
-    out: &mut [u8],
-) -> Place
-    requires opened { Opened old_sheet.now old_table.now old_names.now old }
-    requires opened_2 { Opened new_sheet.now new_table.now new_names.now new }
-    requires ahead { Ahead (entries_in old_sheet.now) (entries_in new_sheet.now) from out.old }
-    ensures { Stepped (entries_in old_sheet.now) (entries_in new_sheet.now) from result
+fn tell_next(old: &Opened, new: &Opened, from: Place, out: &mut [u8]) -> Place
+    requires { Ahead (entries_in old.now.sheet.now) (entries_in new.now.sheet.now) from out.old }
+    ensures { Stepped (entries_in old.now.sheet.now) (entries_in new.now.sheet.now) from result
         out.old out.new }
 {
     let i = from.old;
     let j = from.new;
-    let at = from.at;
-    let next = next_of(
-        old_sheet, old_names, old.names, i, new_sheet, new_names, new.names, j,
-    );
-    match next {
-        Next::Came => {
-            let end = put_signed(b"+ ", new_sheet, new_table, new_names, new, j, out, at);
-            Place {
-                old: i,
-                new: j + 1,
-                at: end,
-            }
-        }
-        Next::Went => {
-            let end = put_signed(b"- ", old_sheet, old_table, old_names, old, i, out, at);
-            Place {
-                old: i + 1,
-                new: j,
-                at: end,
-            }
-        }
+    match next_of(old, i, new, j) {
+        Next::Came => Place {
+            new: j + 1,
+            at: new.put_signed(b"+ ", j, out, from.at),
+            ..from
+        },
+        Next::Went => Place {
+            old: i + 1,
+            at: old.put_signed(b"- ", i, out, from.at),
+            ..from
+        },
         Next::Both => {
-            if !has_turned(
-                old_sheet, old_table, old_names, old, i, new_sheet, new_table, new_names, new, j,
-            ) {
-                return Place {
-                    old: i + 1,
-                    new: j + 1,
-                    at,
-                };
-            }
-            let ty = type_of(new_names, j);
-            let end = put_turned(
-                old_sheet, old_table, old_names, old, i, new_table, ty, out, at,
-            );
-            Place {
+            let next = Place {
                 old: i + 1,
                 new: j + 1,
-                at: end,
+                ..from
+            };
+            if !has_turned(old, i, new, j) {
+                return next;
+            }
+            Place {
+                at: put_turned(old, i, new, j, out, from.at),
+                ..next
             }
         }
     }
 }
 
 // All that changed, a line for each name that differs.
-fn put_changes(
-    old_sheet: &[u8],
-    old_table: &[u16],
-    old_names: &NameList,
-    old: ReadSheet,
-    new_sheet: &[u8],
-    new_table: &[u16],
-    new_names: &NameList,
-    new: ReadSheet,
-    out: &mut [u8],
-) -> usize
-    requires opened { Opened old_sheet.now old_table.now old_names.now old }
-    requires opened_2 { Opened new_sheet.now new_table.now new_names.now new }
-    requires new_sheet_in_bounds { length (changes_text (changes_of (entries_in old_sheet.now) (entries_in new_sheet.now)))
+fn put_changes(old: &Opened, new: &Opened, out: &mut [u8]) -> usize
+    requires { length (changes_text (changes_of (entries_in old.now.sheet.now) (entries_in new.now.sheet.now)))
         ≤ length out.old }
     ensures { Wrote out.old 0
-        (changes_text (changes_of (entries_in old_sheet.now) (entries_in new_sheet.now)))
+        (changes_text (changes_of (entries_in old.now.sheet.now) (entries_in new.now.sheet.now)))
         out.new result }
 {
-    let all = old.names + new.names;
-    let mut i = 0;
-    let mut j = 0;
-    let mut at = 0;
-    while i + j < all {
-        let p = tell_next(
-            old_sheet,
-            old_table,
-            old_names,
-            old,
-            new_sheet,
-            new_table,
-            new_names,
-            new,
-            Place { old: i, new: j, at },
-            out,
-        );
-        i = p.old;
-        j = p.new;
-        at = p.at;
+    let all = old.read.names + new.read.names;
+    let mut place = Place {
+        old: 0,
+        new: 0,
+        at: 0,
+    };
+    while place.old + place.new < all {
+        place = tell_next(old, new, place, out);
     }
-    at
+    place.at
 }
 
 // ---- the whole
@@ -389,9 +303,9 @@ fn deliver(text: &[u8], n: usize, out: &mut [u8]) -> Telling
         (telling_code result) (telling_length result) out.old out.new }
 {
     if out.len() < n {
-        return Telling::NoRoom;
+        return Err(Untold::NoRoom);
     }
-    Telling::Told(put(out, 0, part_of_text(text, 0, n)))
+    Ok(put(out, 0, part_of_text(text, 0, n)))
 }
 
 // A sheet's names with their types, a line each in byte order, at the front of `out` if they fit. On a refusal no byte
@@ -402,12 +316,17 @@ pub fn show(sheet: &[u8], out: &mut [u8]) -> Telling
 {
     let mut table = [FRESH; TABLE_CELLS];
     let mut names = NO_ENTRIES;
-    let opened = read(sheet, &mut table, &mut names);
-    if !opened.stands {
-        return Telling::NoSheet;
-    }
+    let Some(read) = read(sheet, &mut table, &mut names) else {
+        return Err(Untold::NoSheet);
+    };
+    let opened = Opened {
+        sheet,
+        table: &table,
+        names: &names,
+        read,
+    };
     let mut text = [0u8; LARGEST_SHOW];
-    let n = put_entries(sheet, &table, &names, opened, &mut text);
+    let n = opened.put_entries(&mut text);
     deliver(&text, n, out)
 }
 
@@ -419,19 +338,27 @@ pub fn changes(old: &[u8], new: &[u8], out: &mut [u8]) -> Telling
 {
     let mut old_table = [FRESH; TABLE_CELLS];
     let mut old_names = NO_ENTRIES;
-    let was = read(old, &mut old_table, &mut old_names);
-    if !was.stands {
-        return Telling::NoSheet;
-    }
+    let Some(old_read) = read(old, &mut old_table, &mut old_names) else {
+        return Err(Untold::NoSheet);
+    };
+    let was = Opened {
+        sheet: old,
+        table: &old_table,
+        names: &old_names,
+        read: old_read,
+    };
     let mut new_table = [FRESH; TABLE_CELLS];
     let mut new_names = NO_ENTRIES;
-    let is = read(new, &mut new_table, &mut new_names);
-    if !is.stands {
-        return Telling::NoSheet;
-    }
+    let Some(new_read) = read(new, &mut new_table, &mut new_names) else {
+        return Err(Untold::NoSheet);
+    };
+    let is = Opened {
+        sheet: new,
+        table: &new_table,
+        names: &new_names,
+        read: new_read,
+    };
     let mut text = [0u8; LARGEST_CHANGES];
-    let n = put_changes(
-        old, &old_table, &old_names, was, new, &new_table, &new_names, is, &mut text,
-    );
+    let n = put_changes(&was, &is, &mut text);
     deliver(&text, n, out)
 }

@@ -6,15 +6,17 @@ use Rattle.meaning.specs.Walk.{State, state}
 use Rattle.types.specs.Table.{Tab}
 use Rattle.frames.specs.Env.{Rows, frames_of}
 use Rattle.state.specs.Notes.{tab_in}
+use Rattle.state.specs.declared.Notes.{Notes}
+use Rattle.state.specs.declared.Walk.{Walk}
 
 pub record Lent : Type 0 where
   pub rows : Rows
   pub cells : List ℕ
-  pub notes : List ℕ
+  pub notes : Notes
   pub stack : List ℕ
 
-abbrev pub lent : Rows → List ℕ → List ℕ → List ℕ → Lent
-lent rows cells notes stack = record { rows = rows; cells = cells; notes = notes; stack = stack }
+abbrev pub lent : Rows → List ℕ → Walk → Lent
+lent rows cells w = record { rows = rows; cells = cells; notes = w.notes; stack = w.stack }
 
 -- the type table
 abbrev pub table_of : Lent → Tab

@@ -1,89 +1,80 @@
--- What is noted while a program is walked, in nine cells: how many types and elements the table has; the code, the node and the two
--- numbers of the last refusal; the return type so far and the newest frame; and where a 25 or 23 points besides.
-use Rattle.std.specs.Prelude.{◌≡◌, List, ℕ, ◌<◌, length, get_or}
+-- What is noted while a program is walked: how many types and elements the table has; the code, the node and the two numbers of the last
+-- refusal, and where a 25 or 23 points besides; the return type so far and the newest frame.
+use Rattle.std.specs.Prelude.{◌≡◌, Option, Some, None, List, ℕ}
+use Rattle.codes.specs.declared.Code.{Code}
+use Rattle.codes.specs.Codes.{code_number}
 use Rattle.types.specs.Table.{Tab, tab}
-use Rattle.frames.specs.Env.{first_number}
-use Rattle.frames.specs.declared.First.{First}
+use Rattle.types.specs.declared.Counts.{Counts}
+use Rattle.frames.specs.Env.{First}
+use Rattle.state.specs.declared.Notes.{Notes}
 
-abbrev pub types_in : List ℕ → ℕ
-types_in ns = get_or ns 0 0
+abbrev pub types_in : Notes → ℕ
+types_in ns = ns.counts.types
 
-abbrev pub elements_in : List ℕ → ℕ
-elements_in ns = get_or ns 1 0
+abbrev pub elements_in : Notes → ℕ
+elements_in ns = ns.counts.elements
 
-abbrev pub code_in : List ℕ → ℕ
-code_in ns = get_or ns 2 0
+-- 0 before there is one
+abbrev pub code_told : Option Code → ℕ
+code_told None = 0
+code_told (Some c) = code_number c
 
-abbrev pub place_in : List ℕ → ℕ
-place_in ns = get_or ns 3 0
+abbrev pub code_in : Notes → ℕ
+code_in ns = code_told ns.code
 
-abbrev pub first_in : List ℕ → ℕ
-first_in ns = get_or ns 4 0
+abbrev pub place_in : Notes → ℕ
+place_in ns = ns.place
 
-abbrev pub second_in : List ℕ → ℕ
-second_in ns = get_or ns 5 0
+abbrev pub first_in : Notes → ℕ
+first_in ns = ns.first
 
-abbrev pub ret_in : List ℕ → ℕ
-ret_in ns = get_or ns 6 0
+abbrev pub second_in : Notes → ℕ
+second_in ns = ns.second
 
-abbrev pub top_in : List ℕ → ℕ
-top_in ns = get_or ns 7 0
+abbrev pub ret_in : Notes → ℕ
+ret_in ns = ns.returns
 
-abbrev pub since_in : List ℕ → ℕ
-since_in ns = get_or ns 8 0
+abbrev pub top_in : Notes → ℕ
+top_in ns = ns.top
 
--- where a refusal points: its node, and its first node as it is noted, a number + 1 or 0, which means something with 25 and 23 alone
+abbrev pub since_in : Notes → First
+since_in ns = ns.since
+
+-- where a refusal points: its node, and its first node as it is noted, which means something with 25 and 23 alone
 pub record Places : Type 0 where
   pub here : ℕ
-  pub since : ℕ
+  pub since : First
 
-abbrev pub places : ℕ → ℕ → Places
+abbrev pub places : ℕ → First → Places
 places n m = record { here = n; since = m }
 
-abbrev pub places_in : List ℕ → Places
+abbrev pub places_in : Notes → Places
 places_in ns = places (place_in ns) (since_in ns)
 
--- the table of these cells, by the counts that are noted
-abbrev pub tab_in : List ℕ → List ℕ → Tab
-tab_in cells ns = tab cells (types_in ns) (elements_in ns)
+-- the table of these cells, by its counts; and by the counts that are noted
+abbrev pub tab_of : List ℕ → Counts → Tab
+tab_of cells n = tab cells n.types n.elements
 
--- what is asked of notes
-pub record Noting (ns : List ℕ) : Type 0 where
-  pub long : length ns ≡ 9
+abbrev pub tab_in : List ℕ → Notes → Tab
+tab_in cells ns = tab_of cells ns.counts
 
 -- what a function leaves of them: if it refused, there is a code
-pub record Kept (ns ms : List ℕ) (refused : Type 0) : Type 0 where
-  pub long : length ms ≡ 9
+pub record Kept (ns ms : Notes) (refused : Type 0) : Type 0 where
   pub ret : ret_in ms ≡ ret_in ns
   pub top : top_in ms ≡ top_in ns
   pub coded : refused → code_in ms ≡ 0 → ⊥
 
--- n types and m elements are noted
-pub record Counted (ns ms : List ℕ) (n m : ℕ) : Type 0 where
-  pub long : length ms ≡ 9
-  pub types_are : types_in ms ≡ n
-  pub elements_are : elements_in ms ≡ m
-  pub ret : ret_in ms ≡ ret_in ns
-  pub top : top_in ms ≡ top_in ns
-
--- no type is formed
-pub record CountsKept (ns ms : List ℕ) : Type 0 where
-  pub types_kept : types_in ms ≡ types_in ns
-  pub elements_kept : elements_in ms ≡ elements_in ns
-
--- a refusal is noted: its node and numbers where they fit a word
-pub record Refused (ns ms : List ℕ) (code place a b : ℕ) : Type 0 where
-  pub long : length ms ≡ 9
-  pub types_kept : types_in ms ≡ types_in ns
-  pub elements_kept : elements_in ms ≡ elements_in ns
+-- a refusal is noted: its node and numbers
+pub record Refused (ns ms : Notes) (code place a b : ℕ) : Type 0 where
+  pub counts : ms.counts ≡ ns.counts
   pub coded : code_in ms ≡ code
-  pub placed : place < 4294967296 → place_in ms ≡ place
-  pub first : a < 4294967296 → first_in ms ≡ a
-  pub second : b < 4294967296 → second_in ms ≡ b
+  pub placed : place_in ms ≡ place
+  pub first : first_in ms ≡ a
+  pub second : second_in ms ≡ b
   pub ret : ret_in ms ≡ ret_in ns
   pub top : top_in ms ≡ top_in ns
 
 -- the same, and its first node is noted
-pub record Conflicted (ns ms : List ℕ) (code place : ℕ) (first : First) (a b : ℕ) : Type 0 where
+pub record Conflicted (ns ms : Notes) (code place : ℕ) (first : First) (a b : ℕ) : Type 0 where
   pub refused : Refused ns ms code place a b
-  pub since : since_in ms ≡ first_number first
+  pub since : since_in ms ≡ first

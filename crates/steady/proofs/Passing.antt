@@ -1,7 +1,6 @@
 -- The turns of the pass: what is left of it gives the first Def inside an If. Assumes nothing.
 use mathlib.Core.Path.{◌≡◌, sym, ap, ◌∙◌}
 use mathlib.Core.List.{List, [], ◌∷◌, ◌++◌}
-use mathlib.Core.Option.{some}
 use mathlib.Core.Logic.{◌⊎◌, ⊎_elim}
 use Prim.Native.Nat.{ℕ, suc, ◌+◌, ◌-◌, ◌≤◌, ◌<◌}
 use native.Mathlib.Numerals.{add-one}
@@ -77,18 +76,18 @@ module _ {bs : List ℕ} {i until : ℕ} {d : Node} (p : Passing bs i until) (h 
 
   -- a Def inside an If is the first one
   pub passing_found : d.kind ≡ 11 → i < until
-      → some (def_in_if i d.begins d.ends) ≡ some (steady_by (nodes_of bs) (defs_in_ifs (tree_of (nodes_of bs))))
+      → def_in_if i d.begins d.ends ≡ steady_by (nodes_of bs) (defs_in_ifs (tree_of (nodes_of bs)))
   unfolding steady_by
   passing_found q l =
       let e = defs_def (nodes_of bs) p.left i until some_left (many h) (kind_is h ∙ q) in
       let first : i ∷ scan_defs (nodes_of bs) (p.left - 1) (suc i) until ≡ defs_in_ifs (tree_of (nodes_of bs)) =
       ap (λ (xs : List ℕ). xs ++ scan_defs (nodes_of bs) (p.left - 1) (suc i) until) (sym (itself_inside i until l)) ∙ (sym e ∙ p.answer) in
-      ap (λ (n : ImageNode). some (def_in_if i n.span_start n.span_end)) h.means ∙ ap (λ (xs : List ℕ). some (steady_by (nodes_of bs) xs)) first
+      ap (λ (n : ImageNode). def_in_if i n.span_start n.span_end) h.means ∙ ap (steady_by (nodes_of bs)) first
 
 -- no Def is left
 pub passing_end : {bs : List ℕ} {i until : ℕ} → Passing bs i until → node_count bs ≤ i
-    → some steady ≡ some (steady_by (nodes_of bs) (defs_in_ifs (tree_of (nodes_of bs))))
+    → steady ≡ steady_by (nodes_of bs) (defs_in_ifs (tree_of (nodes_of bs)))
 unfolding steady_by
 passing_end {bs} {i} {until} p h =
     let none_left : [] ≡ defs_in_ifs (tree_of (nodes_of bs)) = sym (defs_end (nodes_of bs) p.left i until (omega (arith, nodes_many bs))) ∙ p.answer in
-    ap (λ (xs : List ℕ). some (steady_by (nodes_of bs) xs)) none_left
+    ap (steady_by (nodes_of bs)) none_left

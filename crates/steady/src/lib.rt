@@ -3,45 +3,35 @@
 #![tactic(auto)]
 
 ghost use Rattle.std.specs.Prelude.{◌≡◌};
-ghost use Rattle.std.proofs.Math.Option.{some};
 ghost use Rattle.meaning.specs.Image.{nodes_of};
 ghost use Rattle.meaning.specs.Decode.{tree_of};
 ghost use Rattle.meaning.specs.Known.{defs_in_ifs, steady_by, steadiness};
 ghost use Rattle.meaning.proofs.Faults.{Sound};
-ghost use Rattle.steady.specs.Told.{meant};
+ghost use Rattle.steady.specs.Told.{told_of, meant};
 
-use image::{Judged, areas, judge, kinds, node_at};
+use image::{Fault, areas, judge, kinds, node_at};
 
 // A Def: its node, and its span as the image has it.
-#[derive(Clone, Copy)]
+#[derive(Clone, Copy, PartialEq, Eq)]
 pub struct Def {
     pub node: usize,
     pub begins: u32,
     pub ends: u32,
 }
 
-// No Def stands inside an If; one does, and this is the first; or the bytes are no well-formed image.
-#[derive(Clone, Copy)]
-pub enum Steadiness {
-    Steady,
-    DefInIf(Def),
-    Faulty(Judged),
-}
-
 // The first Def inside an If. A node stands inside one exactly when it lies below `until`, where the outermost If ends
 // that was met last: an If inside it ends no later, and so has no say.
-fn first_def(image: &[u8]) -> Steadiness
+fn first_def(image: &[u8]) -> Option<Def>
     requires { Sound image.now }
-    ensures { meant result ≡ some (steady_by (nodes_of image.now)
-        (defs_in_ifs (tree_of (nodes_of image.now)))) }
+    ensures { told_of result ≡ steady_by (nodes_of image.now)
+        (defs_in_ifs (tree_of (nodes_of image.now))) }
 {
     let l = areas(image);
     let mut i = 0;
     let mut until = 0;
     while i < l.count {
         let node = node_at(image, l.nodes, i);
-        let kind = node.kind;
-        match kind {
+        match node.kind {
             kinds::IF => {
                 if until <= i {
                     until = node.stop as usize;
@@ -50,7 +40,7 @@ fn first_def(image: &[u8]) -> Steadiness
             }
             kinds::DEF => {
                 if i < until {
-                    return Steadiness::DefInIf(Def {
+                    return Some(Def {
                         node: i,
                         begins: node.begins,
                         ends: node.ends,
@@ -66,16 +56,13 @@ fn first_def(image: &[u8]) -> Steadiness
             }
         }
     }
-    Steadiness::Steady
+    None
 }
 
-// Whether these bytes are an image of such a program.
-pub fn steady(image: &[u8]) -> Steadiness
-    ensures { meant result ≡ some (steadiness image.now) }
+// The first Def inside an If of an image, if there is one; the refusal of bytes that are no image.
+pub fn steady(image: &[u8]) -> Result<Option<Def>, Fault>
+    ensures { meant result ≡ steadiness image.now }
 {
-    let j = judge(image);
-    let Judged::WellFormed = j else {
-        return Steadiness::Faulty(j);
-    };
-    first_def(image)
+    judge(image)?;
+    Ok(first_def(image))
 }

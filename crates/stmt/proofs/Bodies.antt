@@ -1,5 +1,6 @@
 -- The statement of a node, and a Block: what is left of it ends as all of it ends.
 use mathlib.Core.Path.{◌≡◌, refl, sym, ap, ◌∙◌}
+use Rattle.std.specs.Prelude.{None}
 use mathlib.Core.Bool.{Bool, true, false}
 use mathlib.Core.List.{List}
 use mathlib.Core.Logic.{◌⊎◌}
@@ -20,8 +21,9 @@ use Rattle.image.proofs.Moving.{parent_of}
 use Rattle.expr.specs.Contract.{At}
 use Rattle.expr.proofs.Rows.{shallow}
 use Rattle.state.specs.Notes.{Places, places}
+use Rattle.targets.proofs.Endings.{ended_well, ended_wrong}
 use Rattle.stmt.specs.Contract.{state_of, acted, walked_at, body_at, Standing, Stmt, Bodiless, Within, Fine, Done}
-use Rattle.stmt.proofs.Laws.{ended_done, ended_wrong, was_deep, was_wrong, goes_on, too_deep_lem, deep_wider, deep_then, named_well, left_refl, fine_trans, fine_wider, done_as, ready_within, ready_next, wide_at, within_all, within_le, within_child, within_at}
+use Rattle.stmt.proofs.Laws.{was_deep, was_wrong, goes_on, too_deep_lem, deep_wider, deep_then, named_well, left_refl, fine_trans, fine_wider, done_as, ready_within, ready_next, wide_at, within_all, within_le, within_child, within_at}
 
 less_one : (n : ℕ) → suc n - 1 ≡ n
 less_one n = sub-one (suc n)
@@ -120,12 +122,12 @@ module _ {bs : List ℕ} {setting : Setting} {nodes : ℕ} {t u : Tab} {fs gs : 
       deep = λ x. absurd (n x);
     }
 
-    pub loop_next : {e : ℕ} → e ≡ stop_of (nodes_of bs) j → (code ≡ 9 → ⊥) → (code ≡ 0) ⊎ (drops ≡ true)
-        → Loop bs setting nodes t fs top ret i d loop drops v hs peak had sv e (left - 1)
-    loop_next z n y =
+    pub loop_next : {e rest : ℕ} → e ≡ stop_of (nodes_of bs) j → rest ≡ left - 1 → (code ≡ 9 → ⊥) → (code ≡ 0) ⊎ (drops ≡ true)
+        → Loop bs setting nodes t fs top ret i d loop drops v hs peak had sv e rest
+    loop_next z r n y =
         let f = c.fine n in
         let k = loop_child in
-        rw z (record {
+        rw (z, r) (record {
           standing = record { ready = ready_next l.standing.ready f.left (omega arith); kept = f.kept };
           within = k.3;
           deep = l.deep;
@@ -135,12 +137,12 @@ module _ {bs : List ℕ} {setting : Setting} {nodes : ℕ} {t u : Tab} {fs gs : 
 
 pub loop_end : {bs : List ℕ} {setting : Setting} {nodes : ℕ} {t u : Tab} {fs gs : Rows} {top ret i d : ℕ} {loop drops : Bool} {high got : ℕ} {su : List ℕ} {j left : ℕ}
     → Loop bs setting nodes t fs top ret i d loop drops u gs high got su j left → left ≤ 0
-    → Done (names_of bs) (body_at bs setting loop drops d i (state_of t fs top ret)) t u gs top high got su i (stop_of (nodes_of bs) i) (node_count bs) 0 (places 0 0) 0 0
+    → Done (names_of bs) (body_at bs setting loop drops d i (state_of t fs top ret)) t u gs top high got su i (stop_of (nodes_of bs) i) (node_count bs) 0 (places 0 None) 0 0
 unfolding body stmts_from
 loop_end {bs} {setting} {nodes} {t} {u} {fs} {gs} {top} {ret} {i} {d} {loop} {drops} {high} {got} {su} {j} {left} l z =
     let o : left ≡ 0 = omega arith in
     record {
-      says = (rw o at l.answer) ∙ sym (ended_done (names_of bs) u gs high (denote u got) 0 (places 0 0) 0 0 refl);
+      says = (rw o at l.answer) ∙ sym (ended_well (names_of bs) u gs high (denote u got) 0 (places 0 None) 0 0 refl);
       fine = λ _. fine_wider l.fine (omega arith) (within_le l.standing.ready.sound l.within);
       named = λ _. named_well;
       deep = λ x. absurd (omega arith);

@@ -1,5 +1,6 @@
 -- If: its branches one after the other, and the merge.
 use mathlib.Core.Path.{◌≡◌, refl, sym, ap, ◌∙◌}
+use Rattle.std.specs.Prelude.{Ok, Err}
 use mathlib.Core.Bool.{Bool, true, false}
 use mathlib.Core.List.{List, [], ◌∷◌, ◌++◌}
 use mathlib.Core.Option.{Option, some, none}
@@ -20,12 +21,10 @@ use Rattle.meaning.specs.Frames.{Binding, Frames}
 use Rattle.meaning.specs.Walk.{Setting, dropping, State, state, End, done, wrong, too_deep, ◌>>=◌, on_copy, act, arm, branches}
 use Rattle.meaning.proofs.Decoding.{if_at, arms_down}
 use Rattle.meaning.proofs.Faults.{Sound}
-use Rattle.types.specs.Table.{Tab, tab, denote}
-use Rattle.frames.specs.Env.{Rows, absent_row, slot, frames_of, first_number, Noted, settle_name, settle, merge_code, clash_name, merge_end, Committed}
+use Rattle.types.specs.Table.{Tab, denote}
+use Rattle.frames.specs.Env.{Rows, First, Merge, absent_row, slot, frames_of, Noted, settle_name, settle, merge_code, clash_name, merge_end, Committed}
 use Rattle.frames.specs.declared.Disagreement.{Disagreement}
-use Rattle.frames.specs.declared.Merge.{Merge}
-use Rattle.frames.specs.declared.Merge.TheVariants.{Whole, Clash}
-use Rattle.frames.proofs.Laws.{node_number, frames_grown}
+use Rattle.frames.proofs.Laws.{frames_grown}
 use Rattle.frames.proofs.Merging.{Tally, tally_none, tally_grown, tally_next, merged}
 use Rattle.rules.specs.Outcome.{types_named, pieces}
 use Rattle.image.specs.Parts.{Moved}
@@ -35,9 +34,9 @@ use Rattle.image.proofs.Moving.{parent_of}
 use Rattle.expr.specs.Contract.{Ready, At}
 use Rattle.state.specs.Notes.{Places, places}
 use Rattle.targets.specs.Ending.{first_at, ended, Named, Left, Assigned}
-use Rattle.targets.proofs.Endings.{left_then, left_wider}
+use Rattle.targets.proofs.Endings.{ended_well, ended_wrong, left_then, left_wider}
 use Rattle.stmt.specs.Contract.{state_of, acted, body_at, condition_at, arm_block, armed_at, Standing, Stmt, Branch, Within, Done}
-use Rattle.stmt.proofs.Laws.{ended_done, ended_wrong, was_done, was_deep, was_wrong, too_deep_lem, deep_wider, deep_then, named_well, left_refl, left_rows, done_as, ready_within, ready_next, place_at, wide_at, within_all, within_le, within_child, within_at, count_if}
+use Rattle.stmt.proofs.Laws.{was_done, was_deep, was_wrong, too_deep_lem, deep_wider, deep_then, named_well, left_refl, left_rows, done_as, ready_within, ready_next, place_at, wide_at, within_all, within_le, within_child, within_at, count_if}
 
 -- ---- one branch
 
@@ -154,7 +153,7 @@ module _ {bs : List ℕ} {nodes : ℕ} {t : Tab} {fs : Rows} {top : ℕ} {st : L
             let l : Left t u fs top su i k = rw o c.left in
             record {
               says = when_is setting
-                  ∙ rw (y, c.says (denote t ret), ended_done (names_of bs) u fs top (denote t ret) code place' a b z, ← o, ← (c.left.grown.same ret r.kept)) e.says;
+                  ∙ rw (y, c.says (denote t ret), ended_well (names_of bs) u fs top (denote t ret) code place' a b z, ← o, ← (c.left.grown.same ret r.kept)) e.says;
               fine = λ x.
                   let f = e.fine x in
                   rw m (record { left = left_then l f.left; kept = f.kept; raised = f.raised });
@@ -174,11 +173,6 @@ pub record Choosing (bs : List ℕ) (setting : Setting) (nodes : ℕ) (t : Tab) 
   pub tally : Tally u (frames_of t fs top) so_far ms cs
   pub answer : acted bs setting loop d i (state_of t fs top ret)
       ≡ branches (names_of bs) setting loop (i + 1) so_far (arms_from (nodes_of bs) (λ k. expr_at (nodes_of bs) d k) (λ k. block_at (nodes_of bs) d k) left j) (state (frames_of t fs top) (denote u got))
-
--- the same with an equal table and return type
-pub choosing_as : {bs : List ℕ} {setting : Setting} {nodes : ℕ} {t : Tab} {fs : Rows} {top ret i d : ℕ} {loop : Bool} {u v : Tab} {got had : ℕ} {su ms : List ℕ} {cs : List Bool} {j left : ℕ}
-    → v ≡ u → had ≡ got → Choosing bs setting nodes t fs top ret i d loop u got su ms cs j left → Choosing bs setting nodes t fs top ret i d loop v had su ms cs j left
-choosing_as o p l = rw (o, p) l
 
 first_condition_lem : (bs : List ℕ) (e : ℕ → Expr) (b : ℕ → Stmts) (n i : ℕ) → 1 < n → first_condition (arms_from (nodes_of bs) e b n i) ≡ place (e i)
 unfolding first_condition
@@ -327,7 +321,7 @@ weights : List Piece → ℕ
 weights [] = 0
 weights (p ∷ ps) = weight p
 
-clash_name_lem : {fs gs : Rows} {top : ℕ} {ms : List ℕ} {cs : List Bool} {d : Disagreement} (t : Tab) → Committed fs gs top ms cs (Clash d) → d.name < 128
+clash_name_lem : {fs gs : Rows} {top : ℕ} {ms : List ℕ} {cs : List Bool} {d : Disagreement} (t : Tab) → Committed fs gs top ms cs (Err d) → d.name < 128
 unfolding merge_end Spelt weights weight
 clash_name_lem {fs} {gs} {top} {ms} {cs} {d} t c = elim (dec_lt d.name 128) [
   | yes h ↦ h
@@ -338,27 +332,24 @@ clash_name_lem {fs} {gs} {top} {ms} {cs} {d} t c = elim (dec_lt d.name 128) [
       absurd (omega arith)
 ]
 
-pub clash_small : {fs gs : Rows} {top : ℕ} {ms : List ℕ} {cs : List Bool} {d : Disagreement} → Committed fs gs top ms cs (Clash d) → d.name < 4294967296
-clash_small c = omega (arith, clash_name_lem (tab [] 0 0) c)
-
 -- ---- the merge
 
 -- n is noted: where a name clashes, it is the first node of its first type
-abbrev pub ClashNoted : ℕ → Merge → Type 0
-ClashNoted n Whole = Unit {0}
-ClashNoted n (Clash d) = n ≡ first_number d.first
+abbrev pub ClashNoted : First → Merge → Type 0
+ClashNoted n (Ok _) = Unit {0}
+ClashNoted n (Err d) = n ≡ d.first
 
-merge_ended : (ws : List Name) (u : Tab) (gs : Rows) (top : ℕ) (y : Ty) (c n : ℕ) (m : Merge) → ClashNoted n m
+merge_ended : (ws : List Name) (u : Tab) (gs : Rows) (top : ℕ) (y : Ty) (c : ℕ) (n : First) (m : Merge) → ClashNoted n m
     → merge_end ws c m (state (frames_of u gs top) y) ≡ ended ws u gs top y (merge_code m) (places c n) (clash_name m) 0
 unfolding merge_end ended first_at pieces types_named is_in choose test◌then◌else◌ ◌or◌
-merge_ended ws u gs top y c n Whole e = refl
-merge_ended ws u gs top y c n (Clash d) e = rw (e, node_number d.first)
+merge_ended ws u gs top y c n (Ok _) e = refl
+merge_ended ws u gs top y c n (Err d) e = rw e
 
-merge_named : {fs gs : Rows} {top : ℕ} {ms : List ℕ} {cs : List Bool} {c n M : ℕ} (u : Tab) (m : Merge) → Committed fs gs top ms cs m → c < M
+merge_named : {fs gs : Rows} {top : ℕ} {ms : List ℕ} {cs : List Bool} {c : ℕ} {n : First} {M : ℕ} (u : Tab) (m : Merge) → Committed fs gs top ms cs m → c < M
     → Named u M (merge_code m) (places c n) (clash_name m) 0
 unfolding types_named is_in test◌then◌else◌ ◌or◌
-merge_named u Whole k h = named_well
-merge_named u (Clash x) k h =
+merge_named u (Ok _) k h = named_well
+merge_named u (Err x) k h =
     let n = clash_name_lem u k in
     record {
       first = λ x. absurd (omega (arith, none23));
@@ -371,10 +362,10 @@ merge_named u (Clash x) k h =
     none23 = refl
 
 merge_shallow : (m : Merge) → merge_code m ≡ 9 → ⊥
-merge_shallow Whole e = absurd (omega arith)
-merge_shallow (Clash x) e = absurd (omega arith)
+merge_shallow (Ok _) e = absurd (omega arith)
+merge_shallow (Err x) e = absurd (omega arith)
 
-pub choosing_end : {bs : List ℕ} {setting : Setting} {nodes : ℕ} {t : Tab} {fs gs : Rows} {top ret i d : ℕ} {loop : Bool} {u : Tab} {got : ℕ} {su ms : List ℕ} {cs : List Bool} {j left n : ℕ} {m : Merge}
+pub choosing_end : {bs : List ℕ} {setting : Setting} {nodes : ℕ} {t : Tab} {fs gs : Rows} {top ret i d : ℕ} {loop : Bool} {u : Tab} {got : ℕ} {su ms : List ℕ} {cs : List Bool} {j left : ℕ} {n : First} {m : Merge}
     → Stmt bs i d 8 → Choosing bs setting nodes t fs top ret i d loop u got su ms cs j left → left ≤ 0 → Committed fs gs top ms cs m → ClashNoted n m
     → Done (names_of bs) (acted bs setting loop d i (state_of t fs top ret)) t u gs top top got su i (stop_of (nodes_of bs) i) (node_count bs) (merge_code m) (places (i + 1) n) (clash_name m) 0
 unfolding branches arms_from

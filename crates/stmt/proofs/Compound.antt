@@ -1,5 +1,6 @@
 -- While, For and Def.
 use mathlib.Core.Path.{◌≡◌, refl, sym, ◌∙◌, ap}
+use Rattle.std.specs.Prelude.{Option, Some, None}
 use mathlib.Core.Bool.{Bool, true, false}
 use mathlib.Core.List.{List, ◌∷◌}
 use mathlib.Core.Option.{none}
@@ -22,8 +23,7 @@ use Rattle.types.specs.Table.{Tab, denote}
 use Rattle.types.specs.Reading.{ElementOf}
 use Rattle.types.proofs.Laws.{grown_refl, unknown_number}
 use Rattle.types.proofs.Answers.{perhaps_yes, perhaps_no}
-use Rattle.frames.specs.Env.{Rows, absent_row, cell_room, frames_of, Fit, Known, Bound}
-use Rattle.frames.specs.declared.First.TheVariants.{Nowhere}
+use Rattle.frames.specs.Env.{Rows, First, absent_row, cell_room, frames_of, Fit, Known, Bound}
 use Rattle.frames.specs.declared.Binding.{Binding as Found}
 use Rattle.frames.proofs.Laws.{frames_grown, frames_clear, frames_pop, length_frames, fit_clear, fit_top}
 use Rattle.rules.specs.Outcome.{types_named, pieces}
@@ -31,15 +31,15 @@ use Rattle.expr.specs.Contract.{Ready, At}
 use Rattle.expr.specs.Contract.{Done as Typed}
 use Rattle.state.specs.Notes.{Places, places}
 use Rattle.targets.specs.Ending.{ended, Named, Left, Assigned}
-use Rattle.targets.proofs.Endings.{left_then, left_wider}
+use Rattle.targets.proofs.Endings.{ended_well, ended_wrong, ended_alone, left_then, left_wider}
 use Rattle.stmt.specs.Contract.{state_of, acted, body_at, condition_at, Standing, Stmt, Pair, Within, Params, Done, Entered, Iterated}
-use Rattle.stmt.proofs.Laws.{ended_done, ended_wrong, ended_alone, was_done, was_deep, was_wrong, too_deep_lem, deep_wider, deep_then, wide_at, named_well, left_rows, ready_within, ready_next, typing, check_left, check_named, check_well, check_ill, place_at, within_all, within_end, within_child, within_at, pair_while, pair_for, count_def, arg_small, pair_wide}
+use Rattle.stmt.proofs.Laws.{was_done, was_deep, was_wrong, too_deep_lem, deep_wider, deep_then, wide_at, named_well, left_rows, ready_within, ready_next, typing, check_left, check_named, check_well, check_ill, place_at, within_all, within_end, within_child, within_at, pair_while, pair_for, count_def, arg_small, pair_wide}
 
 -- ---- what a For walks over
 
 module _ {bs : List ℕ} {nodes : ℕ} {t u : Tab} {fs : Rows} {top : ℕ} {st su : List ℕ} {i d e code place' number a b : ℕ} (r : Ready bs nodes fs top t st 0 i e) (h : At bs i d)
     (q : Typed (names_of bs) (check (names_of bs) (frames_of t fs top) (expr_at (nodes_of bs) d i)) t u st su 0 i e (node_count bs) code place' number a b) where
-  pub elements_bad : {m : ℕ} → (code ≡ 0 → ⊥) → Iterated bs d t u fs top su i e (node_count bs) code (places place' m) number a b
+  pub elements_bad : {n : ℕ} {m : First} → (code ≡ 0 → ⊥) → Iterated bs d t u fs top su i e (node_count bs) code (places place' m) n a b
   unfolding checked
   elements_bad z = record {
     well = λ x y k. absurd (z x);
@@ -50,31 +50,31 @@ module _ {bs : List ℕ} {nodes : ℕ} {t u : Tab} {fs : Rows} {top : ℕ} {st s
     typing = typing _ r.fit q;
   }
 
-  pub elements_done : {there : Bool} {got code' : ℕ} {place'' : Places} {a' b' : ℕ} → code ≡ 0 → ElementOf u.cells number there got → there ≡ true → code' ≡ 0
+  pub elements_done : {r : Option ℕ} {got code' : ℕ} {place'' : Places} {a' b' : ℕ} → code ≡ 0 → ElementOf u.cells number r → r ≡ Some got → code' ≡ 0
       → Iterated bs d t u fs top su i e (node_count bs) code' place'' got a' b'
   unfolding checked over_elements if_some
-  elements_done {there} {got} z o y n =
+  elements_done {got = got} z o y n =
       let w = q.fine.grown.wf in
       record {
-        well = λ x s k. check_well _ r.fit q z (state (frames_of t fs top) s) _ ∙ rw (o.says u refl w (q.below z), perhaps_yes u there got y);
+        well = λ x s k. check_well _ r.fit q z (state (frames_of t fs top) s) _ ∙ rw (o.says u refl w (q.below z), perhaps_yes u y);
         ill = λ x s k. absurd (x n);
-        below = λ x. o.below u refl w (q.below z);
+        below = λ x. o.below u refl w (q.below z) got y;
         named = rw n named_well;
         left = check_left _ r.fit q;
         typing = λ x. absurd (omega arith);
       }
 
-  pub elements_none : {there : Bool} {got m : ℕ} → code ≡ 0 → ElementOf u.cells number there got → there ≡ false
+  pub elements_none : {r : Option ℕ} {m : First} → code ≡ 0 → ElementOf u.cells number r → r ≡ None
       → Iterated bs d t u fs top su i e (node_count bs) 24 (places i m) 0 number 0
   unfolding checked over_elements if_some pieces types_named is_in choose test◌then◌else◌ ◌or◌
-  elements_none {there} {got} {m} z o y =
+  elements_none {m = m} z o y =
       let g = q.fine.grown in
       let one : types_named 24 ≡ 1 = refl in
       record {
         well = λ x s k. absurd (omega arith);
         ill = λ x s k.
             check_well _ r.fit q z (state (frames_of t fs top) s) _
-            ∙ rw (o.says u refl g.wf (q.below z), perhaps_no u there got y, place_at bs d i, ← (frames_grown g r.fit))
+            ∙ rw (o.says u refl g.wf (q.below z), perhaps_no u y, place_at bs d i, ← (frames_grown g r.fit))
             (sym (ended_alone (names_of bs) u fs top s 24 (places i m) number 0 (λ x. omega arith) (λ x. omega arith) (λ x. omega arith, λ x. omega arith)));
         below = λ x. absurd (omega arith);
         named = record {
@@ -100,7 +100,7 @@ copied {ws} {whole} {inner} {t} {u} {v} {fs} {gs} {top} {high} {got} {su} {sv} {
       let same : frames_of v fs top ≡ frames_of t fs top = frames_grown g.left.grown l.fit ∙ frames_grown l.grown fit in
       record {
         says = elim (ℕ_discrete code 0) [
-          | yes j ↦ here ∙ rw (was_done c j, ← same) (sym (ended_done ws v fs top (denote v got) code place a b j))
+          | yes j ↦ here ∙ rw (was_done c j, ← same) (sym (ended_well ws v fs top (denote v got) code place a b j))
           | no j ↦ here ∙ rw (was_wrong c j z, ← same) (sym (ended_wrong ws v fs top (denote v got) code place a b j z))
         ];
         fine = λ _. record { left = left_wider (left_then l (left_rows l.fit g.left)) (omega arith) o; kept = g.kept; raised = omega arith };
@@ -180,7 +180,7 @@ module _ {bs : List ℕ} {nodes : ℕ} {t : Tab} {fs : Rows} {top : ℕ} {st : L
     while_done setting y z o e loop =
         let p = pair_while r.ready.sound q in
         copied
-        (while_is setting loop ∙ rw (y, c.says (denote t ret), ended_done (names_of bs) u fs top (denote t ret) code place a b z, ← o, c.left.grown.same ret r.kept))
+        (while_is setting loop ∙ rw (y, c.says (denote t ret), ended_well (names_of bs) u fs top (denote t ret) code place a b z, ← o, c.left.grown.same ret r.kept))
         r.ready.fit (before_body r p c.left o) (rw (o) (omega (arith, p.last))) e
 
 -- ---- For
@@ -206,7 +206,7 @@ module _ {bs : List ℕ} {nodes : ℕ} {t : Tab} {fs : Rows} {top : ℕ} {st : L
   for_small z = omega (arith, c.below z, c.left.grown.wf.room, c.left.grown.wf.most)
 
   -- the loop name is bound, known since the iterable
-  module _ {es : Rows} {j : ℕ} {bound : Found} (z : code ≡ 0) (here : j ≡ i + 1) (w : Known Nowhere j number bound) (o : Bound fs es top x bound) where
+  module _ {es : Rows} {j : ℕ} {bound : Found} (z : code ≡ 0) (here : j ≡ i + 1) (w : Known None j number bound) (o : Bound fs es top x bound) where
     for_fit : Fit u es top
     for_fit = o.fit u c.left.fit (rw w.type_is (c.below z))
 
@@ -257,7 +257,7 @@ module _ {bs : List ℕ} {nodes : ℕ} {t : Tab} {fs : Rows} {top : ℕ} {st : L
   def_wide : i ≤ stop_of (nodes_of bs) i
   def_wide = omega (arith, (wide_at r.ready.sound i q.there).0)
 
-  pub def_deep : {m : ℕ} → 7 ≤ top → (setting : Setting) (loop : Bool)
+  pub def_deep : {m : First} → 7 ≤ top → (setting : Setting) (loop : Bool)
       → Done (names_of bs) (acted bs setting loop d i (state_of t fs top ret)) t t fs top top ret st i (stop_of (nodes_of bs) i) (node_count bs) 9 (places i m) 0 0
   unfolding if_room test◌then◌else◌
   def_deep o setting loop = too_deep_lem refl (def_is setting loop ∙ rw (length_frames t fs top, le-ltb (top + 1) 8 (omega arith)))
@@ -317,14 +317,14 @@ module _ {bs : List ℕ} {nodes : ℕ} {t : Tab} {fs : Rows} {top : ℕ} {st : L
 
       -- the frame is popped
       pub def_done : code ≡ 0 → (loop : Bool)
-          → Done (names_of bs) (acted bs setting loop d i (state_of t fs top ret)) t u gs top (high - 1) ret su i (stop_of (nodes_of bs) i) (node_count bs) 0 (places 0 0) 0 0
+          → Done (names_of bs) (acted bs setting loop d i (state_of t fs top ret)) t u gs top (high - 1) ret su i (stop_of (nodes_of bs) i) (node_count bs) 0 (places 0 None) 0 0
       unfolding popped after
       def_done z loop =
           let f = e.fine (λ x. omega arith) in
           let l = around (λ x. omega arith) in
           record {
             says = def_answer setting loop ∙ rw (was_done e z, frames_pop u gs high (omega (arith, f.raised)), ← (f.left.grown.same ret r.kept))
-                (sym (ended_done (names_of bs) u gs (high - 1) (denote u ret) 0 (places 0 0) 0 0 refl));
+                (sym (ended_well (names_of bs) u gs (high - 1) (denote u ret) 0 (places 0 None) 0 0 refl));
             fine = λ _. record {
               left = record {
                 grown = l.grown;

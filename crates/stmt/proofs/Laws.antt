@@ -1,5 +1,6 @@
 -- How the parts of the walk end, and where the nodes of a sound image stand.
-use mathlib.Core.Path.{◌≡◌, refl, sym, ◌∙◌, ap}
+use mathlib.Core.Path.{◌≡◌, refl, sym, ◌∙◌}
+use Rattle.std.specs.Prelude.{None}
 use mathlib.Core.Bool.{Bool, true, false}
 use mathlib.Core.List.{List, [], ◌∷◌}
 use mathlib.Core.Logic.{◌⊎◌, inl, inr}
@@ -7,23 +8,22 @@ use Prim.Native.Nat.{ℕ, zero, suc, ◌+◌, ◌-◌, ◌≤◌, ◌<◌}
 use native.Mathlib.Omega.{arith}
 use native.Mathlib.Decide.{ℕ_discrete}
 use native.Mathlib.Numerals.{add-one}
-use borrow.Author.Tests.{eq-eqb, ne_eqb, eqb-true, leb-true}
+use borrow.Author.Tests.{eqb-true, leb-true}
 use lib.Dec.{eqb}
-use Rattle.meaning.specs.Base.{◌or◌, test◌then◌else◌, choose, is_in}
+use Rattle.meaning.specs.Base.{test◌then◌else◌, choose}
 use Rattle.meaning.specs.Types.{Ty}
 use Rattle.meaning.specs.Tree.{Expr, place}
 use Rattle.meaning.specs.Image.{Name, name_count, node_count, nodes_from, nodes_of, node_of, depth, arg_below, count_stands}
 use Rattle.meaning.specs.Decode.{stop_of, expr_at}
-use Rattle.meaning.specs.Message.{refusal, conflict}
+use Rattle.meaning.specs.Message.{conflict}
 use Rattle.meaning.specs.Rules.{check}
 use Rattle.meaning.specs.Walk.{dropping, State, state, End, done, wrong, too_deep, typed, onward}
-use Rattle.meaning.proofs.Codes.{fair_judged, check_fair}
 use Rattle.meaning.proofs.Faults.{Sound, sizes}
 use Rattle.meaning.proofs.Nesting.{Nested, sound_nested, nodes_many, node_stands_lem, child, children, children_le, children_end, deeper}
 use Rattle.meaning.proofs.Choices.{if_le}
 use Rattle.types.specs.Table.{Tab, denote}
 use Rattle.types.proofs.Laws.{grown_refl, grown_trans}
-use Rattle.frames.specs.Env.{Rows, frames_of, Fit}
+use Rattle.frames.specs.Env.{Rows, First, frames_of, Fit}
 use Rattle.frames.proofs.Laws.{frames_grown, fit_grown}
 use Rattle.rules.specs.Outcome.{types_named, pieces}
 use Rattle.image.specs.Parts.{Moved}
@@ -34,8 +34,9 @@ use Rattle.expr.specs.Contract.{Ready, At}
 use Rattle.expr.specs.Contract.{Done as Typed}
 use Rattle.expr.proofs.Rows.{many}
 use Rattle.state.specs.Notes.{Places, places}
-use Rattle.targets.specs.Ending.{first_at, Alone, ended, Named, Left}
-use Rattle.targets.proofs.Endings.{first_none, left_then, left_wider}
+use Rattle.targets.specs.Ending.{first_at, ended, Named, Left}
+use Rattle.targets.proofs.Singles.{typing_code, only_checked}
+use Rattle.targets.proofs.Endings.{named_none as well_named, ended_well, ended_deep, ended_wrong, ended_alone, left_then, left_wider}
 use Rattle.stmt.specs.Contract.{state_of, setting_if, Stmt, Pair, Within, Fine, Deep, Done}
 
 -- ---- the setting: code that is told whether it is plain drops exactly if it is
@@ -47,30 +48,10 @@ drops_if false = refl
 
 -- ---- how a part of the walk ended
 
-module _ (ws : List Name) (u : Tab) (gs : Rows) (high : ℕ) (y : Ty) where
-  pub ended_done : (code : ℕ) (place : Places) (a b : ℕ) → code ≡ 0 → ended ws u gs high y code place a b ≡ done (state (frames_of u gs high) y)
-  unfolding ended test◌then◌else◌
-  ended_done code place a b z = rw (eq-eqb code 0 z)
-
-  pub ended_deep : (code : ℕ) (place : Places) (a b : ℕ) → code ≡ 9 → ended ws u gs high y code place a b ≡ too_deep place.here
-  unfolding ended test◌then◌else◌
-  ended_deep code place a b z = rw (ne_eqb code 0 (λ e. omega arith), eq-eqb code 9 z)
-
-  pub ended_wrong : (code : ℕ) (place : Places) (a b : ℕ) → (code ≡ 0 → ⊥) → (code ≡ 9 → ⊥)
-      → ended ws u gs high y code place a b ≡ wrong (conflict code place.here (first_at code place.since) (pieces ws u code a b)) (state (frames_of u gs high) y)
-  unfolding ended test◌then◌else◌
-  ended_wrong code place a b z n = rw (ne_eqb code 0 z, ne_eqb code 9 n)
-
-  pub ended_alone : (code : ℕ) (place : Places) (a b : ℕ) → (code ≡ 0 → ⊥) → (code ≡ 9 → ⊥) → Alone code
-      → ended ws u gs high y code place a b ≡ wrong (refusal code place.here (pieces ws u code a b)) (state (frames_of u gs high) y)
-  ended_alone code place a b z n h =
-      ended_wrong code place a b z n
-      ∙ ap (λ m. wrong (conflict code place.here m (pieces ws u code a b)) (state (frames_of u gs high) y)) (first_none place.since h)
-
 module _ {ws : List Name} {r : End} {t u : Tab} {gs : Rows} {top high ret : ℕ} {su : List ℕ} {i e M code : ℕ} {place : Places} {a b : ℕ}
     (d : Done ws r t u gs top high ret su i e M code place a b) where
   pub was_done : code ≡ 0 → r ≡ done (state_of u gs high ret)
-  was_done z = d.says ∙ ended_done ws u gs high (denote u ret) code place a b z
+  was_done z = d.says ∙ ended_well ws u gs high (denote u ret) code place a b z
 
   pub was_deep : code ≡ 9 → r ≡ too_deep place.here
   was_deep z = d.says ∙ ended_deep ws u gs high (denote u ret) code place a b z
@@ -108,15 +89,7 @@ named_none code place e p = record {
 
 -- code 0 whatever the rest
 pub named_well : {u : Tab} {M : ℕ} {place : Places} {a b : ℕ} → Named u M 0 place a b
-unfolding types_named is_in test◌then◌else◌ ◌or◌
-named_well =
-    let e : types_named 0 ≡ 0 = refl in
-    record {
-      first = λ l. absurd (omega arith);
-      second = λ l. absurd (omega arith);
-      small = λ z y. absurd (z refl);
-      placed = λ z. absurd (z refl);
-    }
+named_well = well_named refl
 
 -- ---- what is asked and what is left go on from node to node
 
@@ -157,7 +130,7 @@ done_as o d = record { says = o ∙ d.says; fine = d.fine; named = d.named; deep
 pub done_any : {ws : List Name} {r : End} {t u : Tab} {gs : Rows} {top high ret : ℕ} {su : List ℕ} {i e M code : ℕ} {place : Places} {a b code' : ℕ} {place' : Places} {a' b' : ℕ}
     → code ≡ 0 → code' ≡ 0 → Done ws r t u gs top high ret su i e M code place a b → Done ws r t u gs top high ret su i e M code' place' a' b'
 done_any {ws} {r} {t} {u} {gs} {top} {high} {ret} {code' = code'} {place'} {a'} {b'} z o d = record {
-  says = was_done d z ∙ sym (ended_done ws u gs high (denote u ret) code' place' a' b' o);
+  says = was_done d z ∙ sym (ended_well ws u gs high (denote u ret) code' place' a' b' o);
   fine = λ _. d.fine (λ x. omega arith);
   named = λ _. rw o named_well;
   deep = λ x. absurd (omega arith);
@@ -207,35 +180,25 @@ ready_next r l h = record {
 
 module _ {ws : List Name} {t u : Tab} {fs : Rows} {top : ℕ} {st su : List ℕ} {i e M code place' number a b : ℕ} (x : Expr) (f : Fit t fs top)
     (d : Typed ws (check ws (frames_of t fs top) x) t u st su 0 i e M code place' number a b) where
-  -- its refusal has a code of an expression
-  judged : (code ≡ 0 → ⊥) → 29 ≤ code
-  judged z = (fair_judged (rw (d.told.ill z) at (check_fair ws (frames_of t fs top) x))).above
-
   pub typing : code ≡ 9 → ⊥
-  typing z = absurd (omega (arith, judged (λ o. omega arith)))
+  typing = (only_checked x None f d).typing
 
   pub check_left : Left t u fs top su i e
-  check_left = record {
-    grown = d.fine.grown;
-    fit = fit_grown d.fine.grown.more f;
-    stack = d.fine.stack;
-    types_spent = d.fine.types_spent;
-    elements_spent = omega (arith, d.fine.elements_spent);
-  }
+  check_left = (only_checked x None f d).left
 
-  pub check_named : {m : ℕ} → Named u M code (places place' m) a b
-  check_named = record { first = d.told.first; second = d.told.second; small = d.told.small; placed = d.told.placed }
+  pub check_named : {m : First} → Named u M code (places place' m) a b
+  check_named {m} = (only_checked x m f d).named
 
   pub check_well : code ≡ 0 → (s : State) (k : Ty → End) → typed (check ws (frames_of t fs top) x) s k ≡ k (denote u number)
   unfolding typed
   check_well z s k = rw (d.told.well z)
 
   -- which points at no first place, whatever is noted there
-  pub check_ill : (m : ℕ) → (code ≡ 0 → ⊥) → (y : Ty) (k : Ty → End)
+  pub check_ill : (m : First) → (code ≡ 0 → ⊥) → (y : Ty) (k : Ty → End)
       → typed (check ws (frames_of t fs top) x) (state (frames_of t fs top) y) k ≡ ended ws u fs top y code (places place' m) a b
   unfolding typed
   check_ill m z y k =
-      let j = judged z in
+      let j = typing_code x None f d z in
       rw (d.told.ill z, ← (frames_grown d.fine.grown f))
       (sym (ended_alone ws u fs top y code (places place' m) a b z typing (λ q. omega arith, λ q. omega arith)))
 

@@ -1,5 +1,6 @@
 -- Statements without a body.
 use mathlib.Core.Path.{◌≡◌, refl, sym, ap, ◌∙◌}
+use Rattle.std.specs.Prelude.{Option, Some, None}
 use mathlib.Core.Bool.{Bool, true, false}
 use mathlib.Core.List.{List, [], ◌∷◌}
 use mathlib.Core.Logic.{◌⊎◌, inl, inr}
@@ -24,7 +25,7 @@ use Rattle.types.specs.Table.{Tab, Wf, denote}
 use Rattle.types.specs.Reading.{Agreement}
 use Rattle.types.proofs.Laws.{grown_trans, plain_number}
 use Rattle.types.proofs.Answers.{perhaps_yes, perhaps_no}
-use Rattle.frames.specs.Env.{Rows, frames_of, first_node, Fit, Bound}
+use Rattle.frames.specs.Env.{Rows, First, frames_of, first_node, Fit, Bound}
 use Rattle.frames.specs.declared.Binding.{Binding as Found}
 use Rattle.frames.proofs.Laws.{frames_grown, blank_binding}
 use Rattle.rules.specs.Outcome.{types_named, pieces}
@@ -32,9 +33,9 @@ use Rattle.expr.specs.Contract.{Ready, At}
 use Rattle.expr.specs.Contract.{Done as Typed}
 use Rattle.state.specs.Notes.{Places, places}
 use Rattle.targets.specs.Ending.{Alone, ended, Left, Assigned}
-use Rattle.targets.proofs.Endings.{left_wider}
-use Rattle.stmt.specs.Contract.{state_of, acted, condition_at, evaluated_at, assigned_at, returned_at, Standing, Stmt, Bodiless, Pair, Params, Fine, Done, Entered}
-use Rattle.stmt.proofs.Laws.{ended_done, ended_alone, named_none, named_well, left_refl, done_wider, done_as, ready_within, typing, check_left, check_named, check_well, check_ill, place_at, wide_at, within_child, one_child, arg_small, pair_wide}
+use Rattle.targets.proofs.Endings.{ended_well, ended_alone, left_wider}
+use Rattle.stmt.specs.Contract.{state_of, acted, condition_at, assigned_at, returned_at, Standing, Stmt, Bodiless, Pair, Params, Fine, Done, Entered}
+use Rattle.stmt.proofs.Laws.{named_none, named_well, left_refl, done_wider, done_as, ready_within, typing, check_left, check_named, check_well, check_ill, place_at, wide_at, within_child, one_child, arg_small, pair_wide}
 
 -- the number of Bool
 bool_number : {t : Tab} → Wf t → denote t 2 ≡ bool
@@ -56,9 +57,9 @@ assigned_done {t = t} ret a h = record {
 module _ {bs : List ℕ} {nodes : ℕ} {t u : Tab} {fs : Rows} {top : ℕ} {st su : List ℕ} {i d e code place' number a b : ℕ} (r : Ready bs nodes fs top t st 0 i e) (h : At bs i d)
     (q : Typed (names_of bs) (check (names_of bs) (frames_of t fs top) (expr_at (nodes_of bs) d i)) t u st su 0 i e (node_count bs) code place' number a b) where
   well_says : (y : Ty) (p : Places) → done (state (frames_of t fs top) y) ≡ ended (names_of bs) u fs top y 0 p 0 0
-  well_says y p = rw (← (frames_grown q.fine.grown r.fit)) (sym (ended_done (names_of bs) u fs top y 0 p 0 0 refl))
+  well_says y p = rw (← (frames_grown q.fine.grown r.fit)) (sym (ended_well (names_of bs) u fs top y 0 p 0 0 refl))
 
-  pub condition_bad : {m : ℕ} → (code ≡ 0 → ⊥)
+  pub condition_bad : {m : First} → (code ≡ 0 → ⊥)
       → Assigned (names_of bs) (λ y. condition_at bs d i (state (frames_of t fs top) y)) t u fs top su i e (node_count bs) code (places place' m) a b
   unfolding condition_at condition checked
   condition_bad z = record {
@@ -68,7 +69,7 @@ module _ {bs : List ℕ} {nodes : ℕ} {t u : Tab} {fs : Rows} {top : ℕ} {st s
     typing = typing _ r.fit q;
   }
 
-  pub condition_other : {m : ℕ} → code ≡ 0 → (number ≡ 2 → ⊥)
+  pub condition_other : {m : First} → code ≡ 0 → (number ≡ 2 → ⊥)
       → Assigned (names_of bs) (λ y. condition_at bs d i (state (frames_of t fs top) y)) t u fs top su i e (node_count bs) 36 (places i m) 0 0
   unfolding condition_at condition checked test◌then◌else◌ pieces types_named is_in choose ◌or◌
   condition_other {m} z o =
@@ -85,44 +86,24 @@ module _ {bs : List ℕ} {nodes : ℕ} {t u : Tab} {fs : Rows} {top : ℕ} {st s
       }
 
   pub condition_done : code ≡ 0 → number ≡ 2
-      → Assigned (names_of bs) (λ y. condition_at bs d i (state (frames_of t fs top) y)) t u fs top su i e (node_count bs) 0 (places 0 0) 0 0
+      → Assigned (names_of bs) (λ y. condition_at bs d i (state (frames_of t fs top) y)) t u fs top su i e (node_count bs) 0 (places 0 None) 0 0
   unfolding condition_at condition checked test◌then◌else◌
   condition_done z o =
       let w = q.fine.grown.wf in
       let so = same_yes (denote u number) bool (ap (denote u) o ∙ bool_number w) in
       record {
-        says = λ y. check_well _ r.fit q z (state (frames_of t fs top) y) _ ∙ rw so (well_says y (places 0 0));
+        says = λ y. check_well _ r.fit q z (state (frames_of t fs top) y) _ ∙ rw so (well_says y (places 0 None));
         named = named_well;
         left = check_left _ r.fit q;
         typing = λ x. absurd (omega arith);
       }
-
-  pub evaluate_bad : {m : ℕ} → (code ≡ 0 → ⊥)
-      → Assigned (names_of bs) (λ y. evaluated_at bs d i (state (frames_of t fs top) y)) t u fs top su i e (node_count bs) code (places place' m) a b
-  unfolding evaluated_at checked
-  evaluate_bad z = record {
-    says = λ y. check_ill _ r.fit q _ z y _;
-    named = check_named _ r.fit q;
-    left = check_left _ r.fit q;
-    typing = typing _ r.fit q;
-  }
-
-  pub evaluate_done : code ≡ 0
-      → Assigned (names_of bs) (λ y. evaluated_at bs d i (state (frames_of t fs top) y)) t u fs top su i e (node_count bs) 0 (places 0 0) 0 0
-  unfolding evaluated_at checked
-  evaluate_done z = record {
-    says = λ y. check_well _ r.fit q z (state (frames_of t fs top) y) _ ∙ well_says y (places 0 0);
-    named = named_well;
-    left = check_left _ r.fit q;
-    typing = λ x. absurd (omega arith);
-  }
 
   -- ---- Return
   module _ {ret : ℕ} (k : ret < t.n) where
     fine_here : {got : ℕ} → got < u.n → Fine t u fs top top got su i e
     fine_here o = record { left = check_left _ r.fit q; kept = o; raised = omega arith }
 
-    pub give_bad : {m : ℕ} → (code ≡ 0 → ⊥)
+    pub give_bad : {m : First} → (code ≡ 0 → ⊥)
         → Done (names_of bs) (returned_at bs d i (state_of t fs top ret)) t u fs top top ret su i e (node_count bs) code (places place' m) a b
     unfolding returned_at checked
     give_bad z = record {
@@ -132,31 +113,31 @@ module _ {bs : List ℕ} {nodes : ℕ} {t u : Tab} {fs : Rows} {top : ℕ} {st s
       deep = λ x. absurd (typing _ r.fit q x);
     }
 
-    pub give_agreed : {there : Bool} {got : ℕ} → code ≡ 0 → Agreement ret number there got → there ≡ true
-        → Done (names_of bs) (returned_at bs d i (state_of t fs top ret)) t u fs top top got su i e (node_count bs) 0 (places i 0) 0 0
+    pub give_agreed : {both : Option ℕ} {got : ℕ} → code ≡ 0 → Agreement ret number both → both ≡ Some got
+        → Done (names_of bs) (returned_at bs d i (state_of t fs top ret)) t u fs top top got su i e (node_count bs) 0 (places i None) 0 0
     unfolding returned_at checked return_rule if_some
-    give_agreed {there} {got} z o y =
+    give_agreed {got = got} z o y =
         let g = q.fine.grown in
         let m : ret < u.n = omega (arith, g.more) in
         let same_old = g.same ret k in
         record {
           says = check_well _ r.fit q z (state_of t fs top ret) _
-              ∙ rw (← same_old, o.says u g.wf m (q.below z), perhaps_yes u there got y) (well_says (denote u got) (places i 0));
-          fine = λ n. fine_here (o.below u m (q.below z));
+              ∙ rw (← same_old, o.says u g.wf m (q.below z), perhaps_yes u y) (well_says (denote u got) (places i None));
+          fine = λ n. fine_here (o.below u m (q.below z) got y);
           named = λ n. named_well;
           deep = λ x. absurd (omega arith);
         }
 
-    pub give_wrong : {there : Bool} {got m : ℕ} → code ≡ 0 → Agreement ret number there got → there ≡ false
+    pub give_wrong : {both : Option ℕ} {m : First} → code ≡ 0 → Agreement ret number both → both ≡ None
         → Done (names_of bs) (returned_at bs d i (state_of t fs top ret)) t u fs top top ret su i e (node_count bs) 22 (places i m) ret number
     unfolding returned_at checked return_rule if_some pieces types_named is_in choose test◌then◌else◌ ◌or◌
-    give_wrong {there} {got} {m = m'} z o y =
+    give_wrong {m = m'} z o y =
         let g = q.fine.grown in
         let m : ret < u.n = omega (arith, g.more) in
         let same_old = g.same ret k in
         record {
           says = check_well _ r.fit q z (state_of t fs top ret) _
-              ∙ rw (← same_old, o.says u g.wf m (q.below z), perhaps_no u there got y, place_at bs d i, ← (frames_grown g r.fit))
+              ∙ rw (← same_old, o.says u g.wf m (q.below z), perhaps_no u y, place_at bs d i, ← (frames_grown g r.fit))
               (sym (ended_alone (names_of bs) u fs top (denote u ret) 22 (places i m') ret number (λ x. omega arith) (λ x. omega arith) (λ x. omega arith, λ x. omega arith)));
           fine = λ n. fine_here m;
           named = λ n. record { first = λ x. m; second = λ x. q.below z; small = λ x w. absurd (two w); placed = λ x. h.there };
@@ -181,7 +162,7 @@ module _ {bs : List ℕ} {nodes : ℕ} {t : Tab} {fs : Rows} {top : ℕ} {st : L
       value_spent : Left t u fs top su (stop_of (nodes_of bs) (i + 1)) (stop_of (nodes_of bs) i)
       value_spent = rw (o, p.last) at (check_left _ r.fit q)
 
-      pub assignment_bad : {m : ℕ} → (code ≡ 0 → ⊥)
+      pub assignment_bad : {m : First} → (code ≡ 0 → ⊥)
           → Assigned (names_of bs) (λ y. assigned_at bs d i (state (frames_of t fs top) y)) t u fs top su i (stop_of (nodes_of bs) i) (node_count bs) code (places place' m) a b
       unfolding assigned_at checked
       assignment_bad z = record {
@@ -231,7 +212,7 @@ module _ {bs : List ℕ} {nodes : ℕ} {t : Tab} {fs : Rows} {top : ℕ} {st : L
 module _ {bs : List ℕ} {nodes : ℕ} {t : Tab} {fs : Rows} {top : ℕ} {st : List ℕ} {ret i d k : ℕ} (loop : Bool)
     (r : Standing bs nodes fs top t st ret i (stop_of (nodes_of bs) i)) (q : Stmt bs i d k) where
   -- it leaves all as it was
-  stays : {e : End} {code m : ℕ} → (code ≡ 9 → ⊥) → types_named code ≡ 0 → e ≡ ended (names_of bs) t fs top (denote t ret) code (places i m) 0 0
+  stays : {e : End} {code : ℕ} {m : First} → (code ≡ 9 → ⊥) → types_named code ≡ 0 → e ≡ ended (names_of bs) t fs top (denote t ret) code (places i m) 0 0
       → Done (names_of bs) e t t fs top top ret st i (stop_of (nodes_of bs) i) (node_count bs) code (places i m) 0 0
   stays {e} {code} {m} n z o =
       let w = wide_at r.ready.sound i q.there in
@@ -242,13 +223,13 @@ module _ {bs : List ℕ} {nodes : ℕ} {t : Tab} {fs : Rows} {top : ℕ} {st : L
         deep = λ x. absurd (n x);
       }
 
-  only_says : (m c : ℕ) → (c ≡ 9 → ⊥) → (c ≡ 0 → ⊥) → Alone c → pieces (names_of bs) t c 0 0 ≡ []
+  only_says : (m : First) (c : ℕ) → (c ≡ 9 → ⊥) → (c ≡ 0 → ⊥) → Alone c → pieces (names_of bs) t c 0 0 ≡ []
       → only_in loop c i (state_of t fs top ret) ≡ ended (names_of bs) t fs top (denote t ret) (test loop then 0 else c) (places i m) 0 0
   unfolding only_in test◌then◌else◌
   only_says m c n z h p = by loop
     where
       by : (l : Bool) → (test l then done (state_of t fs top ret) else refuse c i [] (state_of t fs top ret)) ≡ ended (names_of bs) t fs top (denote t ret) (test l then 0 else c) (places i m) 0 0
-      by true = sym (ended_done (names_of bs) t fs top (denote t ret) 0 (places i m) 0 0 refl)
+      by true = sym (ended_well (names_of bs) t fs top (denote t ret) 0 (places i m) 0 0 refl)
       by false = rw (← p) (sym (ended_alone (names_of bs) t fs top (denote t ret) c (places i m) 0 0 z n h))
 
   either : (P : ℕ → Type 0) (c : ℕ) → P 0 → P c → P (test loop then 0 else c)
@@ -259,14 +240,14 @@ module _ {bs : List ℕ} {nodes : ℕ} {t : Tab} {fs : Rows} {top : ℕ} {st : L
       by true = a
       by false = b
 
-  pub simple_break : (setting : Setting) {code m : ℕ} → k ≡ 1 → code ≡ (test loop then 0 else 20)
+  pub simple_break : (setting : Setting) {code : ℕ} {m : First} → k ≡ 1 → code ≡ (test loop then 0 else 20)
       → Done (names_of bs) (acted bs setting loop d i (state_of t fs top ret)) t t fs top top ret st i (stop_of (nodes_of bs) i) (node_count bs) code (places i m) 0 0
   unfolding acted act pieces types_named is_in choose test◌then◌else◌ ◌or◌
   simple_break setting e o =
       rw o (stays (either (λ c. c ≡ 9 → ⊥) 20 (λ x. absurd (omega arith)) (λ x. absurd (omega arith))) (either (λ c. types_named c ≡ 0) 20 refl refl)
       (rw (break_at (nodes_of bs) (λ j. expr_at (nodes_of bs) d j) (λ j. block_at (nodes_of bs) d j) i (q.kind ∙ e)) (only_says _ 20 (λ x. absurd (omega arith)) (λ x. absurd (omega arith)) (λ x. absurd (omega arith), λ x. absurd (omega arith)) refl)))
 
-  pub simple_continue : (setting : Setting) {code m : ℕ} → k ≡ 2 → code ≡ (test loop then 0 else 21)
+  pub simple_continue : (setting : Setting) {code : ℕ} {m : First} → k ≡ 2 → code ≡ (test loop then 0 else 21)
       → Done (names_of bs) (acted bs setting loop d i (state_of t fs top ret)) t t fs top top ret st i (stop_of (nodes_of bs) i) (node_count bs) code (places i m) 0 0
   unfolding acted act pieces types_named is_in choose test◌then◌else◌ ◌or◌
   simple_continue setting e o =
@@ -280,14 +261,15 @@ module _ {bs : List ℕ} {nodes : ℕ} {t : Tab} {fs : Rows} {top : ℕ} {st : L
   simple_assign setting e a =
       done_as (rw (assign_at (nodes_of bs) (λ j. expr_at (nodes_of bs) d j) (λ j. block_at (nodes_of bs) d j) i (q.kind ∙ e), add-one i)) (assigned_done ret a r.kept)
 
-  pub simple_expr : (setting : Setting) {u : Tab} {gs : Rows} {su : List ℕ} {code : ℕ} {place' : Places} {a b : ℕ} → k ≡ 6
-      → Assigned (names_of bs) (λ y. evaluated_at bs d (i + 1) (state (frames_of t fs top) y)) t u gs top su (i + 1) (stop_of (nodes_of bs) (i + 1)) (node_count bs) code place' a b
-      → Done (names_of bs) (acted bs setting loop d i (state_of t fs top ret)) t u gs top top ret su i (stop_of (nodes_of bs) i) (node_count bs) code place' a b
-  unfolding acted evaluated_at act
-  simple_expr setting e a =
+  -- the value at node k is checked, and not tracked
+  pub simple_expr : (setting : Setting) {u : Tab} {su : List ℕ} {v : ℕ} {code : ℕ} {place' : Places} {a b : ℕ} → k ≡ 6 → v ≡ i + 1
+      → Assigned (names_of bs) (λ y. checked (names_of bs) (expr_at (nodes_of bs) d v) (state (frames_of t fs top) y) (λ x. done (state (frames_of t fs top) y))) t u fs top su v (stop_of (nodes_of bs) v) (node_count bs) code place' a b
+      → Done (names_of bs) (acted bs setting loop d i (state_of t fs top ret)) t u fs top top ret su i (stop_of (nodes_of bs) i) (node_count bs) code place' a b
+  unfolding acted act
+  simple_expr setting e h a =
       let o = (one_child r.ready.sound q (inl e)).1 in
       done_wider
-      (done_as (rw (expression_at (nodes_of bs) (λ j. expr_at (nodes_of bs) d j) (λ j. block_at (nodes_of bs) d j) i (q.kind ∙ e), add-one i)) (assigned_done ret a r.kept))
+      (done_as (rw (expression_at (nodes_of bs) (λ j. expr_at (nodes_of bs) d j) (λ j. block_at (nodes_of bs) d j) i (q.kind ∙ e), add-one i)) (assigned_done ret (rw h at a) r.kept))
       (omega arith) (omega arith)
 
   pub simple_return : (setting : Setting) {u : Tab} {gs : Rows} {high got : ℕ} {su : List ℕ} {code : ℕ} {place' : Places} {a b : ℕ} → k ≡ 7
@@ -327,11 +309,11 @@ module _ {bs : List ℕ} {nodes : ℕ} {t : Tab} {fs : Rows} {top : ℕ} {st : L
   ]
 
   pub simple_nothing : (setting : Setting) → (k ≡ 1 → ⊥) → (k ≡ 2 → ⊥) → (k ≡ 5 → ⊥) → (k ≡ 6 → ⊥) → (k ≡ 7 → ⊥) → Bodiless k
-      → Done (names_of bs) (acted bs setting loop d i (state_of t fs top ret)) t t fs top top ret st i (stop_of (nodes_of bs) i) (node_count bs) 0 (places 0 0) 0 0
+      → Done (names_of bs) (acted bs setting loop d i (state_of t fs top ret)) t t fs top top ret st i (stop_of (nodes_of bs) i) (node_count bs) 0 (places 0 None) 0 0
   simple_nothing setting a b c f g n =
       let w = wide_at r.ready.sound i q.there in
       record {
-        says = nothing_at setting a b c f g n ∙ sym (ended_done (names_of bs) t fs top (denote t ret) 0 (places 0 0) 0 0 refl);
+        says = nothing_at setting a b c f g n ∙ sym (ended_well (names_of bs) t fs top (denote t ret) 0 (places 0 None) 0 0 refl);
         fine = λ _. record { left = left_refl r.ready (omega arith); kept = r.kept; raised = omega arith };
         named = λ _. named_well;
         deep = λ x. absurd (omega arith);
@@ -348,19 +330,19 @@ pub record Entering (bs : List ℕ) (k n : ℕ) (fs gs : Rows) (top j left : ℕ
   pub rest : (f : Frame) → with_params (params_from (nodes_of bs) n k) f ≡ with_params (params_from (nodes_of bs) left j) (so_far f)
   pub fit : (t : Tab) → Wf t → Fit t fs top → Fit t gs top
 
-pub entering_first : {bs : List ℕ} {k n : ℕ} (fs : Rows) (top : ℕ) → Params bs k n → Entering bs k n fs fs top k n
-entering_first fs top p = record { params = p; ends = refl; so_far = λ f. f; says = λ t f Γ w h e. e; rest = λ f. refl; fit = λ t w h. h }
+pub entering_first : {bs : List ℕ} {k n left : ℕ} (fs : Rows) (top : ℕ) → left ≡ n → Params bs k n → Entering bs k n fs fs top k left
+entering_first fs top e p = rw e record { params = p; ends = refl; so_far = λ f. f; says = λ t f Γ w h e. e; rest = λ f. refl; fit = λ t w h. h }
 
 module _ {bs : List ℕ} {k n : ℕ} {fs gs : Rows} {top j left : ℕ} (s : Sound bs) (l : Entering bs k n fs gs top j left) (p : 0 < left) where
   pub entering_here : (j < node_count bs) × ((node_of (nodes_of bs) j).arg < 128)
   entering_here = let h = (within_child s l.params.within (omega arith)).2 in (h, arg_small s j h)
 
-  pub entering_next : {x e : ℕ} {hs : Rows} → x ≡ (node_of (nodes_of bs) j).arg → e ≡ stop_of (nodes_of bs) j → {c : Found} → c.ty ≡ 0 → first_node c.first ≡ none → Bound gs hs top x c
-      → Entering bs k n fs hs top e (left - 1)
+  pub entering_next : {x e rest : ℕ} {hs : Rows} → x ≡ (node_of (nodes_of bs) j).arg → e ≡ stop_of (nodes_of bs) j → rest ≡ left - 1 → {c : Found} → c.ty ≡ 0 → first_node c.first ≡ none → Bound gs hs top x c
+      → Entering bs k n fs hs top e rest
   unfolding with_params write
-  entering_next {x} {e} {hs} a b {c = k'} z n' c =
+  entering_next {x} {e} {hs = hs} a b r {c = k'} z n' c =
       let o : left + 1 - 1 ≡ left - 1 + 1 = omega arith in
-      rw b (record {
+      rw (b, r) (record {
         params = record { parent = l.params.parent; within = rw o at (within_child s l.params.within (omega arith)).3 };
         ends = sym (past_down (nodes_of bs) left j p) ∙ l.ends;
         so_far = λ f. set (l.so_far f) x (some blank);

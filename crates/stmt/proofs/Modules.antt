@@ -23,10 +23,10 @@ use Rattle.frames.proofs.Laws.{absent_cells, map_replicate}
 use Rattle.meaning.specs.Frames.{empty}
 use Rattle.expr.specs.Contract.{Ready, At}
 use Rattle.targets.specs.Ending.{Left}
-use Rattle.targets.proofs.Endings.{left_none, left_then, left_wider}
-use Rattle.state.specs.Notes.{Places, places}
+use Rattle.targets.proofs.Endings.{ended_well, ended_deep, ended_wrong, left_none, left_then, left_wider}
+use Rattle.state.specs.Notes.{Places}
 use Rattle.stmt.specs.Contract.{state_of, walked_at, Standing, Within, Done, Started, Ran}
-use Rattle.stmt.proofs.Laws.{ended_done, ended_deep, ended_wrong, was_done, was_deep, was_wrong, named_well, deep_wider, deep_then, ready_within, ready_next, few_nodes, wide_at, within_all, within_le, within_child, within_at, stop_is}
+use Rattle.stmt.proofs.Laws.{was_done, was_deep, was_wrong, named_well, deep_wider, deep_then, ready_within, ready_next, few_nodes, wide_at, within_all, within_le, within_child, within_at, stop_is}
 use Rattle.stmt.proofs.Bodies.{block_down}
 
 root_depth : (ds : List Node) → 0 < length ds → 0 < (node_of ds 0).stop → 1 ≤ depth 0 0 ds
@@ -52,17 +52,17 @@ pub record Running (bs : List ℕ) (setting : Setting) (nodes : ℕ) (t u : Tab)
   pub returns : Ty
   pub answer : walked setting bs ≡ program (names_of bs) setting (stmts_from (nodes_of bs) (λ k. stmt_at (nodes_of bs) 63 k) left j) (state (frames_of u gs high) returns)
 
-pub running_first : {bs : List ℕ} {setting : Setting} {nodes : ℕ} {fs : Rows} {t : Tab} {st : List ℕ} {n : ℕ} → Started bs fs t st → nodes ≡ nodes_from bs → n ≡ (node_of (nodes_of bs) 0).children
+pub running_first : {bs : List ℕ} {setting : Setting} {nodes : ℕ} {fs : Rows} {t : Tab} {st : List ℕ} {n : ℕ} → Started bs fs t → length st ≡ 2048 → nodes ≡ nodes_from bs → n ≡ (node_of (nodes_of bs) 0).children
     → Running bs setting nodes t t fs 0 st 1 n
 unfolding walked tree_of start
-running_first {bs} {setting} {nodes} {fs} {t} {st} {n} a k e =
+running_first {bs} {setting} {nodes} {fs} {t} {st} {n} a h k e =
     let s = a.sound in
     let r : Ready bs nodes fs 0 t st 0 0 (node_count bs) = record {
       sound = s;
       nodes_at = k;
       wf = a.wf;
       fit = a.fit;
-      stack = a.stack;
+      stack = h;
       types_room = omega (arith, a.types, a.room);
       elements_room = omega (arith, a.elements, a.room);
       stack_room = omega (arith, few_nodes s);
@@ -70,7 +70,7 @@ running_first {bs} {setting} {nodes} {fs} {t} {st} {n} a k e =
     record {
       standing = record { ready = ready_within r (omega arith) (omega arith); kept = omega (arith, a.types) };
       within = rw e (within_all s 0 (some_node s));
-      spent = left_none 1 a.wf a.fit a.stack;
+      spent = left_none 1 a.wf a.fit h;
       returns = unknown;
       answer = rw (block_down bs 64 0 (omega arith), ← e, a.module_frame);
     }
@@ -95,10 +95,11 @@ module _ {bs : List ℕ} {setting : Setting} {nodes : ℕ} {t u : Tab} {gs : Row
 
   module _ {v : Tab} {hs : Rows} {peak had : ℕ} {sv : List ℕ} {code : ℕ} {place : Places} {a b : ℕ}
       (c : Done (names_of bs) (walked_at bs setting false 63 j (state_of u gs high 0)) u v hs high peak had sv j (stop_of (nodes_of bs) j) (node_count bs) code place a b) where
-    pub running_out : (code ≡ 0 → ⊥) → Ran bs setting t v hs peak sv code place a b
+    pub running_out : (code ≡ 0 → ⊥) → Ran bs setting t v hs peak code place a b
     unfolding ◌>>=◌
     running_out z = record {
       returns = denote v had;
+      stack = sv;
       says = elim (ℕ_discrete code 9) [
         | yes y ↦ running_answer ∙ rw (was_deep c y) (sym (ended_deep (names_of bs) v hs peak (denote v had) code place a b y))
         | no y ↦ running_answer ∙ rw (was_wrong c z y) (sym (ended_wrong (names_of bs) v hs peak (denote v had) code place a b z y))
@@ -108,12 +109,12 @@ module _ {bs : List ℕ} {setting : Setting} {nodes : ℕ} {t u : Tab} {gs : Row
       deep = λ y. deep_wider (deep_then l.spent (c.deep y)) (omega arith) (omega (arith, running_child.1, root_stop l.standing.ready.sound));
     }
 
-    pub running_next : {e : ℕ} → e ≡ stop_of (nodes_of bs) j → code ≡ 0 → Running bs setting nodes t v hs peak sv e (left - 1)
+    pub running_next : {e rest : ℕ} → e ≡ stop_of (nodes_of bs) j → rest ≡ left - 1 → code ≡ 0 → Running bs setting nodes t v hs peak sv e rest
     unfolding ◌>>=◌
-    running_next z o =
+    running_next z r o =
         let f = c.fine (λ x. omega arith) in
         let k = running_child in
-        rw z (record {
+        rw (z, r) (record {
           standing = record { ready = ready_next l.standing.ready f.left (omega arith); kept = omega (arith, f.left.grown.wf.base) };
           within = k.3;
           spent = left_then l.spent f.left;
@@ -121,15 +122,16 @@ module _ {bs : List ℕ} {setting : Setting} {nodes : ℕ} {t u : Tab} {gs : Row
           answer = running_answer ∙ rw (was_done c o);
         })
 
-pub running_end : {bs : List ℕ} {setting : Setting} {nodes : ℕ} {t u : Tab} {gs : Rows} {high : ℕ} {su : List ℕ} {j left : ℕ} → Running bs setting nodes t u gs high su j left → left ≤ 0
-    → Ran bs setting t u gs high su 0 (places 0 0) 0 0
+pub running_end : {bs : List ℕ} {setting : Setting} {nodes : ℕ} {t u : Tab} {gs : Rows} {high : ℕ} {su : List ℕ} {j left : ℕ} {place : Places} {a b : ℕ}
+    → Running bs setting nodes t u gs high su j left → left ≤ 0 → Ran bs setting t u gs high 0 place a b
 unfolding program stmts_from
-running_end {bs} {setting} {nodes} {t} {u} {gs} {high} {su} {j} {left} l z =
+running_end {bs} {setting} {nodes} {t} {u} {gs} {high} {su} {j} {left} {place} {a} {b} l z =
     let o : left ≡ 0 = omega arith in
     let s = l.standing.ready.sound in
     record {
       returns = l.returns;
-      says = (rw o at l.answer) ∙ sym (ended_done (names_of bs) u gs high l.returns 0 (places 0 0) 0 0 refl);
+      stack = su;
+      says = (rw o at l.answer) ∙ sym (ended_well (names_of bs) u gs high l.returns 0 place a b refl);
       named = λ _. named_well;
       left = λ _. left_wider l.spent (omega arith) (omega (arith, within_le s l.within, root_stop s));
       deep = λ x. absurd (omega arith);

@@ -1,26 +1,23 @@
 -- What the walk over the statements asks, and how it ends.
-use Rattle.std.specs.Prelude.{◌≡◌, Bool, List, [], ◌∷◌, ℕ, ◌+◌, ◌≤◌, ◌<◌, ltb, length}
-use Rattle.meaning.specs.Limits.{most_nodes, deepest}
+use Rattle.std.specs.Prelude.{◌≡◌, Bool, List, [], ◌∷◌, ℕ, ◌+◌, ◌≤◌, ◌<◌, ltb, Result, Ok, Err}
+use Rattle.meaning.specs.Limits.{deepest}
 use Rattle.meaning.specs.Base.{test◌then◌else◌}
 use Rattle.meaning.specs.Types.{Ty}
 use Rattle.meaning.specs.Tree.{place, on, otherwise}
 use Rattle.meaning.specs.Image.{Name, node_count, nodes_of, node_of, names_of, depth}
 use Rattle.meaning.specs.Decode.{stop_of, expr_at, act_at, stmt_at, block_at}
 use Rattle.meaning.specs.Frames.{Frame, Frames, empty}
-use Rattle.meaning.specs.Walk.{Setting, plain, strict, State, state, End, done, checked, condition, assign_to, return_rule, over_elements, with_params, walk, act, body, arm}
+use Rattle.meaning.specs.Walk.{Setting, plain, strict, State, state, End, checked, condition, assign_to, return_rule, over_elements, with_params, walk, act, body, arm}
 use Rattle.meaning.specs.Answer.{walked}
 use Rattle.meaning.proofs.Faults.{Sound}
 use Rattle.meaning.proofs.Nesting.{Children}
 use Rattle.types.specs.Table.{Tab, capacity, Wf, Grown, denote}
-use Rattle.frames.specs.Env.{Rows, frames_of, Fit, first_node, first_number}
-use Rattle.frames.specs.declared.First.{First}
-use Rattle.state.specs.Notes.{code_in, Places, Noting}
-use Rattle.state.specs.declared.Outcome.{Outcome}
-use Rattle.state.specs.declared.Outcome.TheVariants as outcome
+use Rattle.frames.specs.Env.{Rows, frames_of, Fit}
+use Rattle.state.specs.Notes.{Places}
 use Rattle.expr.specs.Contract.{Ready, At}
-use Rattle.targets.specs.Ending.{first_at, ended, Named, Left}
-use Rattle.stmt.specs.declared.End.{End as Answer}
-use Rattle.stmt.specs.declared.End.TheVariants as answer
+use Rattle.targets.specs.Ending.{ended, Named, Left}
+use Rattle.stmt.specs.declared.Stop.{Stop}
+use Rattle.stmt.specs.declared.Stop.TheVariants.{Wrong, TooDeep}
 
 -- the state that rows and a return type's number stand for
 abbrev pub state_of : Tab → Rows → ℕ → ℕ → State
@@ -48,10 +45,6 @@ body_at bs setting loop drops d i s = body (names_of bs) setting loop drops (blo
 unfoldable pub condition_at : List ℕ → ℕ → ℕ → State → End
 condition_at bs d i s = condition (names_of bs) (expr_at (nodes_of bs) d i) s
 
--- an Expr of the value at node i
-unfoldable pub evaluated_at : List ℕ → ℕ → ℕ → State → End
-evaluated_at bs d i s = checked (names_of bs) (expr_at (nodes_of bs) d i) s λ t. done s
-
 -- the Assign at node i: its value is the second child, and is checked first
 unfoldable pub assigned_at : List ℕ → ℕ → ℕ → State → End
 assigned_at bs d i s =
@@ -77,28 +70,23 @@ armed_at bs setting loop d n i s =
 
 -- ---- the walk's answers, and the notes
 
+-- how a statement ended, as the code has it
+abbrev pub Answer : Type 0
+Answer = Result (Unit {0}) Stop
+
 -- an answer in the scope's numbers: 0, the code that is noted, or 9
-abbrev pub end_code : Answer → List ℕ → ℕ
-end_code answer.Done ms = 0
-end_code answer.Wrong ms = code_in ms
-end_code answer.TooDeep ms = 9
+abbrev pub end_code : Answer → ℕ → ℕ
+end_code (Ok _) code = 0
+end_code (Err Wrong) code = code
+end_code (Err TooDeep) code = 9
 
--- the same where the code was handed out
-abbrev pub ended_as : Answer → ℕ → ℕ
-ended_as answer.Done code = 0
-ended_as answer.Wrong code = code
-ended_as answer.TooDeep code = 9
+-- if there is a typing refusal, it has a code, and not that of a ninth frame
+pub record Tells (code : ℕ) (refused : Type 0) : Type 0 where
+  pub coded : refused → code ≡ 0 → ⊥
+  pub typing : refused → code ≡ 9 → ⊥
 
--- the answer of a statement that cannot need a frame
-abbrev pub end_of : Outcome → Answer
-end_of outcome.Ok = answer.Done
-end_of outcome.Err = answer.Wrong
-
--- what is left of the notes: if there is a typing refusal, its code is noted
-pub record Tells (ms : List ℕ) (refused : Type 0) : Type 0 where
-  pub noting : Noting ms
-  pub coded : refused → code_in ms ≡ 0 → ⊥
-  pub typing : refused → code_in ms ≡ 9 → ⊥
+abbrev pub Refuses : Answer → ℕ → Type 0
+Refuses e code = Tells code (e ≡ Err Wrong)
 
 -- ---- what is asked
 
@@ -186,26 +174,20 @@ pub record Iterated (bs : List ℕ) (d : ℕ) (t u : Tab) (fs : Rows) (top : ℕ
 -- ---- the program
 
 -- a sound image, a table of the plain types with room for its nodes, and an empty module frame
-pub record Started (bs : List ℕ) (fs : Rows) (t : Tab) (st : List ℕ) : Type 0 where
+pub record Started (bs : List ℕ) (fs : Rows) (t : Tab) : Type 0 where
   pub sound : Sound bs
   pub wf : Wf t
   pub types : t.n ≡ 8
   pub elements : t.m ≡ 0
   pub fit : Fit t fs 0
   pub module_frame : frames_of t fs 0 ≡ empty ∷ []
-  pub stack : length st ≡ most_nodes
   pub room : node_count bs + 8 ≤ capacity t.cells
 
--- a typing refusal has a code, and not that of a ninth frame; its first node is the one that its code points at
-pub record Refuses (e : Answer) (code : ℕ) (first : First) : Type 0 where
-  pub coded : e ≡ answer.Wrong → code ≡ 0 → ⊥
-  pub typing : e ≡ answer.Wrong → code ≡ 9 → ⊥
-  pub points : first_node first ≡ first_at code (first_number first)
-
--- how the whole walk ended, and the return type where it stood; node 0, the module's Block, forms no type
-pub record Ran (bs : List ℕ) (setting : Setting) (t u : Tab) (gs : Rows) (top : ℕ) (su : List ℕ) (code : ℕ) (place : Places) (a b : ℕ) : Type 0 where
+-- how the whole walk ended, and the return type and the stack where it stood; node 0, the module's Block, forms no type
+pub record Ran (bs : List ℕ) (setting : Setting) (t u : Tab) (gs : Rows) (top code : ℕ) (place : Places) (a b : ℕ) : Type 0 where
   pub returns : Ty
+  pub stack : List ℕ
   pub says : walked setting bs ≡ ended (names_of bs) u gs top returns code place a b
   pub named : (code ≡ 9 → ⊥) → Named u (node_count bs) code place a b
-  pub left : (code ≡ 9 → ⊥) → Left t u gs top su 1 (node_count bs)
+  pub left : (code ≡ 9 → ⊥) → Left t u gs top stack 1 (node_count bs)
   pub deep : code ≡ 9 → Deep t u 1 (node_count bs) (node_count bs) place.here

@@ -2,36 +2,17 @@
 // bytes, as far as a buffer goes.
 #![tactic(auto)]
 
-ghost use Rattle.std.specs.Prelude.{◌≤◌, length};
+ghost use Rattle.std.specs.Prelude.{◌≤◌, length, IfOk};
 
 use std::env::{Env, FillError};
 use std::io::Read;
 
-// Puts word a at the front of buf and gives its length. The program's name is word 0. Of a word that is missing, or
-// longer than buf, it gives 0.
-pub fn word_at<R: Env>(rt: &R, a: usize, buf: &mut [u8]) -> usize
-    ensures { result ≤ length buf.new }
+// Word a, put at the front of buf; the program's name is word 0. Or why it is not: it is missing, or longer than buf.
+pub fn word_at<'a, R: Env>(rt: &R, a: usize, buf: &'a mut [u8]) -> Result<&'a [u8], FillError>
+    ensures { IfOk result (λ w. length w.now ≤ length buf.old) }
 {
-    match rt.arg(a, buf) {
-        Ok(n) => n,
-        Err(_) => 0,
-    }
-}
-
-// How a word was given: not at all, whole within a buffer's length, or longer.
-#[derive(Clone, Copy)]
-pub enum Word {
-    Absent,
-    Whole,
-    Long,
-}
-
-pub fn word_given<R: Env>(rt: &R, a: usize, buf: &mut [u8]) -> Word {
-    match rt.arg(a, buf) {
-        Ok(_) => Word::Whole,
-        Err(FillError::NotPresent) => Word::Absent,
-        Err(FillError::TooLong) => Word::Long,
-    }
+    let n = rt.arg(a, buf)?;
+    Ok(&buf[..n])
 }
 
 // How many words there are, the program's name among them, counted no further than `most`.
@@ -40,7 +21,7 @@ pub fn count_up_to<R: Env>(rt: &R, most: usize) -> usize
 {
     let mut block = [0u8; 1];
     for a in 0..most {
-        if let Word::Absent = word_given(rt, a, &mut block) {
+        if let Err(FillError::NotPresent) = rt.arg(a, &mut block) {
             return a;
         }
     }

@@ -13,16 +13,16 @@ use Rattle.meaning.specs.Message.{refusal, conflict}
 use Rattle.meaning.specs.Walk.{state, End, done, wrong, too_deep}
 use Rattle.types.specs.Table.{Tab, Wf}
 use Rattle.types.proofs.Laws.{grown_refl, grown_trans}
-use Rattle.frames.specs.Env.{Rows, frames_of, Fit}
+use Rattle.frames.specs.Env.{Rows, First, frames_of, Fit}
 use Rattle.rules.specs.Outcome.{pieces}
 use Rattle.rules.proofs.Outcomes.{names_none}
+use Rattle.state.specs.declared.Notes.{Notes}
 use Rattle.state.specs.Notes.{code_in, since_in, Places, places, places_in, first_in, second_in, tab_in, Refused}
-use Rattle.state.proofs.Noting.{refused_pieces, refused_first, refused_second, refused_small}
 use Rattle.targets.specs.Ending.{first_at, Alone, ended, Named, Left, Assigned}
 
 -- ---- the first node
 
-pub first_none : {code : ℕ} (m : ℕ) → Alone code → first_at code m ≡ none
+pub first_none : {code : ℕ} (m : First) → Alone code → first_at code m ≡ none
 unfolding first_at ◌or◌ test◌then◌else◌
 first_none {code} m h = rw (ne_eqb code 23 h.0, ne_eqb code 25 h.1)
 
@@ -97,26 +97,7 @@ assigned_well {ws} {u = u} {gs} {top} {code = code} {place} {a} {b} {code'} {pla
   typing = λ q. absurd (omega arith);
 }
 
-pub assigned_noted : {ws : List Name} {r : Ty → End} {t : Tab} {cells ns ms : List ℕ} {gs : Rows} {top : ℕ} {su : List ℕ} {i e M code n a b : ℕ} → M ≤ 4294967296
-    → (code ≡ 0 → ⊥) → Assigned ws r t (tab_in cells ns) gs top su i e M code (places n (since_in ms)) a b → Refused ns ms code n a b
+pub assigned_noted : {ws : List Name} {r : Ty → End} {t : Tab} {cells : List ℕ} {ns ms : Notes} {gs : Rows} {top : ℕ} {su : List ℕ} {i e M code n a b : ℕ}
+    → Assigned ws r t (tab_in cells ns) gs top su i e M code (places n (since_in ms)) a b → Refused ns ms code n a b
     → Assigned ws r t (tab_in cells ms) gs top su i e M (code_in ms) (places_in ms) (first_in ms) (second_in ms)
-assigned_noted {ws} {cells = cells} {ns} {ms} {gs} {top} {code = code} {n} {a} {b} l z x f =
-    let u = tab_in cells ns in
-    let w = x.left.grown.wf in
-    let k = x.named in
-    let p = places n (since_in ms) in
-    rw (f.types_kept, f.elements_kept, f.coded, f.placed (omega (arith, l, k.placed z))) record {
-      says = λ y.
-          x.says y
-          ∙ ended_wrong ws u gs top y code p a b z x.typing
-          ∙ ap (λ ps. wrong (conflict code n (first_at code (since_in ms)) ps) (state (frames_of u gs top) y)) (refused_pieces f w k.first k.second (k.small z) ws)
-          ∙ sym (ended_wrong ws u gs top y code p (first_in ms) (second_in ms) z x.typing);
-      named = record {
-        first = refused_first f w k.first k.second (k.small z);
-        second = refused_second f w k.first k.second (k.small z);
-        small = λ y. refused_small f w k.first k.second (k.small z);
-        placed = k.placed;
-      };
-      left = x.left;
-      typing = x.typing;
-    }
+assigned_noted x f = rw (f.counts, f.coded, f.placed, f.first, f.second) x

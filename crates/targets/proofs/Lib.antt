@@ -1,7 +1,7 @@
--- Callers cite Endings and Answers.
+-- Callers cite Endings, Answers and Singles.
 pub mod Endings
 pub mod Answers
+pub mod Singles
 mod Naming
 mod Unpacking
-mod Singles
 mod Targets

@@ -24,7 +24,7 @@ use Rattle.meaning.proofs.Scan.{variable_named}
 use Rattle.meaning.proofs.Decoding.{variable_at, attribute_at, index_at}
 use Rattle.meaning.proofs.Codes.{fair_judged, check_fair}
 use Rattle.types.specs.Table.{Tab, denote}
-use Rattle.frames.specs.Env.{Rows, frames_of, Fit}
+use Rattle.frames.specs.Env.{Rows, First, frames_of, Fit}
 use Rattle.frames.proofs.Laws.{frames_grown, fit_grown}
 use Rattle.rules.specs.Outcome.{types_named, pieces}
 use Rattle.state.specs.Notes.{Places, places}
@@ -71,9 +71,10 @@ assigned_as h a = record { says = λ y. h y ∙ a.says y; named = a.named; left 
 
 -- ---- an expression checked and not tracked
 
-module _ {ws : List Name} {t u : Tab} {fs : Rows} {top : ℕ} {st su : List ℕ} {i s M code place number a b : ℕ} (e : Expr) (m : ℕ) (f : Fit t fs top)
+module _ {ws : List Name} {t u : Tab} {fs : Rows} {top : ℕ} {st su : List ℕ} {i s M code place number a b : ℕ} (e : Expr) (m : First) (f : Fit t fs top)
     (d : Done ws (check ws (frames_of t fs top) e) t u st su 0 i s M code place number a b) where
-  typing_code : (code ≡ 0 → ⊥) → 29 ≤ code
+  -- its refusal has a code of an expression
+  pub typing_code : (code ≡ 0 → ⊥) → 29 ≤ code
   typing_code z = (fair_judged (rw (d.told.ill z) at (check_fair ws (frames_of t fs top) e))).above
 
   only_says : (y : Ty) → checked ws e (state (frames_of t fs top) y) (λ v. done (state (frames_of t fs top) y)) ≡ ended ws u fs top y code (places place m) a b
@@ -151,7 +152,7 @@ module _ (ws : List Name) (ds : List Node) (d i : ℕ) (h : d ≡ 0 → ⊥) (y 
       (if_refused (eqb k 30) _ _ (λ z. refl)
       (if_refused (eqb k 31) _ _ (not_kind (index (f (suc i)) (f (stop_of ds (suc i)))) 31 e) refl))))))))))))
 
--- ---- the answers of `single`
+-- ---- a target that is no Tuple
 
 module _ {bs : List ℕ} {nodes : ℕ} {fs : Rows} {top : ℕ} {t : Tab} {st : List ℕ} {i d : ℕ} (r : Ready bs nodes fs top t st 0 i (stop_of (nodes_of bs) i))
     (h : At bs i d) {ty : ℕ} (b : ty < t.n) (m : Node) (z : m ≡ node_of (nodes_of bs) i) where
@@ -168,7 +169,7 @@ module _ {bs : List ℕ} {nodes : ℕ} {fs : Rows} {top : ℕ} {t : Tab} {st : L
       let e : (node_of (nodes_of bs) i).kind ≡ 21 = ap (λ (x : Node). x.kind) (sym z) ∙ k in
       rw z (omega (arith, variable_named (sound_nested r.sound) i here_now.listed e, (sizes r.sound.headed).names))
 
-  pub single_name : {gs : Rows} {code x y s : ℕ} → m.kind ≡ 21 → Written fs gs top (places i s) m.arg ty code x y
+  pub single_name : {gs : Rows} {code x y : ℕ} {s : First} → m.kind ≡ 21 → Written fs gs top (places i s) m.arg ty code x y
       → Assigned (names_of bs) (λ v. assign_to (names_of bs) (expr_at (nodes_of bs) d i) (denote t ty) (state (frames_of t fs top) v)) t t gs top st i
       (stop_of (nodes_of bs) i) (node_count bs) code (places i s) x y
   single_name {gs} k w =
@@ -199,14 +200,14 @@ module _ {bs : List ℕ} {nodes : ℕ} {fs : Rows} {top : ℕ} {t : Tab} {st : L
   unfolding types_named base_open
   names_28 = refl
 
-  pub single_other : {s : ℕ} → ((node_of (nodes_of bs) i).kind ≡ 28 → ⊥) → (m.kind ≡ 21 → ⊥) → (m.kind ≡ 25 → ⊥) → (m.kind ≡ 31 → ⊥)
+  pub single_other : {s : First} → (m.kind ≡ 21 → ⊥) → (m.kind ≡ 25 → ⊥) → (m.kind ≡ 28 → ⊥) → (m.kind ≡ 31 → ⊥)
       → Assigned (names_of bs) (λ v. assign_to (names_of bs) (expr_at (nodes_of bs) d i) (denote t ty) (state (frames_of t fs top) v)) t t fs top st i
       (stop_of (nodes_of bs) i) (node_count bs) 28 (places i s) 0 0
   unfolding ended first_at pieces types_named base_open
-  single_other k₂₈ k₂₁ k₂₅ k₃₁ =
+  single_other k₂₁ k₂₅ k₂₈ k₃₁ =
       let g : (c : ℕ) → (m.kind ≡ c → ⊥) → (node_of (nodes_of bs) i).kind ≡ c → ⊥ = λ c n e. n (ap (λ (x : Node). x.kind) z ∙ e) in
       record {
-        says = λ v. to_other (names_of bs) (nodes_of bs) d i here_now.deep.0 (denote t ty) _ (g 21 k₂₁) (g 25 k₂₅) k₂₈ (g 31 k₃₁);
+        says = λ v. to_other (names_of bs) (nodes_of bs) d i here_now.deep.0 (denote t ty) _ (g 21 k₂₁) (g 25 k₂₅) (g 28 k₂₈) (g 31 k₃₁);
         named = record {
           first = λ q. absurd (omega (arith, names_28));
           second = λ q. absurd (omega (arith, names_28));

@@ -13,7 +13,7 @@ use Rattle.meaning.specs.Walk.{State, state, End, ◌>>=◌, unpack_into, assign
 use Rattle.meaning.proofs.Nesting.{Children, Child, child, children, children_le, children_end, nodes_many, sound_nested, node_stands_lem, deeper}
 use Rattle.meaning.proofs.Decoding.{tuple_at}
 use Rattle.types.specs.Table.{Tab, Means, denote}
-use Rattle.frames.specs.Env.{Rows, frames_of}
+use Rattle.frames.specs.Env.{Rows, First, frames_of}
 use Rattle.image.specs.Parts.{Moved}
 use Rattle.image.proofs.Moving.{parent_of}
 use Rattle.image.specs.declared.Cursor.{Cursor}
@@ -63,9 +63,6 @@ module _ {bs : List ℕ} {nodes : ℕ} {fs : Rows} {top : ℕ} {t : Tab} {st : L
   pub levels_left : d ≡ 0 → ⊥
   levels_left = (here r.sound h).deep.0
 
-  pub no_tuple : (m.kind ≡ 28 → ⊥) → (node_of (nodes_of bs) i).kind ≡ 28 → ⊥
-  no_tuple n e = n (ap (λ (x : Node). x.kind) z ∙ e)
-
   pub targets_within : Within bs i m.children (d - 1)
   targets_within = record { there = h.there; many = ap (λ (x : Node). x.children) z; deep = (here r.sound h).deep.1 }
 
@@ -74,7 +71,7 @@ module _ {bs : List ℕ} {nodes : ℕ} {fs : Rows} {top : ℕ} {t : Tab} {st : L
     tuple_is y s =
         to_tuple (names_of bs) (nodes_of bs) d i m.children levels_left (ap (λ (x : Node). x.kind) (sym z) ∙ k) (ap (λ (x : Node). x.children) z) y s
 
-    pub tuple_refused : {code x y s : ℕ} → Unpacks t.cells ty m.children code x y → (code ≡ 0 → ⊥)
+    pub tuple_refused : {code x y : ℕ} {s : First} → Unpacks t.cells ty m.children code x y → (code ≡ 0 → ⊥)
         → Assigned (names_of bs) (λ v. assign_to (names_of bs) (expr_at (nodes_of bs) d i) (denote t ty) (state (frames_of t fs top) v)) t t fs top st i
         (stop_of (nodes_of bs) i) (node_count bs) code (places i s) x y
     tuple_refused {code} {x} {y} {s} u n = record {

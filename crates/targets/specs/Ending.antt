@@ -8,13 +8,13 @@ use Rattle.meaning.specs.Image.{Name}
 use Rattle.meaning.specs.Message.{conflict}
 use Rattle.meaning.specs.Walk.{State, state, End, done, wrong, too_deep}
 use Rattle.types.specs.Table.{Tab, Grown}
-use Rattle.frames.specs.Env.{Rows, node_from, frames_of, Fit}
+use Rattle.frames.specs.Env.{Rows, First, first_node, frames_of, Fit}
 use Rattle.rules.specs.Outcome.{types_named, pieces}
 use Rattle.state.specs.Notes.{Places}
 
 -- 25 and 23 "point at the first place too", and no other code does; m is the first node as it is noted
-unfoldable pub first_at : ℕ → ℕ → Option ℕ
-first_at code m = test eqb code 23 or eqb code 25 then node_from m else none
+unfoldable pub first_at : ℕ → First → Option ℕ
+first_at code m = test eqb code 23 or eqb code 25 then first_node m else none
 
 abbrev pub Alone : ℕ → Type 0
 Alone code = (code ≡ 23 → ⊥) × (code ≡ 25 → ⊥)

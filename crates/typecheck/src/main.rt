@@ -8,7 +8,6 @@ ghost use Rattle.typecheck.specs.Words.{Told, line_room, Shows};
 use checker::{PLAIN, STRICT};
 use limits::{MESSAGE_BUFFER, READ_AT_MOST, SHEET_BUFFER};
 use system::{count_up_to, word_at};
-use words::{same, text};
 
 // A number that is none of the two settings.
 const NO_SETTING: u32 = 2;
@@ -21,22 +20,19 @@ const STDIN: i32 = 0;
 const STDOUT: i32 = 1;
 
 // The setting's number, by how many arguments there are, the program's name among them, and the first word behind it.
+#[tactic(auto, using(crate::proofs::Words::settings))]
 fn setting_told(arguments: usize, word: &[u8]) -> u32
     ensures { Told arguments word.now result }
 {
-    if arguments < 2 {
-        return PLAIN;
+    match arguments {
+        0 | 1 => PLAIN,
+        2 => match word {
+            b"plain" => PLAIN,
+            b"strict" => STRICT,
+            _ => NO_SETTING,
+        },
+        _ => NO_SETTING,
     }
-    if 2 < arguments {
-        return NO_SETTING;
-    }
-    if same(word, b"plain") {
-        return PLAIN;
-    }
-    if same(word, b"strict") {
-        return STRICT;
-    }
-    NO_SETTING
 }
 
 // The line for the program's arguments and what stands on standard input, at the front of `out`. "Its message buffer
@@ -58,16 +54,12 @@ fn print_line(arguments: usize, word: &[u8], input: &[u8], out: &mut [u8]) -> us
 const TOLD_APART: usize = 3;
 
 fn main(rt: HostRuntime) {
-    let mut word = io::buffer();
-    let w = word_at(&rt, 1, &mut word);
+    let mut buf = io::buffer();
+    let word = word_at(&rt, 1, &mut buf).unwrap_or(b"");
     let mut input = [0u8; READ_AT_MOST];
     let n = io::read_full(STDIN, &mut input);
     let mut out = [0u8; LINE];
-    let length = print_line(
-        count_up_to(&rt, TOLD_APART),
-        &word[..w],
-        &input[..n],
-        &mut out,
-    );
-    io::write_all(STDOUT, text(&out, 0, length));
+    let arguments = count_up_to(&rt, TOLD_APART);
+    let length = print_line(arguments, word, &input[..n], &mut out);
+    io::write_all(STDOUT, &out[..length]);
 }

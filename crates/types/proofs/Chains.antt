@@ -1,17 +1,17 @@
 -- The chains: in which one a record is, and what becomes of them where a record is added.
-use mathlib.Core.Path.{◌≡◌, sym, ◌∙◌}
-use mathlib.Core.List.{List}
-use Prim.Native.Nat.{ℕ, ◌+◌, ◌-◌, ◌≤◌, ◌<◌}
-use native.Mathlib.Nat.{mod-lt, add-zero, sub-zero}
+use mathlib.Core.Path.{◌≡◌, refl, sym, ◌∙◌}
+use mathlib.Core.List.{List, [], ◌∷◌}
+use Prim.Native.Nat.{ℕ, zero, suc, ◌+◌, ◌≤◌, ◌<◌}
+use native.Mathlib.Nat.{mod-lt}
+use native.Mathlib.Numerals.{add-one}
 use native.Mathlib.Omega.{arith}
 use native.Mathlib.Decide.{dec_lt, ℕ_discrete}
 use borrow.Author.Tests.{ne_eqb}
-use lib.ListN.{length, get_or, take, drop}
+use lib.ListN.{length, get_or, take}
 use Rattle.meaning.specs.Base.{test◌then◌else◌}
-use Rattle.types.specs.Layout.{first_in, link_in, elements_from, slots_from, slots_end}
+use Rattle.types.specs.Layout.{link_in, slots_from, slots_end}
 use Rattle.types.specs.Table.{capacity, step, steps, record_hash, tuple_hash, slot_of, slot_at, Chains, Chained}
 use Rattle.types.specs.Steps.{RecordAt, TupleAt}
-use Rattle.types.proofs.Pieces.{piece_same, piece_cons}
 
 -- ---- slots
 
@@ -31,11 +31,9 @@ pub slot_record : {cs : List ℕ} {k p q i : ℕ} → (k ≡ 10 → ⊥) → Rec
 unfolding slot_at test◌then◌else◌
 slot_record {k = k} n r = rw (r.kind_is, r.first_is, r.second_is, ne_eqb k 10 n)
 
-pub slot_tuple : {cs st : List ℕ} {s q i : ℕ} → elements_from cs + first_in cs i + q ≤ length cs → s + q ≤ length st → TupleAt cs st s q i
-    → slot_at cs i ≡ slot_of cs (tuple_hash (take q (drop s st)))
+pub slot_tuple : {cs es : List ℕ} {i : ℕ} → TupleAt cs es i → slot_at cs i ≡ slot_of cs (tuple_hash es)
 unfolding slot_at test◌then◌else◌
-slot_tuple {cs} {st} {s} {q} {i} h l r =
-    rw (r.kind_is, r.second_is, piece_same cs st (elements_from cs + first_in cs i) s q h l r.elements.at)
+slot_tuple r = rw (r.kind_is, r.second_is, r.elements)
 
 own_least : (cs : List ℕ) (i : ℕ) → slots_from cs ≤ slot_at cs i
 unfolding slot_at
@@ -133,29 +131,19 @@ module _ {cs ds : List ℕ} {n slot : ℕ} (c : Chains cs n) (wide : capacity ds
 
 -- ---- the hash of a Tuple, one number after the other
 
--- h is the hash of the first j of the q numbers: with those that are left it comes to the whole's
-pub record Hashing (st : List ℕ) (s q h j : ℕ) : Type 0 where
-  pub small : h < 4093
-  pub left : steps h (take (q - j) (drop (s + j) st)) ≡ tuple_hash (take q (drop s st))
+steps_more : (h : ℕ) (es : List ℕ) (j : ℕ) → j < length es → steps h (take (suc j) es) ≡ step (steps h (take j es)) (get_or es j 0)
+unfolding steps
+steps_more h [] j l = absurd (omega arith)
+steps_more h (e ∷ es) zero l = refl
+steps_more h (e ∷ es) (suc j) l = steps_more (step h e) es j (omega arith)
 
-pub hashing_none : (st : List ℕ) (s q : ℕ) → Hashing st s q 10 0
+pub hash_none : (es : List ℕ) → 10 ≡ tuple_hash (take 0 es)
+unfolding tuple_hash steps
+hash_none es = refl
+
+pub hash_more : (es : List ℕ) {h r j : ℕ} → h ≡ tuple_hash (take j es) → j < length es → r ≡ step h (get_or es j 0) → r ≡ tuple_hash (take (j + 1) es)
 unfolding tuple_hash
-hashing_none st s q = record { small = omega arith; left = rw (add-zero s, sub-zero q) }
-
-pub hashing_more : {st : List ℕ} {s q h j e r : ℕ} → Hashing st s q h j → s + q ≤ length st → j < q → e ≡ get_or st (s + j) 0 → r ≡ step h e → r < 4093
-    → Hashing st s q r (j + 1)
-unfolding steps
-hashing_more {st} {s} {q} {h} {j} x l b e f m = record {
-  small = m;
-  left =
-      let from : s + j + 1 ≡ s + (j + 1) = omega arith in
-      let many : q - j - 1 ≡ q - (j + 1) = omega arith in
-      rw (f, e, ← from, ← many) (rw (piece_cons st (s + j) (q - j) (omega arith) (omega arith)) at x.left);
-}
-
-pub hashing_all : {st : List ℕ} {s q h j : ℕ} → Hashing st s q h j → q ≤ j → h ≡ tuple_hash (take q (drop s st))
-unfolding steps
-hashing_all {q = q} {j = j} x l = let e : q - j ≡ 0 = omega arith in rw e at x.left
+hash_more es {h} {r} {j} e l s = rw (s, e, add-one j) (sym (steps_more 10 es j l))
 
 -- ---- the hash of any other record
 

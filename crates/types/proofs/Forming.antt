@@ -2,6 +2,7 @@
 use mathlib.Core.Path.{◌≡◌, refl, sym, ap, ◌∙◌}
 use mathlib.Core.List.{List}
 use Prim.Native.Nat.{ℕ, ◌+◌, ◌≤◌, ◌<◌}
+use Rattle.std.specs.Prelude.{Option, Some, None}
 use native.Mathlib.Omega.{arith}
 use native.Mathlib.Decide.{dec_lt}
 use Rattle.meaning.specs.Types.{kind, part}
@@ -71,10 +72,10 @@ module _ (t : Tab) (k p q : ℕ) (x : Asked t k p q) where
       ∙ shaped_second _ _ _ k x.most x.no_tuple (λ z. ap (denote t) (x.unused z) ∙ unknown_number w) in
       record { kind_is = ki; first_is = w.inj _ _ f.below x.first fi; second_is = w.inj _ _ g.below x.second si }
 
-  pub form_old : (r : ℕ) → Found (RecordAt t.cells k p q) t.n r → r < t.n → Made t t r (built k (denote t p) (denote t q)) 0
-  form_old r f h = made_old 0 x.wf h (denote_eq x.wf r h ∙ says t r (f.found h))
+  pub form_old : {r : Option ℕ} {i : ℕ} → Found (RecordAt t.cells k p q) t.n r → r ≡ Some i → Made t t i (built k (denote t p) (denote t q)) 0
+  form_old {i = i} f e = made_old 0 x.wf (f.below i e) (denote_eq x.wf i (f.below i e) ∙ says t i (f.found i e))
 
-  pub form_new : {r slot : ℕ} {ds : List ℕ} → Found (RecordAt t.cells k p q) t.n r → t.n ≤ r → slot ≡ slot_of t.cells (record_hash k p q)
+  pub form_new : {r : Option ℕ} {slot : ℕ} {ds : List ℕ} → Found (RecordAt t.cells k p q) t.n r → r ≡ None → slot ≡ slot_of t.cells (record_hash k p q)
       → Added t.cells ds slot t.n k p q → Made t (tab ds (t.n + 1) t.m) t.n (built k (denote t p) (denote t q)) 0
   form_new {r} {slot} {ds} f h z v =
       let u : Tab = tab ds (t.n + 1) t.m in

@@ -4,6 +4,7 @@ pub mod Laws
 pub mod Forming
 pub mod Parts
 pub mod Elements
+pub mod OfKind
 pub mod Readers
 pub mod Answers
 mod Shapes

@@ -3,7 +3,6 @@ use mathlib.Core.Path.{◌≡◌, refl, sym, ap, ◌∙◌}
 use mathlib.Core.List.{List, [], ◌∷◌, map}
 use Prim.Native.Nat.{ℕ, zero, suc, ◌+◌, ◌-◌, ◌≤◌, ◌<◌}
 use native.Mathlib.Nat.{add-zero, add-suc, suc-add}
-use native.Mathlib.Numerals.{add-one, sub-one}
 use native.Mathlib.Omega.{arith}
 use lib.ListN.{length, get_or, take, drop, length-take, length-drop, length-map, get_or-map}
 use lib.Seq.{drop-cons, get_or-take, get_or-drop, ext_get_or}
@@ -12,6 +11,10 @@ use Rattle.meaning.specs.Types.{Ty, tys, elements, tuple, parts}
 -- the abbreviation that the laws below speak of
 abbrev pub piece : ℕ → ℕ → List ℕ → List ℕ
 piece a q xs = take q (drop a xs)
+
+-- how long the range from a to a + q is
+pub part_long : (a q : ℕ) → a + q - a ≡ q
+part_long a q = omega arith
 
 pub piece_at : (xs : List ℕ) (a q j : ℕ) → j < q → get_or (piece a q xs) j 0 ≡ get_or xs (a + j) 0
 piece_at xs a q j h = get_or-take q (drop a xs) j 0 h ∙ get_or-drop a xs j 0
@@ -27,11 +30,6 @@ piece_same xs ys a b q h l e =
     (λ j k.
     let i : j < q = omega (arith, piece_long xs a q h) in
     piece_at xs a q j i ∙ e j i ∙ sym (piece_at ys b q j i))
-
--- a piece by its first element
-pub piece_cons : (xs : List ℕ) (a q : ℕ) → 0 < q → a + q ≤ length xs → piece a q xs ≡ get_or xs a 0 ∷ piece (a + 1) (q - 1) xs
-piece_cons xs a zero h l = absurd (omega arith)
-piece_cons xs a (suc q) h l = rw (drop-cons xs a 0 (omega arith), sub-one (suc q), add-one a)
 
 -- two pieces mean the same where their elements do, one by one
 pub piece_map : (f g : ℕ → Ty) (xs ys : List ℕ) (a b q : ℕ) → a + q ≤ length xs → b + q ≤ length ys

@@ -7,7 +7,9 @@ use lib.ListN.{length, get_or}
 use Rattle.meaning.specs.Types.{Ty, kind, parts, part}
 use Rattle.types.specs.Layout.{kind_cell, first_cell, second_cell, kind_in, first_in, second_in, elements_from}
 use Rattle.types.specs.Table.{Tab, capacity, kind_at, first_at, denote, Means, Wf}
-use Rattle.types.specs.Reading.{Known, KindOf, PartOf, PartsOf, HasPart, PartAt, IsTuple, IsElement, IsNumber, CountOf, ElementAt}
+use Rattle.types.specs.declared.Kind.{Kind}
+use Rattle.types.specs.Kinds.{kind_number, Numbered}
+use Rattle.types.specs.Reading.{Known, KindOf, PartOf, PartsOf, HasPart, PartAt, IsTuple, IsElement, IsNumber, ElementAt}
 use Rattle.types.proofs.Parts.{plain_none, one_part, two_parts, few_parts, part_lower}
 use Rattle.types.proofs.Laws.{kind_of, record_kind, parts_many, first_part, second_part, element_part}
 
@@ -50,8 +52,12 @@ same_cell t cs x r e h = h ∙ ap (λ (xs : List ℕ). get_or xs x 0) (sym e)
 pub means_as : {t : Tab} {r x : ℕ} {ty : Ty} → r ≡ x → Means t x ty → Means t r ty
 means_as e m = rw e m
 
-pub kind_told : (cs : List ℕ) (i r : ℕ) → r ≡ kind_in cs i → KindOf cs i r
-kind_told cs i r h = record { says = λ t e w b. same_cell t cs (kind_cell i) r e h ∙ sym (kind_of w i b) }
+pub kind_told : (cs : List ℕ) (i : ℕ) (k : Kind) → Numbered (kind_in cs i) k → KindOf cs i k
+kind_told cs i k h = record {
+  says = λ t e w b.
+      let own : kind_in cs i ≡ kind_at t i = same_cell t cs (kind_cell i) (kind_in cs i) e refl in
+      sym (h.known (omega (arith, (w.low i b).known))) ∙ own ∙ sym (kind_of w i b);
+}
 
 pub first_told : (cs : List ℕ) (i r : ℕ) → r ≡ first_in cs i → PartOf cs 0 i r
 first_told cs i r h =
@@ -60,9 +66,6 @@ first_told cs i r h =
 pub second_told : (cs : List ℕ) (i r : ℕ) → r ≡ second_in cs i → PartOf cs 1 i r
 second_told cs i r h =
     record { says = λ t e w b n. means_as (same_cell t cs (second_cell i) r e h) (second_part w i b (λ k. n (kind_of w i b ∙ k))) }
-
-pub count_told : (cs : List ℕ) (i r : ℕ) → r ≡ second_in cs i → CountOf cs i r
-count_told cs i r h = record { says = λ t e w b k. same_cell t cs (second_cell i) r e h ∙ sym (parts_many w i b (record_kind w i b k)) }
 
 pub element_told : (cs : List ℕ) (i j a r : ℕ) → IsElement cs i j → a ≡ elements_from cs + first_in cs i → r ≡ get_or cs (a + j) 0
     → ElementAt cs i j r
@@ -74,28 +77,30 @@ element_told cs i j a r x ea er =
 
 -- ---- the parts, by the kind that was read
 
-module _ {cs : List ℕ} {i k : ℕ} (told : KindOf cs i k) where
-  kind_as : (t : Tab) → t.cells ≡ cs → Wf t → i < t.n → {c : ℕ} → k ≡ c → kind (denote t i) ≡ c
+module _ {cs : List ℕ} {i : ℕ} {k : Kind} (told : KindOf cs i k) where
+  kind_as : (t : Tab) → t.cells ≡ cs → Wf t → i < t.n → {c : ℕ} → kind_number k ≡ c → kind (denote t i) ≡ c
   kind_as t e w b h = sym (told.says t e w b) ∙ h
 
-  kind_not : (t : Tab) → t.cells ≡ cs → Wf t → i < t.n → {c : ℕ} → (k ≡ c → ⊥) → kind (denote t i) ≡ c → ⊥
+  kind_not : (t : Tab) → t.cells ≡ cs → Wf t → i < t.n → {c : ℕ} → (kind_number k ≡ c → ⊥) → kind (denote t i) ≡ c → ⊥
   kind_not t e w b n h = n (told.says t e w b ∙ h)
 
-  pub many_none : k < 8 → PartsOf cs i 0
+  pub many_none : kind_number k < 8 → PartsOf cs i 0
   many_none l = record { says = λ t e w b. sym (plain_none _ (omega (arith, told.says t e w b))) }
 
-  pub many_two : k ≡ 9 → PartsOf cs i 2
+  pub many_two : kind_number k ≡ 9 → PartsOf cs i 2
   many_two h = record { says = λ t e w b. sym (two_parts _ (kind_as t e w b h)) }
 
-  pub many_elements : {n : ℕ} → k ≡ 10 → CountOf cs i n → PartsOf cs i n
-  many_elements h c = record { says = λ t e w b. c.says t e w b (kind_as t e w b h) }
+  pub many_elements : {n : ℕ} → kind_number k ≡ 10 → n ≡ second_in cs i → PartsOf cs i n
+  many_elements {n} h c = record {
+    says = λ t e w b. same_cell t cs (second_cell i) n e c ∙ sym (parts_many w i b (record_kind w i b (kind_as t e w b h)));
+  }
 
-  pub many_one : 8 ≤ k → (k ≡ 9 → ⊥) → (k ≡ 10 → ⊥) → PartsOf cs i 1
+  pub many_one : 8 ≤ kind_number k → (kind_number k ≡ 9 → ⊥) → (kind_number k ≡ 10 → ⊥) → PartsOf cs i 1
   many_one l m n = record {
     says = λ t e w b. sym (one_part _ (omega (arith, told.says t e w b)) (kind_not t e w b m) (kind_not t e w b n));
   }
 
-  pub element_there : {j : ℕ} → HasPart cs i j → k ≡ 10 → IsElement cs i j
+  pub element_there : {j : ℕ} → HasPart cs i j → kind_number k ≡ 10 → IsElement cs i j
   element_there h z =
       let d = h.known in
       rw d.cells at (is_element d.wf i d.below (kind_as d.table d.cells d.wf d.below z) h.within)
@@ -103,13 +108,13 @@ module _ {cs : List ℕ} {i k : ℕ} (told : KindOf cs i k) where
   part_told : {j r : ℕ} → ((t : Tab) → t.cells ≡ cs → Wf t → i < t.n → j < length (parts (denote t i)) → Means t r (part j (denote t i))) → PartAt cs i j r
   part_told s = record { says = s; lower = λ t e w b l. part_lower w i b l (s t e w b l) }
 
-  pub part_element : {j r : ℕ} → k ≡ 10 → ElementAt cs i j r → PartAt cs i j r
+  pub part_element : {j r : ℕ} → kind_number k ≡ 10 → ElementAt cs i j r → PartAt cs i j r
   part_element z s = part_told (λ t e w b l. s.says t e w b (kind_as t e w b z))
 
-  pub part_first : {j r : ℕ} → (k ≡ 10 → ⊥) → j ≡ 0 → PartOf cs 0 i r → PartAt cs i j r
+  pub part_first : {j r : ℕ} → (kind_number k ≡ 10 → ⊥) → j ≡ 0 → PartOf cs 0 i r → PartAt cs i j r
   part_first n z s = part_told (λ t e w b l. rw z (s.says t e w b (kind_not t e w b n)))
 
-  pub part_second : {j r : ℕ} → (k ≡ 10 → ⊥) → (j ≡ 0 → ⊥) → PartOf cs 1 i r → PartAt cs i j r
+  pub part_second : {j r : ℕ} → (kind_number k ≡ 10 → ⊥) → (j ≡ 0 → ⊥) → PartOf cs 1 i r → PartAt cs i j r
   part_second {j} n z s =
       part_told (λ t e w b l.
       let one : j ≡ 1 = omega (arith, few_parts (denote t i) (kind_not t e w b n)) in

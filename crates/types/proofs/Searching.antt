@@ -3,13 +3,14 @@ use mathlib.Core.Path.{◌≡◌, sym, ◌∙◌, subst}
 use mathlib.Core.Bool.{Bool, true, false, false≢true}
 use mathlib.Core.List.{List}
 use Prim.Native.Nat.{ℕ, ◌≤◌, ◌<◌}
+use Rattle.std.specs.Prelude.{Option, Some, None}
 use lib.ListN.{length, get_or, take, drop}
 use native.Mathlib.Omega.{arith}
 use native.Mathlib.Decide.{dec_lt, ℕ_discrete}
 use Rattle.types.specs.Layout.{link_cell, link_in}
 use Rattle.types.specs.Table.{Tab, capacity, record_hash, tuple_hash, slot_of, Chains, Wf}
 use Rattle.types.specs.Steps.{Asked, Listed, RecordAt, TupleAt, Told, Slot, Passed, Found}
-use Rattle.types.proofs.Room.{capacity_within, slots_within}
+use Rattle.types.proofs.Room.{slots_within}
 use Rattle.types.proofs.Chains.{slot_least, slot_most, slot_record, slot_tuple}
 
 pub told_no : {P : Type 0} → (P → ⊥) → Told P false
@@ -46,11 +47,32 @@ module _ {P : ℕ → Type 0} {cs : List ℕ} {n slot : ℕ} (c : Chains cs n) (
     ];
   }
 
-pub found_here : {P : ℕ → Type 0} {cs : List ℕ} {n slot i : ℕ} {b : Bool} → Passed P cs n slot i → Told (P i) b → b ≡ true → Found P n i
-found_here p t e = record { found = λ l. t.yes e; none = λ l. absurd (omega (arith, p.below)) }
+pub found_here : {P : ℕ → Type 0} {cs : List ℕ} {n slot i : ℕ} {b : Bool} → Passed P cs n slot i → Told (P i) b → b ≡ true → Found P n (Some i)
+found_here {P} {i = i} p t e = record {
+  below = λ j y. let z : i ≡ j = cc in rw (← z) p.below;
+  found = λ j y. let z : i ≡ j = cc in subst P z (t.yes e);
+  none = λ y. absurd (cc);
+}
 
-pub found_none : {P : ℕ → Type 0} {cs : List ℕ} {n slot i : ℕ} → Passed P cs n slot i → i < 8 → Found P n n
-found_none p h = record { found = λ l. absurd (omega arith); none = λ l j a b. p.none j (omega arith) a b }
+pub found_none : {P : ℕ → Type 0} {cs : List ℕ} {n slot i : ℕ} → Passed P cs n slot i → i < 8 → Found P n None
+found_none p h = record {
+  below = λ j y. absurd (cc);
+  found = λ j y. absurd (cc);
+  none = λ y j a b. p.none j (omega arith) a b;
+}
+
+-- ---- a search by a test that tells of P
+
+module _ {P Q : ℕ → Type 0} {n : ℕ} (yes : (i : ℕ) → i < n → Q i → P i) where
+  pub slot_tested : {cs : List ℕ} {slot : ℕ} → Slot P cs n slot → Slot Q cs n slot
+  slot_tested s = record { least = s.least; most = s.most; own = λ j a b q. s.own j a b (yes j b q) }
+
+  pub found_tested : {r : Option ℕ} → ((i : ℕ) → i < n → P i → Q i) → Found Q n r → Found P n r
+  found_tested back f = record {
+    below = f.below;
+    found = λ i e. yes i (f.below i e) (f.found i e);
+    none = λ e j a b p. f.none e j a b (back j b p);
+  }
 
 -- ---- the slots of what is asked for
 
@@ -63,13 +85,11 @@ form_slot {t} {k} {p} {q} a e = record {
 }
 
 pub tuple_slot : {t : Tab} {st : List ℕ} {s q slot : ℕ} → Listed t st s q → slot ≡ slot_of t.cells (tuple_hash (take q (drop s st)))
-    → Slot (TupleAt t.cells st s q) t.cells t.n slot
-tuple_slot {t} {st} {s} {q} l e = record {
+    → Slot (TupleAt t.cells (take q (drop s st))) t.cells t.n slot
+tuple_slot {t} {st} {s} {q} {slot} l e = record {
   least = rw e (slot_least t.cells (tuple_hash (take q (drop s st))));
   most = rw e (slot_most t.cells (tuple_hash (take q (drop s st))) (omega (arith, l.room)));
-  own = λ j a b r.
-      let w = l.wf in
-      slot_tuple (omega (arith, (w.low j b).inside r.kind_is, r.second_is, w.space, capacity_within t.cells)) l.inside r ∙ sym e;
+  own = λ j a b r. slot_tuple r ∙ sym e;
 }
 
 -- where a record is added, its link is in front of all slots

@@ -1,81 +1,59 @@
 -- The type that a Tuple's elements share: the loop that looks for it, and what its number means.
 use mathlib.Core.Path.{◌≡◌, refl, sym, ap, ◌∙◌}
-use mathlib.Core.Bool.{Bool, true, false}
+use mathlib.Core.Bool.{Bool, true, false, ◌&&◌}
 use mathlib.Core.List.{List, [], ◌∷◌, map}
-use Prim.Native.Nat.{ℕ, suc, ◌+◌, ◌≤◌, ◌<◌}
-use native.Mathlib.Nat.{add-zero}
-use native.Mathlib.Numerals.{add-one}
+use Prim.Native.Nat.{ℕ, suc, ◌+◌, ◌-◌, ◌≤◌, ◌<◌}
 use native.Mathlib.Omega.{arith}
-use borrow.Author.Tests.{eq-eqb, ne_eqb}
 use lib.Dec.{eqb}
-use lib.ListN.{length, get_or, take, drop, drop_of_length-le}
-use lib.Seq.{drop-cons}
+use Rattle.std.specs.List.{list_all}
+use Rattle.std.proofs.lemmas.List.{take_all}
+use lib.ListN.{length, get_or, take, drop, length-drop}
 use Rattle.meaning.specs.Base.{◌and◌, test◌then◌else◌, all}
 use Rattle.meaning.specs.Types.{unknown, same, common}
 use Rattle.types.specs.Layout.{first_in, second_in, elements_from}
 use Rattle.types.specs.Table.{Tab, kind_at, first_at, second_at, elements_at, denote, Wf}
 use Rattle.types.specs.Reading.{shared, CommonOf}
 use Rattle.types.proofs.Room.{capacity_within}
-use Rattle.types.proofs.Pieces.{piece, piece_at, piece_long}
+use Rattle.types.proofs.Pieces.{piece_at, piece_long}
 use Rattle.types.proofs.Readers.{means_as}
 use Rattle.types.proofs.Laws.{record_kind, parts_of, unknown_number, same_number}
 
--- ---- the loop: what is left of the numbers answers what all but the first answer
+-- ---- the numbers, of which the first is compared with the rest
 
-pub record Sharing (xs : List ℕ) (j : ℕ) : Type 0 where
-  pub some : 0 < length xs
-  pub left : all (eqb (get_or xs 0 0)) (drop j xs) ≡ all (eqb (get_or xs 0 0)) (drop 1 xs)
+all_list : (x : ℕ) (xs : List ℕ) → list_all (eqb x) xs ≡ all (eqb x) xs
+unfolding all ◌and◌
+all_list x [] = refl
+all_list x (y ∷ ys) = both (eqb x y) (all_list x ys)
+  where
+    both : (a : Bool) {b c : Bool} → b ≡ c → (a && b) ≡ (a and c)
+    both true e = e
+    both false e = refl
 
-shared_by : (xs : List ℕ) → 0 < length xs → shared xs ≡ (test all (eqb (get_or xs 0 0)) (drop 1 xs) then get_or xs 0 0 else 0)
-unfolding shared
-shared_by [] h = absurd (omega arith)
-shared_by (x ∷ xs) h = refl
+module _ (es : List ℕ) where
+  pub shared_none : length es < 1 → 0 ≡ shared es
+  unfolding shared
+  shared_none h = by es h
+    where
+      by : (xs : List ℕ) → length xs < 1 → 0 ≡ shared xs
+      by [] l = refl
+      by (x ∷ xs) l = absurd (omega arith)
 
-pub sharing_first : (xs : List ℕ) → 0 < length xs → Sharing xs 1
-sharing_first xs h = record { some = h; left = refl }
+  module _ (some : 1 ≤ length es) {b : Bool} (told : b ≡ list_all (eqb (get_or es 0 0)) (take (length es - 1) (drop 1 es))) where
+    by_rest : shared es ≡ (test b then get_or es 0 0 else 0)
+    unfolding shared
+    by_rest = by es some (told ∙ all_list (get_or es 0 0) _ ∙ ap (all (eqb (get_or es 0 0))) (take_all (length es - 1) (drop 1 es) (simp length-drop (omega arith))))
+      where
+        by : (xs : List ℕ) → 1 ≤ length xs → b ≡ all (eqb (get_or xs 0 0)) (drop 1 xs) → shared xs ≡ (test b then get_or xs 0 0 else 0)
+        by [] l e = absurd (omega arith)
+        by (x ∷ xs) l e = rw e
 
-module _ (xs : List ℕ) (j : ℕ) (s : Sharing xs j) where
-  sharing_step : j < length xs
-      → (eqb (get_or xs 0 0) (get_or xs j 0) and all (eqb (get_or xs 0 0)) (drop (j + 1) xs)) ≡ all (eqb (get_or xs 0 0)) (drop 1 xs)
-  unfolding all
-  sharing_step h = rw add-one (rw (drop-cons xs j 0 h) at s.left)
+    pub shared_all : {r : ℕ} → b ≡ true → r ≡ get_or es 0 0 → r ≡ shared es
+    unfolding test◌then◌else◌
+    shared_all y e = e ∙ sym (by_rest ∙ rw y)
 
-  pub sharing_more : j < length xs → get_or xs j 0 ≡ get_or xs 0 0 → Sharing xs (j + 1)
-  unfolding ◌and◌
-  sharing_more h e = record { some = s.some; left = rw (eq-eqb (get_or xs 0 0) (get_or xs j 0) (sym e)) at (sharing_step h) }
-
-  pub sharing_not : j < length xs → (get_or xs j 0 ≡ get_or xs 0 0 → ⊥) → shared xs ≡ 0
-  unfolding ◌and◌ test◌then◌else◌
-  sharing_not h n =
-      let l : false ≡ all (eqb (get_or xs 0 0)) (drop 1 xs) =
-      rw (ne_eqb (get_or xs 0 0) (get_or xs j 0) (λ e. n (sym e))) at (sharing_step h) in
-      shared_by xs s.some ∙ rw (← l)
-
-  pub sharing_all : length xs ≤ j → shared xs ≡ get_or xs 0 0
-  unfolding all test◌then◌else◌
-  sharing_all h =
-      let l : true ≡ all (eqb (get_or xs 0 0)) (drop 1 xs) = rw (drop_of_length-le xs h) at s.left in
-      shared_by xs s.some ∙ rw (← l)
-
--- the same of a piece of the cells
-module _ (cs : List ℕ) (a q : ℕ) (long : a + q ≤ length cs) where
-  head_at : 0 < q → get_or (piece a q cs) 0 0 ≡ get_or cs a 0
-  head_at h = piece_at cs a q 0 h ∙ ap (λ x. get_or cs x 0) (add-zero a)
-
-  pub share_first : (q ≡ 0 → ⊥) → Sharing (piece a q cs) 1
-  share_first n = sharing_first _ (omega (arith, piece_long cs a q long))
-
-  pub share_more : {j : ℕ} → Sharing (piece a q cs) j → j < q → get_or cs (a + j) 0 ≡ get_or cs a 0 → Sharing (piece a q cs) (j + 1)
-  share_more {j} s h e =
-      sharing_more _ j s (omega (arith, piece_long cs a q long)) (piece_at cs a q j h ∙ e ∙ sym (head_at (omega arith)))
-
-  pub share_not : {j : ℕ} → Sharing (piece a q cs) j → j < q → (get_or cs (a + j) 0 ≡ get_or cs a 0 → ⊥) → 0 ≡ shared (piece a q cs)
-  share_not {j} s h n =
-      sym (sharing_not _ j s (omega (arith, piece_long cs a q long)) (λ e. n (sym (piece_at cs a q j h) ∙ e ∙ head_at (omega arith))))
-
-  pub share_all : {j r : ℕ} → Sharing (piece a q cs) j → q ≤ j → r ≡ get_or cs a 0 → r ≡ shared (piece a q cs)
-  share_all {j} s h e =
-      e ∙ sym (head_at (omega (arith, s.some, piece_long cs a q long))) ∙ sym (sharing_all _ j s (omega (arith, piece_long cs a q long)))
+    pub shared_not : b ≡ false → 0 ≡ shared es
+    unfolding test◌then◌else◌
+    shared_not n = sym (by_rest ∙ rw n)
 
 -- ---- what the shared number means
 

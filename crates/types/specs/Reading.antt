@@ -1,10 +1,12 @@
 -- What the readers of the table tell of number i, whatever the counts of the table that the cells cs hold; and what they need.
-use Rattle.std.specs.Prelude.{◌≡◌, Bool, List, [], ◌∷◌, ℕ, suc, ◌+◌, ◌≤◌, ◌<◌, eqb, length}
-use Rattle.std.proofs.Math.Option.{Option, none, some}
+use Rattle.std.specs.Prelude.{◌≡◌, List, [], ◌∷◌, Option, Some, None, ℕ, suc, ◌+◌, ◌≤◌, ◌<◌, eqb, length}
+use Rattle.std.proofs.Math.Option.{Option as Perhaps, none, some}
 use Rattle.meaning.specs.Base.{test◌then◌else◌, all}
 use Rattle.meaning.specs.Types.{Ty, kind, parts, part, common}
 use Rattle.meaning.specs.Rules.{element_of}
 use Rattle.meaning.specs.Walk.{agreed}
+use Rattle.types.specs.declared.Kind.{Kind}
+use Rattle.types.specs.Kinds.{kind_number}
 use Rattle.types.specs.Layout.{kind_in, first_in, second_in}
 use Rattle.types.specs.Table.{Tab, tab, capacity, Wf, Means, denote}
 
@@ -19,8 +21,8 @@ pub record Known (cs : List ℕ) (i : ℕ) : Type 0 where
 unfoldable pub type_at : List ℕ → ℕ → Ty
 type_at cs i = denote (tab cs (suc i) 0) i
 
-pub record KindOf (cs : List ℕ) (i r : ℕ) : Type 0 where
-  pub says : (t : Tab) → t.cells ≡ cs → Wf t → i < t.n → r ≡ kind (denote t i)
+pub record KindOf (cs : List ℕ) (i : ℕ) (r : Kind) : Type 0 where
+  pub says : (t : Tab) → t.cells ≡ cs → Wf t → i < t.n → kind_number r ≡ kind (denote t i)
 
 -- the part k, 0 or 1, of any type but a Tuple: Unknown where the type has no such part
 pub record PartOf (cs : List ℕ) (k i r : ℕ) : Type 0 where
@@ -60,9 +62,6 @@ pub record IsNumber (cs : List ℕ) (i : ℕ) : Type 0 where
   pub number : i < capacity cs
   pub whole : kind_in cs i ≡ 10 → IsTuple cs i
 
-pub record CountOf (cs : List ℕ) (i r : ℕ) : Type 0 where
-  pub says : (t : Tab) → t.cells ≡ cs → Wf t → i < t.n → kind (denote t i) ≡ 10 → r ≡ length (parts (denote t i))
-
 pub record ElementAt (cs : List ℕ) (i j r : ℕ) : Type 0 where
   pub says : (t : Tab) → t.cells ≡ cs → Wf t → i < t.n → kind (denote t i) ≡ 10 → Means t r (part j (denote t i))
 
@@ -78,15 +77,16 @@ pub record CommonOf (cs : List ℕ) (i r : ℕ) : Type 0 where
 -- ---- answers that may be none
 
 -- a type by its number, or none
-unfoldable pub perhaps : Tab → Bool → ℕ → Option Ty
-perhaps t there r = test there then some (denote t r) else none
+unfoldable pub perhaps : Tab → Option ℕ → Perhaps Ty
+perhaps t None = none
+perhaps t (Some r) = some (denote t r)
 
 -- what a walk over a value of the type gives
-pub record ElementOf (cs : List ℕ) (i : ℕ) (there : Bool) (r : ℕ) : Type 0 where
-  pub says : (t : Tab) → t.cells ≡ cs → Wf t → i < t.n → element_of (denote t i) ≡ perhaps t there r
-  pub below : (t : Tab) → t.cells ≡ cs → Wf t → i < t.n → r < t.n
+pub record ElementOf (cs : List ℕ) (i : ℕ) (r : Option ℕ) : Type 0 where
+  pub says : (t : Tab) → t.cells ≡ cs → Wf t → i < t.n → element_of (denote t i) ≡ perhaps t r
+  pub below : (t : Tab) → t.cells ≡ cs → Wf t → i < t.n → (k : ℕ) → r ≡ Some k → k < t.n
 
 -- what an old type a and a new type b agree on: no look into the table tells it
-pub record Agreement (a b : ℕ) (there : Bool) (r : ℕ) : Type 0 where
-  pub says : (t : Tab) → Wf t → a < t.n → b < t.n → agreed (denote t a) (denote t b) ≡ perhaps t there r
-  pub below : (t : Tab) → a < t.n → b < t.n → r < t.n
+pub record Agreement (a b : ℕ) (r : Option ℕ) : Type 0 where
+  pub says : (t : Tab) → Wf t → a < t.n → b < t.n → agreed (denote t a) (denote t b) ≡ perhaps t r
+  pub below : (t : Tab) → a < t.n → b < t.n → (k : ℕ) → r ≡ Some k → k < t.n

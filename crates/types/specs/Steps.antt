@@ -1,5 +1,5 @@
 -- The steps that form a type: what is asked, what a search of the records finds, what is written.
-use Rattle.std.specs.Prelude.{◌≡◌, List, Bool, true, false, ℕ, ◌+◌, ◌≤◌, ◌<◌, length, get_or}
+use Rattle.std.specs.Prelude.{◌≡◌, List, Bool, true, false, ℕ, ◌+◌, ◌≤◌, ◌<◌, length, get_or, take, drop, Option, Some, None}
 use Rattle.types.specs.Layout.{kind_cell, link_cell, record_end, kind_in, first_in, second_in, link_in, elements_from, slots_from, slots_end}
 use Rattle.types.specs.Table.{Tab, capacity, slot_at, Fresh, Wf}
 
@@ -32,15 +32,11 @@ pub record RecordAt (cs : List ℕ) (k p q i : ℕ) : Type 0 where
   pub first_is : first_in cs i ≡ p
   pub second_is : second_in cs i ≡ q
 
--- the q numbers of cs from a on are those of st from s on
-pub record Equal (cs : List ℕ) (a : ℕ) (st : List ℕ) (s q : ℕ) : Type 0 where
-  pub at : (j : ℕ) → j < q → get_or cs (a + j) 0 ≡ get_or st (s + j) 0
-
--- record i is the Tuple of the q numbers of st from s on
-pub record TupleAt (cs st : List ℕ) (s q i : ℕ) : Type 0 where
+-- record i is the Tuple of the numbers es
+pub record TupleAt (cs es : List ℕ) (i : ℕ) : Type 0 where
   pub kind_is : kind_in cs i ≡ 10
-  pub second_is : second_in cs i ≡ q
-  pub elements : Equal cs (elements_from cs + first_in cs i) st s q
+  pub second_is : second_in cs i ≡ length es
+  pub elements : take (length es) (drop (elements_from cs + first_in cs i) cs) ≡ es
 
 -- ---- a search
 
@@ -61,10 +57,11 @@ pub record Passed (P : ℕ → Type 0) (cs : List ℕ) (n slot i : ℕ) : Type 0
   pub own : 8 ≤ i → slot_at cs i ≡ slot
   pub none : (j : ℕ) → i < j → 8 ≤ j → j < n → P j → ⊥
 
--- r is a number below n that has P, or n where no structured number below n has
-pub record Found (P : ℕ → Type 0) (n r : ℕ) : Type 0 where
-  pub found : r < n → P r
-  pub none : n ≤ r → (j : ℕ) → 8 ≤ j → j < n → P j → ⊥
+-- r is a number below n that has P, or none where no structured number below n has
+pub record Found (P : ℕ → Type 0) (n : ℕ) (r : Option ℕ) : Type 0 where
+  pub below : (i : ℕ) → r ≡ Some i → i < n
+  pub found : (i : ℕ) → r ≡ Some i → P i
+  pub none : r ≡ None → (j : ℕ) → 8 ≤ j → j < n → P j → ⊥
 
 -- ---- writing
 
@@ -88,10 +85,3 @@ pub record Added (cs ds : List ℕ) (slot i k p q : ℕ) : Type 0 where
 pub record Started (cs : List ℕ) (k : ℕ) : Type 0 where
   pub fresh : Fresh cs
   pub plains : (i : ℕ) → i < k → RecordAt cs i 0 0 i
-
--- ds is cs with the q numbers of st from s on as its cells from a on
-pub record Copied (cs ds : List ℕ) (a : ℕ) (st : List ℕ) (s q : ℕ) : Type 0 where
-  pub long : length ds ≡ length cs
-  pub before : (x : ℕ) → x < a → get_or ds x 0 ≡ get_or cs x 0
-  pub after : (x : ℕ) → a + q ≤ x → get_or ds x 0 ≡ get_or cs x 0
-  pub elements : Equal ds a st s q

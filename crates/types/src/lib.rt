@@ -6,19 +6,18 @@
 // it has no part.
 // A record's hash names its slot. The slot has the last number of its chain and a record's link the one before; a
 // number below 8 ends it.
-#![tactic(auto)]
+#![tactic(auto, using(crate::proofs::Room::capacity_within, crate::proofs::Room::slots_within))]
 
-ghost use Rattle.std.specs.Prelude.{◌≡◌, map, length, get_or, take, drop, ℕ, ◌+◌, ◌*◌, ◌≤◌, ◌<◌};
+ghost use Rattle.std.specs.Prelude.{◌≡◌, map, length, get_or, take, drop, Bool, true, ℕ, ◌+◌, ◌*◌, ◌≤◌, ◌<◌};
 ghost use Rattle.meaning.specs.Types.{tuple, tys};
-ghost use Rattle.types.specs.Layout.{capacity, second_cell, link_cell, elements_from};
+ghost use Rattle.types.specs.Layout.{capacity, kind_cell, second_cell, link_cell, elements_from};
+ghost use Rattle.types.specs.Kinds.{kind_number, Numbered};
 ghost use Rattle.types.specs.Table.{step, tuple_hash, slot_of, Chains};
 ghost use Rattle.types.specs.Table.{Fresh, Wf, Made, tab, denote, built};
-ghost use Rattle.types.specs.Steps.{Asked, Listed, RecordAt, Equal, TupleAt, Told};
-ghost use Rattle.types.specs.Steps.{Slot, Found, Written, Added, Copied};
+ghost use Rattle.types.specs.Steps.{Asked, Listed, RecordAt, TupleAt, Told};
+ghost use Rattle.types.specs.Steps.{Slot, Found, Written, Added};
 ghost use Rattle.types.specs.Reading.{KindOf, PartOf, PartsOf, HasPart, PartAt, IsNumber, IsTuple, IsElement};
-ghost use Rattle.types.specs.Reading.{CountOf, ElementAt, CommonOf, ElementOf, shared, Agreement};
-
-use words::wide16;
+ghost use Rattle.types.specs.Reading.{ElementAt, CommonOf, ElementOf, shared, Agreement};
 
 // The plain types, numbers 0 to 7: each is its own kind.
 pub const UNKNOWN: usize = 0;
@@ -40,19 +39,34 @@ pub const FUNCTION: usize = 7;
 // The first number that is no plain type's.
 pub const STRUCTURED: usize = 8;
 
-// The kinds of the others: `List` is the first.
-pub const LIST: usize = 8;
+// What a type is built as: a plain type is its own kind, and stands here in the order of their numbers.
+#[derive(Clone, Copy, PartialEq, Eq)]
+pub enum Kind {
+    Unknown,
+    Int,
+    Bool,
+    String,
+    Float,
+    NoneType,
+    Range,
+    Function,
+    List,
+    Dict,
+    Tuple,
+    MapIter,
+    FilterIter,
+}
 
-pub const DICT: usize = 9;
-
-pub const TUPLE: usize = 10;
-
-pub const MAP_ITER: usize = 11;
-
-pub const FILTER_ITER: usize = 12;
+impl Kind {
+    pub fn number(self) -> usize
+        ensures { result ≡ kind_number self }
+    {
+        self as usize
+    }
+}
 
 // A Tuple's kind as a cell has it.
-const TUPLE_CELL: u16 = TUPLE as u16;
+const TUPLE_CELL: u16 = Kind::Tuple as u16;
 
 // The cells of a record: kind, p, q and its link. The kind is the first.
 const RECORD: usize = 4;
@@ -96,18 +110,19 @@ pub struct Formed {
     pub counts: Counts,
 }
 
-// A type's number, or none.
-#[derive(Clone, Copy)]
-pub struct Perhaps {
-    pub there: bool,
-    pub number: usize,
+// A record without its link.
+#[derive(Clone, Copy, PartialEq, Eq)]
+struct Record {
+    kind: u16,
+    p: u16,
+    q: u16,
 }
 
 fn cell(table: &[u16], at: usize) -> usize
     requires { at < length table.now }
     ensures { result ≡ get_or table.now at 0 }
 {
-    wide16(table[at])
+    usize::from(table[at])
 }
 
 // The cell of the first tuple element.
@@ -118,13 +133,13 @@ fn base(table: &[u16]) -> usize
 }
 
 // Writes record i.
-fn put(table: &mut [u16], i: usize, k: u16, p: u16, q: u16)
+fn put(table: &mut [u16], i: usize, r: Record)
     requires { second_cell i < length table.old }
-    ensures { Written table.old table.new i k p q }
+    ensures { Written table.old table.new i r.kind r.p r.q }
 {
-    table[RECORD * i] = k;
-    table[RECORD * i + P] = p;
-    table[RECORD * i + Q] = q;
+    table[RECORD * i] = r.kind;
+    table[RECORD * i + P] = r.p;
+    table[RECORD * i + Q] = r.q;
 }
 
 // The table with the plain types alone: 8 numbers and no element. The chains are not emptied here: cells filled with 1
@@ -133,28 +148,23 @@ pub fn start(table: &mut [u16])
     requires { Fresh table.old }
     ensures { Wf (tab table.new 8 0) }
 {
-    let mut i: usize = 0;
-    while i < STRUCTURED {
-        put(table, i, i as u16, 0, 0);
-        i += 1;
+    for i in 0..STRUCTURED {
+        let kind = i as u16;
+        put(table, i, Record { kind, p: 0, q: 0 });
     }
 }
 
-// Whether record i is (k, p, q).
-fn holds(table: &[u16], i: usize, k: u16, p: u16, q: u16) -> bool
+// Whether record i is this one.
+fn holds(table: &[u16], i: usize, r: Record) -> bool
     requires { second_cell i < length table.now }
-    ensures { Told (RecordAt table.now k p q i) result }
+    ensures { Told (RecordAt table.now r.kind r.p r.q i) result }
 {
-    if table[RECORD * i] != k {
-        return false;
-    }
-    if table[RECORD * i + P] != p {
-        return false;
-    }
-    if table[RECORD * i + Q] != q {
-        return false;
-    }
-    true
+    let own = Record {
+        kind: table[RECORD * i],
+        p: table[RECORD * i + P],
+        q: table[RECORD * i + Q],
+    };
+    own == r
 }
 
 // A hash with one number more.
@@ -174,148 +184,104 @@ fn slot_of(table: &[u16], h: usize) -> usize
     SLOTS * n + h % n
 }
 
-// The number in the slot's chain whose record is (k, p, q), or `types` where there is none.
-fn find(table: &[u16], slot: usize, types: usize, k: u16, p: u16, q: u16) -> usize
+// The number in the slot's chain that the test holds of, if there is one.
+fn find<F: Fn(usize) -> bool>(table: &[u16], slot: usize, types: usize, test: F) -> Option<usize>
     requires types_bound { types ≤ capacity table.now }
     requires chains { Chains table.now types }
-    requires slot { Slot (RecordAt table.now k p q) table.now types slot }
-    ensures { Found (RecordAt table.now k p q) types result }
+    requires slot { Slot (λ i. F.post test i true) table.now types slot }
+    requires tested { (i : ℕ) → i < types → F.pre test i }
+    requires told { (i : ℕ) (b : Bool) → i < types → F.post test i b → Told (F.post test i true) b }
+    ensures { Found (λ i. F.post test i true) types result }
 {
     let mut i = cell(table, slot);
     while STRUCTURED <= i {
-        if holds(table, i, k, p, q) {
-            return i;
+        if test(i) {
+            return Some(i);
         }
         i = cell(table, RECORD * i + LINK);
     }
-    types
+    None
 }
 
 // Writes record i, and makes it the last one of the slot's chain.
-fn add(table: &mut [u16], slot: usize, i: usize, k: u16, p: u16, q: u16)
+fn add(table: &mut [u16], slot: usize, i: usize, r: Record)
     requires { (link_cell i < slot) × (slot < length table.old) × (i < 65536) }
-    ensures { Added table.old table.new slot i k p q }
+    ensures { Added table.old table.new slot i r.kind r.p r.q }
 {
-    put(table, i, k, p, q);
+    put(table, i, r);
     table[RECORD * i + LINK] = table[slot];
     table[slot] = i as u16;
 }
 
 // The number of the List, Dict, MapIter or FilterIter of p (and q): the one it has, or the next one.
-pub fn form(table: &mut [u16], counts: Counts, kind: usize, p: usize, q: usize) -> Formed
-    requires { Asked (tab table.old counts.types counts.elements) kind p q }
+pub fn form(table: &mut [u16], counts: Counts, kind: Kind, p: usize, q: usize) -> Formed
+    requires { Asked (tab table.old counts.types counts.elements) (kind_number kind) p q }
     ensures { Made (tab table.old counts.types counts.elements)
         (tab table.new result.counts.types result.counts.elements)
         result.number
-        (built kind (denote (tab table.old counts.types counts.elements) p)
+        (built (kind_number kind) (denote (tab table.old counts.types counts.elements) p)
         (denote (tab table.old counts.types counts.elements) q))
         0 }
 {
     let types = counts.types;
-    let slot = slot_of(table, mixed(mixed(kind, p), q));
-    let i = find(table, slot, types, kind as u16, p as u16, q as u16);
-    if i < types {
-        Formed { number: i, counts }
-    } else {
-        add(table, slot, types, kind as u16, p as u16, q as u16);
-        Formed {
-            number: types,
-            counts: Counts {
-                types: types + 1,
-                elements: counts.elements,
-            },
-        }
+    let number = kind.number();
+    let r = Record {
+        kind: number as u16,
+        p: p as u16,
+        q: q as u16,
+    };
+    let slot = slot_of(table, mixed(mixed(number, p), q));
+    let is_it = |i: usize|
+        requires { i < capacity table.now }
+        ensures { Told (RecordAt table.entry.now r.kind r.p r.q i) result }
+    { holds(table, i, r) };
+    if let Some(found) = find(table, slot, types, is_it) {
+        return Formed {
+            number: found,
+            counts,
+        };
+    }
+    add(table, slot, types, r);
+    Formed {
+        number: types,
+        counts: Counts {
+            types: types + 1,
+            elements: counts.elements,
+        },
     }
 }
 
-// Whether the n cells from `at` on are the n numbers of the stack from `from` on.
-fn alike(table: &[u16], at: usize, stack: &[u16], from: usize, n: usize) -> bool
-    requires { (at + n ≤ length table.now) × (from + n ≤ length stack.now) }
-    ensures { Told (Equal table.now at stack.now from n) result }
+// Cell k of record i.
+fn field(table: &[u16], i: usize, k: usize) -> usize
+    requires { (i < capacity table.now) × (k < 4) }
+    ensures { result ≡ get_or table.now (kind_cell i + k) 0 }
 {
-    let mut j: usize = 0;
-    while j < n {
-        if table[at + j] != stack[from + j] {
-            return false;
-        }
-        j += 1;
-    }
-    true
+    cell(table, RECORD * i + k)
 }
 
-// Whether record i is the Tuple of the n numbers of the stack from `from` on. `elements`, the cell of the first
-// element, is handed in so that a search works it out once.
-fn matches(table: &[u16], elements: usize, i: usize, stack: &[u16], from: usize, n: usize) -> bool
-    requires elements_value { elements ≡ elements_from table.now }
+// Whether record i is the Tuple of these numbers. `first`, the cell of the first element, is handed in so that a search
+// works it out once.
+fn matches(table: &[u16], first: usize, i: usize, elements: &[u16]) -> bool
+    requires first_value { first ≡ elements_from table.now }
     requires number { IsNumber table.now i }
-    requires n_in_bounds { from + n ≤ length stack.now }
-    ensures { Told (TupleAt table.now stack.now from n i) result }
+    ensures { Told (TupleAt table.now elements.now i) result }
 {
-    if table[RECORD * i] != TUPLE_CELL {
+    if table[RECORD * i] != TUPLE_CELL || field(table, i, Q) != elements.len() {
         return false;
     }
-    if cell(table, RECORD * i + Q) != n {
-        return false;
-    }
-    let p = cell(table, RECORD * i + P);
-    alike(table, elements + p, stack, from, n)
+    let at = first + field(table, i, P);
+    &table[at..at + elements.len()] == elements
 }
 
-fn number_at(stack: &[u16], at: usize) -> usize
-    requires { at < length stack.now }
-    ensures { (result ≡ get_or stack.now at 0) × (result < 65536) }
+// The hash of the Tuple of these numbers.
+fn hash_of(elements: &[u16]) -> usize
+    ensures { result ≡ tuple_hash elements.now }
 {
-    wide16(stack[at])
-}
-
-// The hash of the Tuple of the n numbers of the stack from `from` on.
-fn hash_of(stack: &[u16], from: usize, n: usize) -> usize
-    requires { from + n ≤ length stack.now }
-    ensures { result ≡ tuple_hash (take n (drop from stack.now)) }
-{
-    let mut h = TUPLE;
-    let mut j: usize = 0;
-    while j < n {
-        h = mixed(h, number_at(stack, from + j));
-        j += 1;
+    let mut h = Kind::Tuple as usize;
+    for e in elements {
+        h = mixed(h, usize::from(*e));
     }
     h
-}
-
-// The number in the slot's chain that is the Tuple of these, or `counts.types` where there is none.
-fn find_tuple(
-    table: &[u16],
-    slot: usize,
-    counts: Counts,
-    stack: &[u16],
-    from: usize,
-    n: usize,
-) -> usize
-    requires listed { Listed (tab table.now counts.types counts.elements) stack.now from n }
-    requires slot { Slot (TupleAt table.now stack.now from n) table.now counts.types slot }
-    ensures { Found (TupleAt table.now stack.now from n) counts.types result }
-{
-    let elements = base(table);
-    let mut i = cell(table, slot);
-    while STRUCTURED <= i {
-        if matches(table, elements, i, stack, from, n) {
-            return i;
-        }
-        i = cell(table, RECORD * i + LINK);
-    }
-    counts.types
-}
-
-// Writes the n numbers of the stack from `from` on to the cells from `at` on.
-fn copy(table: &mut [u16], at: usize, stack: &[u16], from: usize, n: usize)
-    requires { (at + n ≤ length table.old) × (from + n ≤ length stack.now) }
-    ensures { Copied table.old table.new at stack.now from n }
-{
-    let mut j: usize = 0;
-    while j < n {
-        table[at + j] = stack[from + j];
-        j += 1;
-    }
 }
 
 // The number of the Tuple of the n numbers of the stack from `from` on: the one it has, or the next one.
@@ -329,30 +295,64 @@ pub fn tuple_of(table: &mut [u16], counts: Counts, stack: &[u16], from: usize, n
         n }
 {
     let types = counts.types;
-    let m = counts.elements;
-    let slot = slot_of(table, hash_of(stack, from, n));
-    let i = find_tuple(table, slot, counts, stack, from, n);
-    if i < types {
-        Formed { number: i, counts }
-    } else {
-        copy(table, base(table) + m, stack, from, n);
-        add(table, slot, types, TUPLE_CELL, m as u16, n as u16);
-        Formed {
-            number: types,
-            counts: Counts {
-                types: types + 1,
-                elements: m + n,
-            },
-        }
+    let elements = &stack[from..from + n];
+    let first = base(table);
+    let slot = slot_of(table, hash_of(elements));
+    let is_it = |i: usize|
+        requires { (first ≡ elements_from table.now) × IsNumber table.now i }
+        ensures { Told (TupleAt table.entry.now elements.entry.now i) result }
+    { matches(table, first, i, elements) };
+    if let Some(number) = find(table, slot, types, is_it) {
+        return Formed { number, counts };
+    }
+    let at = first + counts.elements;
+    table[at..at + n].copy_from_slice(elements);
+    add(
+        table,
+        slot,
+        types,
+        Record {
+            kind: TUPLE_CELL,
+            p: counts.elements as u16,
+            q: n as u16,
+        },
+    );
+    Formed {
+        number: types,
+        counts: Counts {
+            types: types + 1,
+            elements: counts.elements + n,
+        },
+    }
+}
+
+// The kind of a number.
+pub fn numbered(number: usize) -> Kind
+    ensures { Numbered number result }
+{
+    match number {
+        0 => Kind::Unknown,
+        1 => Kind::Int,
+        2 => Kind::Bool,
+        3 => Kind::String,
+        4 => Kind::Float,
+        5 => Kind::NoneType,
+        6 => Kind::Range,
+        7 => Kind::Function,
+        8 => Kind::List,
+        9 => Kind::Dict,
+        10 => Kind::Tuple,
+        11 => Kind::MapIter,
+        _ => Kind::FilterIter,
     }
 }
 
 // The kind of type i.
-pub fn kind_of(table: &[u16], i: usize) -> usize
+pub fn kind_of(table: &[u16], i: usize) -> Kind
     requires { i < capacity table.now }
     ensures { KindOf table.now i result }
 {
-    cell(table, RECORD * i)
+    numbered(cell(table, RECORD * i))
 }
 
 // The first part of type i, if that is no Tuple: 0, Unknown, if it has none.
@@ -360,7 +360,7 @@ pub fn part_of(table: &[u16], i: usize) -> usize
     requires { i < capacity table.now }
     ensures { PartOf table.now 0 i result }
 {
-    cell(table, RECORD * i + P)
+    field(table, i, P)
 }
 
 // The second part of type i, if that is no Tuple: 0, Unknown, if it has none.
@@ -368,15 +368,7 @@ pub fn second_of(table: &[u16], i: usize) -> usize
     requires { i < capacity table.now }
     ensures { PartOf table.now 1 i result }
 {
-    cell(table, RECORD * i + Q)
-}
-
-// How many elements the Tuple i has.
-fn count_of(table: &[u16], i: usize) -> usize
-    requires { i < capacity table.now }
-    ensures { CountOf table.now i result }
-{
-    cell(table, RECORD * i + Q)
+    field(table, i, Q)
 }
 
 // The element j of the Tuple i.
@@ -384,8 +376,7 @@ fn element_at(table: &[u16], i: usize, j: usize) -> usize
     requires { IsElement table.now i j }
     ensures { ElementAt table.now i j result }
 {
-    let p = cell(table, RECORD * i + P);
-    cell(table, base(table) + p + j)
+    cell(table, base(table) + field(table, i, P) + j)
 }
 
 // How many parts type i has: a plain type has none.
@@ -394,10 +385,10 @@ pub fn parts_of(table: &[u16], i: usize) -> usize
     ensures { PartsOf table.now i result }
 {
     match kind_of(table, i) {
-        UNKNOWN..=FUNCTION => 0,
-        DICT => 2,
-        TUPLE => count_of(table, i),
-        _ => 1,
+        Kind::Dict => 2,
+        Kind::Tuple => field(table, i, Q),
+        Kind::List | Kind::MapIter | Kind::FilterIter => 1,
+        _ => 0,
     }
 }
 
@@ -406,31 +397,21 @@ pub fn part_at(table: &[u16], i: usize, j: usize) -> usize
     requires { HasPart table.now i j }
     ensures { PartAt table.now i j result }
 {
-    if kind_of(table, i) == TUPLE {
-        return element_at(table, i, j);
+    match kind_of(table, i) {
+        Kind::Tuple => element_at(table, i, j),
+        _ if j == 0 => part_of(table, i),
+        _ => second_of(table, i),
     }
-    if j == 0 {
-        return part_of(table, i);
-    }
-    second_of(table, i)
 }
 
-// The type that the q cells from `at` on share, or Unknown.
-fn shared_of(table: &[u16], at: usize, q: usize) -> usize
-    requires { at + q ≤ length table.now }
-    ensures { result ≡ shared (take q (drop at table.now)) }
+// The type that these share, or Unknown.
+fn shared_of(elements: &[u16]) -> usize
+    ensures { result ≡ shared elements.now }
 {
-    if q == 0 {
-        return UNKNOWN;
+    match elements {
+        [first, rest @ ..] if rest.iter().all(|e| first == e) => usize::from(*first),
+        _ => UNKNOWN,
     }
-    let mut j: usize = 1;
-    while j < q {
-        if table[at + j] != table[at] {
-            return UNKNOWN;
-        }
-        j += 1;
-    }
-    cell(table, at)
 }
 
 // The type that all elements of the Tuple i share: 0, Unknown, if there is none.
@@ -438,73 +419,34 @@ pub fn common_of(table: &[u16], i: usize) -> usize
     requires { IsTuple table.now i }
     ensures { CommonOf table.now i result }
 {
-    let p = cell(table, RECORD * i + P);
-    let q = cell(table, RECORD * i + Q);
-    shared_of(table, base(table) + p, q)
+    let at = base(table) + field(table, i, P);
+    shared_of(&table[at..at + field(table, i, Q)])
 }
 
 // What a walk over a value of type i gives.
-pub fn element_of(table: &[u16], i: usize) -> Perhaps
+pub fn element_of(table: &[u16], i: usize) -> Option<usize>
     requires { IsNumber table.now i }
-    ensures { ElementOf table.now i result.there result.number }
+    ensures { ElementOf table.now i result }
 {
-    let kind = cell(table, RECORD * i);
-    if kind == TUPLE {
-        return Perhaps {
-            there: true,
-            number: common_of(table, i),
-        };
-    }
-    if kind >= LIST {
-        return Perhaps {
-            there: true,
-            number: part_of(table, i),
-        };
-    }
-    match kind {
-        UNKNOWN => Perhaps {
-            there: true,
-            number: UNKNOWN,
-        },
-        STRING => Perhaps {
-            there: true,
-            number: STRING,
-        },
-        RANGE => Perhaps {
-            there: true,
-            number: INT,
-        },
-        _ => Perhaps {
-            there: false,
-            number: UNKNOWN,
-        },
+    match numbered(cell(table, RECORD * i)) {
+        Kind::Unknown => Some(UNKNOWN),
+        Kind::String => Some(STRING),
+        Kind::Range => Some(INT),
+        Kind::Tuple => Some(common_of(table, i)),
+        Kind::List | Kind::Dict | Kind::MapIter | Kind::FilterIter => Some(part_of(table, i)),
+        Kind::Int | Kind::Bool | Kind::Float | Kind::NoneType | Kind::Function => None,
     }
 }
 
 // What an old type a and a new type b agree on: Unknown gives way, and two others must be equal.
-pub fn agreed(a: usize, b: usize) -> Perhaps
-    ensures { Agreement a b result.there result.number }
+pub fn agreed(a: usize, b: usize) -> Option<usize>
+    ensures { Agreement a b result }
 {
-    if a == UNKNOWN {
-        return Perhaps {
-            there: true,
-            number: b,
-        };
-    }
-    if a == b {
-        return Perhaps {
-            there: true,
-            number: b,
-        };
-    }
-    if b == UNKNOWN {
-        return Perhaps {
-            there: true,
-            number: a,
-        };
-    }
-    Perhaps {
-        there: false,
-        number: a,
+    if a == UNKNOWN || a == b {
+        Some(b)
+    } else if b == UNKNOWN {
+        Some(a)
+    } else {
+        None
     }
 }

@@ -1,3 +1,5 @@
+pub mod Open
 pub mod Words
+pub mod Texts
 pub mod Said
 pub mod Runs

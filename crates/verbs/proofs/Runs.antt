@@ -32,7 +32,6 @@ use Rattle.steady.proofs.Whole.{steadiness_exactly}
 use Rattle.verbs.specs.Said.{status_number, Said, Says, told_text, check_said, known_text, known_said, refusal_of, Writes, Renews, show_said, changed_if, changes_said, names_in, look_text, load_said_by, load_said}
 use Rattle.verbs.specs.declared.Done.{Done}
 use Rattle.verbs.specs.declared.Written.{Written}
-use Rattle.verbs.specs.declared.Renewed.{Renewed}
 use Rattle.verbs.specs.declared.Status.{Status}
 use Rattle.verbs.specs.declared.Status.TheVariants.{Fine, Refused}
 use Rattle.verbs.proofs.Said.{none_said, both_said, not_twelve, read_is}
@@ -49,19 +48,19 @@ one_said d e x y = (
 -- (false of a promise that leaves open what a refusal leaves of the sheet's buffer)
 pub one_written : {a : Answer} {s s₁ s₂ o o₁ o₂ : List ℕ} (w v : Written) → Writes a s s₁ o o₁ w → Writes a s s₂ o o₂ v → (w ≡ v) × (s₁ ≡ s₂) × (o₁ ≡ o₂)
 one_written w v x y = (
-  ap (λ (n : ℕ). record { sheet = n; line = w.line; status = w.status }) (x.sheet.ends ∙ sym y.sheet.ends)
-      ∙ ap (λ (n : ℕ). record { sheet = v.sheet; line = n; status = w.status }) (x.told ∙ sym y.told)
-      ∙ ap (λ (t : Status). record { sheet = v.sheet; line = v.line; status = t }) (x.status ∙ sym y.status),
+  ap (λ (n : ℕ). record { length = n; line = w.line; status = w.status }) (x.sheet.ends ∙ sym y.sheet.ends)
+      ∙ ap (λ (n : ℕ). record { length = v.length; line = n; status = w.status }) (x.told ∙ sym y.told)
+      ∙ ap (λ (t : Status). record { length = v.length; line = v.line; status = t }) (x.status ∙ sym y.status),
   x.sheet.line ∙ sym y.sheet.line,
   x.line ∙ sym y.line,
 )
 
 -- (false of a promise that leaves open what `convert` leaves behind the image)
-pub one_renewed : {a : Conversion} {s s₁ s₂ o o₁ o₂ : List ℕ} (w v : Renewed) → Renews a s s₁ o o₁ w → Renews a s s₂ o o₂ v → (w ≡ v) × (s₁ ≡ s₂) × (o₁ ≡ o₂)
+pub one_renewed : {a : Conversion} {s s₁ s₂ o o₁ o₂ : List ℕ} (w v : Written) → Renews a s s₁ o o₁ w → Renews a s s₂ o o₂ v → (w ≡ v) × (s₁ ≡ s₂) × (o₁ ≡ o₂)
 one_renewed w v x y = (
-  ap (λ (n : ℕ). record { image = n; line = w.line; status = w.status }) (x.image.ends ∙ sym y.image.ends)
-      ∙ ap (λ (n : ℕ). record { image = v.image; line = n; status = w.status }) (x.line.ends ∙ sym y.line.ends)
-      ∙ ap (λ (t : Status). record { image = v.image; line = v.line; status = t }) (x.status ∙ sym y.status),
+  ap (λ (n : ℕ). record { length = n; line = w.line; status = w.status }) (x.image.ends ∙ sym y.image.ends)
+      ∙ ap (λ (n : ℕ). record { length = v.length; line = n; status = w.status }) (x.line.ends ∙ sym y.line.ends)
+      ∙ ap (λ (t : Status). record { length = v.length; line = v.line; status = t }) (x.status ∙ sym y.status),
   x.image.line ∙ sym y.image.line,
   x.line.line ∙ sym y.line.line,
 )

@@ -3,13 +3,12 @@ use mathlib.Core.Path.{◌≡◌, refl, sym, ap, ◌∙◌, subst}
 use mathlib.Core.Bool.{true}
 use mathlib.Core.Logic.{◌⊎◌, inl, inr}
 use mathlib.Core.List.{List, [], ◌∷◌, ◌++◌}
-use mathlib.Core.Option.{Option, none, some, none-ne-some, some-injective}
-use Prim.Native.Nat.{ℕ, ◌+◌, ◌≤◌, ◌<◌}
+use mathlib.Core.Option.{Option, none, some}
+use Prim.Native.Nat.{ℕ, ◌≤◌, ◌<◌}
 use native.Mathlib.Nat.{zero-add}
 use native.Mathlib.Decide.{dec_lt}
 use native.Mathlib.Omega.{arith}
 use borrow.Author.Tests.{eq-eqb, ne_eqb}
-use denote.Enum.Declared.{tag_of}
 use lib.ListN.{length, take}
 use lib.Seq.{length-take-le}
 use Rattle.meaning.specs.Limits.{sheet_buffer, message_buffer, largest_show, largest_changes}
@@ -21,8 +20,8 @@ use Rattle.meaning.specs.Convert.{Conversion, convert_answer}
 use Rattle.meaning.specs.Line.{spaced, refused_line, line_of}
 use Rattle.meaning.specs.Show.{entries_text, Change, changes_text, changes, InWords, show_answer, changes_answer}
 use Rattle.meaning.specs.Image.{Fault, image_fault}
-use Rattle.meaning.specs.Known.{Steadiness, steady, def_in_if, faulty, steadiness}
-use Rattle.meaning.specs.Load.{Loading, loading, loading_number}
+use Rattle.meaning.specs.Known.{Steadiness, def_in_if, steadiness}
+use Rattle.meaning.specs.Load.{Loading, loading}
 use Rattle.meaning.proofs.Faults.{sound}
 use Rattle.meaning.proofs.Converted.{convert_refused, convert_short, convert_done}
 use Rattle.meaning.proofs.SheetForm.{read_yes}
@@ -32,28 +31,21 @@ use Rattle.meaning.proofs.Loads.{number_loads, number_look, number_refused, look
 use Rattle.meaning.proofs.Answers.{overlaid_front}
 use Rattle.words.specs.Words.{Wrote}
 use Rattle.words.proofs.Laws.{put_nil, put_overlaid, wrote, and_then}
-use Rattle.checker.specs.Answers.{Numbers, sheet_numbers, numbers_of, numbers_in, reading_numbers}
-use Rattle.checker.specs.declared.Answer.{Answer as Reply}
+use Rattle.checker.specs.Answers.{Numbers, numbers_in, reading_numbers}
 use Rattle.checker.proofs.Places.{fault_near}
 use Rattle.convert.specs.Outcome.{Hands}
 use Rattle.convert.specs.Outcome.{Numbers as Converting}
-use Rattle.checker.specs.declared.Reading.{Reading}
-use Rattle.checker.specs.declared.Reading.TheVariants.{Sheet, NoSheet}
-use Rattle.image.specs.Outcome.{fault_of}
-use Rattle.steady.specs.Told.{meant}
-use Rattle.steady.specs.declared.Def.{Def}
-use Rattle.steady.specs.declared.Steadiness.{Steadiness as Steady}
-use Rattle.steady.specs.declared.Steadiness.TheVariants.{Steady as IsSteady, DefInIf, Faulty}
-use Rattle.steady.specs.contracts.Steadiness.{the_type as steady-type}
+use Rattle.std.specs.Prelude.{Ok, Err}
+use Rattle.std.specs.Result.{result_unwrap_or}
+use Rattle.checker.specs.declared.NoSheet.{NoSheet as NoReading}
 use Rattle.line.specs.Printing.{Fronted, Lined, SecondTold}
 use Rattle.line.proofs.Answered.{fronted}
-use Rattle.show.specs.Words.{Tells}
-use Rattle.load.specs.Rule.{kind_of, numbers_told, Decides, Decided}
-use Rattle.load.specs.declared.Loading.{Loading as Decision}
-use Rattle.load.specs.declared.Loading.TheVariants.{Loads, Look, Refused as Refuses}
-use Rattle.load.specs.contracts.Loading.{the_type}
-use Rattle.load.proofs.Cases.{sheet_there, decides_as}
-use Rattle.verbs.specs.Said.{status_of, status_number, Said, Says, span_text, first_text, told_text, check_said, known_text, Knows, known_said, refusal_of, Writes, unconverted_text, Renews, no_sheet_said, show_said, changed_if, changes_said, compared_as, names_in, look_text, load_said_by, load_said}
+use Rattle.show.specs.Words.{Telling, telling_code, telling_length, Tells}
+use Rattle.show.specs.declared.Untold.{Untold}
+use Rattle.show.specs.declared.Untold.TheVariants.{NoRoom, NoSheet}
+use Rattle.load.specs.Rule.{Decides}
+use Rattle.load.proofs.Cases.{sheet_there}
+use Rattle.verbs.specs.Said.{status_of, Said, Says, span_text, first_text, told_text, check_said, known_text, known_said, refusal_of, Writes, unconverted_text, Renews, no_sheet_said, show_said, changed_if, changes_said, compared_as, names_in, look_text, load_said_by, load_said}
 use Rattle.verbs.specs.declared.Status.{Status}
 use Rattle.verbs.specs.declared.Status.TheVariants.{Fine, Changed, Refused}
 
@@ -66,9 +58,6 @@ status_fine {c} e = rw (eq-eqb c 0 e)
 pub status_refused : {c : ℕ} → (c ≡ 0 → ⊥) → Refused ≡ status_of c
 unfolding status_of test◌then◌else◌
 status_refused {c} n = rw (ne_eqb c 0 n)
-
-pub digit_is : {s t : Status} {d : ℕ} → s ≡ t → d ≡ 48 + status_number t → d ≡ 48 + status_number s
-digit_is e p = rw e p
 
 -- a text written at the front of a buffer
 front_of : {d e : List ℕ} {r : ℕ} (s : List ℕ) → Wrote d 0 s e r → Fronted s d e r
@@ -112,49 +101,17 @@ says_check {a} l q w e = record { front = told_front a l.front l.told q w; statu
 
 -- ---- `check --known`
 
-pub known_strict : (setting n start end : ℕ) {d e : List ℕ} {at r : ℕ} → setting ≡ 1 → Wrote d at (bytes "known stays known: strict\n") e r
-    → Wrote d at (known_text setting (def_in_if n start end)) e r
-unfolding known_text test◌then◌else◌
-known_strict setting n start end s w = rw (eq-eqb setting 1 s) w
-
 pub known_changes : (setting n start end : ℕ) {d e f : List ℕ} {at i r : ℕ} → (setting ≡ 1 → ⊥) → Wrote d at (bytes "known may change: def inside an if") e i
     → Wrote e i (span_text start end) f r → Wrote d at (known_text setting (def_in_if n start end)) f r
 unfolding known_text test◌then◌else◌
 known_changes setting n start end s w v = rw (ne_eqb setting 1 s) (and_then w v)
 
--- what an answer means, it means alone
-module _ (setting : ℕ) {s : Steady} {d e : List ℕ} {at r : ℕ} where
-  knows_so : (k : Steadiness) → meant s ≡ some k → Wrote d at (known_text setting k) e r → Knows setting s d at e r
-  knows_so k p w =
-      record { tells = λ j q. subst (λ (i : Steadiness). Wrote d at (known_text setting i) e r) (some-injective k j (sym p ∙ q)) w }
-
-  pub knows_steady : s ≡ IsSteady → Wrote d at (bytes "known stays known: no def inside an if\n") e r → Knows setting s d at e r
-  unfolding known_text
-  knows_steady p w = knows_so steady (ap meant p) w
-
-  pub knows_def : {def : Def} → s ≡ DefInIf def → Wrote d at (known_text setting (def_in_if def.node def.begins def.ends)) e r → Knows setting s d at e r
-  knows_def {def} p w = knows_so (def_in_if def.node def.begins def.ends) (ap meant p) w
-
--- nothing is told of what is no image
-no_line : (setting : ℕ) (o : Option Fault) (k : Steadiness) → if_some o (λ f. some (faulty f)) none ≡ some k → [] ≡ known_text setting k
-unfolding if_some known_text
-no_line setting none k q = absurd (none-ne-some k q)
-no_line setting (some f) k q = rw (sym (some-injective (faulty f) k q))
-
-pub knows_faulty : (setting : ℕ) (s : Steady) {d : List ℕ} {at : ℕ} → tag_of steady-type s ≡ 2 → at ≤ length d → Knows setting s d at d at
-knows_faulty setting IsSteady e h = absurd (omega (arith, e))
-knows_faulty setting (DefInIf def) e h = absurd (omega (arith, e))
-knows_faulty setting (Faulty j) {d} {at} e h =
-    record {
-      tells = λ k q. subst (λ (w : List ℕ). Wrote d at w d at) (no_line setting (fault_of j) k q) (wrote [] (omega (arith, h)) (sym (put_nil d at)) (omega arith));
-    }
-
-pub says_known : (setting : ℕ) (bs : List ℕ) {old mid new : List ℕ} {at r : ℕ} {t : Status} {s : Steady}
-    → Says (check_said (answer setting bs sheet_buffer message_buffer)) old mid (record { length = at; status = t }) → meant s ≡ some (steadiness bs)
-    → Knows setting s mid at new r → Says (known_said setting bs) old new (record { length = r; status = t }) × (r ≤ length new)
+pub says_known : (setting : ℕ) (bs : List ℕ) {old mid new : List ℕ} {at r : ℕ} {t : Status} {s : Steadiness}
+    → Says (check_said (answer setting bs sheet_buffer message_buffer)) old mid (record { length = at; status = t }) → s ≡ steadiness bs
+    → Wrote mid at (known_text setting s) new r → Says (known_said setting bs) old new (record { length = r; status = t }) × (r ≤ length new)
 unfolding known_said check_said
-says_known setting bs {old} x e k =
-    let f = front_of _ (and_then (front_wrote _ old x.front) (k.tells (steadiness bs) e)) in
+says_known setting bs {old} x e w =
+    let f = front_of _ (and_then (front_wrote _ old x.front) (rw e at w)) in
     (record { front = f; status = x.status }, f.inside)
 
 -- ---- `sheet`
@@ -175,12 +132,12 @@ module _ {a : Answer} {old mid new s s₁ m m₁ : List ℕ} {size code count st
   told : Fronted (told_text a) old new r
   told = told_front a l.front l.told q w
 
-  pub writes_fine : code ≡ 0 → Writes a s s₁ old new (record { sheet = count; line = 0; status = Fine }) × ((count ≤ length s₁) × (0 ≤ length new))
+  pub writes_fine : code ≡ 0 → Writes a s s₁ old new (record { length = count; line = 0; status = Fine }) × ((count ≤ length s₁) × (0 ≤ length new))
   writes_fine z =
       let e : a.code ≡ 0 = sym l.told ∙ z in
       (record { sheet = in_front; line = told.line; told = ap length (no_refusal a e); status = status_fine e }, (in_front.inside, omega arith))
 
-  pub writes_refused : (code ≡ 0 → ⊥) → Writes a s s₁ old new (record { sheet = count; line = r; status = Refused }) × ((count ≤ length s₁) × (r ≤ length new))
+  pub writes_refused : (code ≡ 0 → ⊥) → Writes a s s₁ old new (record { length = count; line = r; status = Refused }) × ((count ≤ length s₁) × (r ≤ length new))
   writes_refused z =
       let n : a.code ≡ 0 → ⊥ = λ e. z (l.told ∙ e) in
       (record { sheet = in_front; line = told.line; told = told.ends ∙ ap length (a_refusal a n); status = status_refused n }, (in_front.inside, told.inside))
@@ -214,7 +171,7 @@ module _ {a : Conversion} {n : Converting} {s s₁ : List ℕ} (x : Hands a n s 
   a_text z = rw (ne_eqb a.code 0 z)
 
   pub renews_fine : (old : List ℕ) → n.code ≡ 0
-      → Renews a s s₁ old old (record { image = n.length; line = 0; status = Fine }) × ((n.length ≤ length s₁) × (0 ≤ length old))
+      → Renews a s s₁ old old (record { length = n.length; line = 0; status = Fine }) × ((n.length ≤ length s₁) × (0 ≤ length old))
   renews_fine old z =
       let e : a.code ≡ 0 = sym code_same ∙ z in
       let w : Fronted (unconverted_text a) old old 0 =
@@ -222,7 +179,7 @@ module _ {a : Conversion} {n : Converting} {s s₁ : List ℕ} (x : Hands a n s 
       (record { image = image_front; line = w; status = status_fine e }, (image_front.inside, omega arith))
 
   pub renews_refused : {old new : List ℕ} {r : ℕ} (place : ℕ) → (n.code ≡ 0 → ⊥) → place ≡ n.place → Wrote old 0 (refused_line (bare n.code place)) new r
-      → Renews a s s₁ old new (record { image = n.length; line = r; status = Refused }) × ((n.length ≤ length s₁) × (r ≤ length new))
+      → Renews a s s₁ old new (record { length = n.length; line = r; status = Refused }) × ((n.length ≤ length s₁) × (r ≤ length new))
   renews_refused {old} {new} {r} place z p w =
       let c : a.code ≡ 0 → ⊥ = λ e. z (code_same ∙ e) in
       let q : place ≡ a.place = p ∙ ap (λ (k : Converting). k.place) x.numbers in
@@ -232,6 +189,16 @@ module _ {a : Conversion} {n : Converting} {s s₁ : List ℕ} (x : Hands a n s 
       (record { image = image_front; line = f; status = status_refused c }, (image_front.inside, f.inside))
 
 -- ---- a sheet in words: the room is always enough
+
+-- where nothing is told the code is not 0
+pub code_above : (e : Untold) → telling_code (Err e) ≡ 0 → ⊥
+code_above NoRoom z = omega (arith, z)
+code_above NoSheet z = omega (arith, z)
+
+-- how much was told
+pub told_size : (t : Telling) → telling_length t ≡ result_unwrap_or t 0
+told_size (Ok n) = refl
+told_size (Err e) = refl
 
 -- what was told is what is to be said
 tells_said : {a b : InWords} {s r : Said} {code size : ℕ} (old : List ℕ) {new : List ℕ} {t : Status} → Tells a code size old new → length new ≡ length old → a ≡ b → r ≡ s
@@ -365,13 +332,11 @@ unfolding meaning_open
 no_names_read = refl
 
 -- what the reader said of the approved bytes
-pub approved_read : (bs : List ℕ) {r : Reading} → r ≡ Sheet → reading_numbers r ≡ numbers_in (read_answer bs) → read_sheet bs ≡ some (names_in bs)
-approved_read bs p e = read_zero bs (sym (ap (λ (n : Numbers). n.code) e) ∙ ap (λ (q : Reading). (reading_numbers q).code) p)
+pub approved_read : (bs : List ℕ) → reading_numbers (Ok tt) ≡ numbers_in (read_answer bs) → read_sheet bs ≡ some (names_in bs)
+approved_read bs e = read_zero bs (sym (ap (λ (n : Numbers). n.code) e))
 
-pub approved_none : (bs : List ℕ) {r : Reading} → r ≡ NoSheet → reading_numbers r ≡ numbers_in (read_answer bs) → [] ≡ names_in bs
-approved_none bs p e =
-    let c = sym (ap (λ (n : Numbers). n.code) e) ∙ ap (λ (q : Reading). (reading_numbers q).code) p in
-    names_none bs (read_other bs (λ z. omega (arith, z, c)))
+pub approved_none : (bs : List ℕ) {x : NoReading} → reading_numbers (Err x) ≡ numbers_in (read_answer bs) → [] ≡ names_in bs
+approved_none bs e = let c = sym (ap (λ (n : Numbers). n.code) e) in names_none bs (read_other bs (λ z. omega (arith, z, c)))
 
 -- the changes from an old sheet, whose names are those of the approved bytes
 module _ (approved sheet out : List ℕ) {after : List ℕ} {code size : ℕ} (y : is_sheet sheet ≡ true) (room : largest_changes ≤ length out)
@@ -406,22 +371,6 @@ pub looks : (approved sheet : List ℕ) {out after : List ℕ} {r : ℕ} → Fro
     → Fronted (look_text approved sheet) out after r
 unfolding look_text
 looks approved sheet f = f
-
--- the case by its number
-tag_loads : (r : Decision) → tag_of the_type r ≡ 0 → 0 ≡ loading_number (kind_of r)
-tag_loads (Loads n) e = refl
-tag_loads (Look n) e = absurd (omega (arith, e))
-tag_loads (Refuses q) e = absurd (omega (arith, e))
-
-module _ {a : Answer} {approved : List ℕ} {r : Decision} {s s₁ m m₁ : List ℕ} (x : Decided a approved r s s₁ m m₁) where
-  pub decided_loads : tag_of the_type r ≡ 0 → Decides a approved 0 (numbers_told r) s s₁ m m₁
-  decided_loads e = decides_as x (tag_loads r e) refl
-
-  pub decided_look : {n : ℕ} → r ≡ Look n → Decides a approved 1 (sheet_numbers n) s s₁ m m₁
-  decided_look e = decides_as x (sym (ap (λ (d : Decision). loading_number (kind_of d)) e)) (sym (ap numbers_told e))
-
-  pub decided_refused : {q : Reply} {n : Numbers} → r ≡ Refuses q → n ≡ numbers_of q → Decides a approved 2 n s s₁ m m₁
-  decided_refused e p = decides_as x (sym (ap (λ (d : Decision). loading_number (kind_of d)) e)) (p ∙ sym (ap numbers_told e))
 
 module _ {a : Answer} (approved : List ℕ) {k : ℕ} {n : Numbers} {s s₁ m m₁ : List ℕ} (x : Decides a approved k n s s₁ m m₁) where
   kind_said : {kind : Loading} → loading a approved ≡ kind → load_said_by kind a approved ≡ load_said a approved

@@ -1,6 +1,5 @@
 -- What the program says, verb by verb: the bytes for standard output, and its status.
 use Rattle.std.specs.Prelude.{◌≡◌, List, [], ◌∷◌, ◌++◌, ℕ, ◌+◌, eqb, length}
-use Rattle.std.proofs.Math.Option.{some}
 use Rattle.meaning.specs.Limits.{sheet_buffer, message_buffer, largest_changes}
 use Rattle.meaning.specs.Base.{◌or◌, test◌then◌else◌, if_some, bytes}
 use Rattle.meaning.specs.Sheet.{Entry}
@@ -11,15 +10,11 @@ use Rattle.meaning.specs.Line.{spaced, refused_line, line_of}
 use Rattle.meaning.specs.Show.{entries_text, Change, changes_text, changes, compared}
 use Rattle.meaning.specs.Known.{Steadiness, steady, def_in_if, faulty, steadiness}
 use Rattle.meaning.specs.Load.{Loading, loads, look, refused, loading}
-use Rattle.words.specs.Words.{Wrote}
-use Rattle.steady.specs.Told.{meant}
-use Rattle.steady.specs.declared.Steadiness.{Steadiness as Steady}
 use Rattle.line.specs.Printing.{Fronted}
 use Rattle.verbs.specs.declared.Status.{Status}
 use Rattle.verbs.specs.declared.Status.TheVariants.{Fine, Changed, Refused, Misused}
 use Rattle.verbs.specs.declared.Done.{Done}
 use Rattle.verbs.specs.declared.Written.{Written}
-use Rattle.verbs.specs.declared.Renewed.{Renewed}
 
 -- ---- the status
 
@@ -73,10 +68,6 @@ known_text setting (def_in_if n start end) =
     test eqb setting 1 then bytes "known stays known: strict\n" else bytes "known may change: def inside an if" ++ span_text start end
 known_text setting (faulty f) = []
 
--- what was written at a place tells what the answer s of `steady` means
-pub record Knows (setting : ℕ) (s : Steady) (old : List ℕ) (at : ℕ) (new : List ℕ) (r : ℕ) : Type 0 where
-  pub tells : (k : Steadiness) → meant s ≡ some k → Wrote old at (known_text setting k) new r
-
 -- that line has fewer bytes than this
 abbrev pub known_line : ℕ
 known_line = 60
@@ -95,7 +86,7 @@ refusal_of a = test eqb a.code 0 then [] else told_text a
 
 -- what tells of the answer stands at the front of its buffer in either case; told of it is as much as the refusal has
 pub record Writes (a : Answer) (old_sheet new_sheet old_line new_line : List ℕ) (w : Written) : Type 0 where
-  pub sheet : Fronted a.sheet old_sheet new_sheet w.sheet
+  pub sheet : Fronted a.sheet old_sheet new_sheet w.length
   pub line : new_line ≡ overlaid (told_text a) old_line
   pub told : w.line ≡ length (refusal_of a)
   pub status : w.status ≡ status_of a.code
@@ -104,8 +95,8 @@ pub record Writes (a : Answer) (old_sheet new_sheet old_line new_line : List ℕ
 unfoldable pub unconverted_text : Conversion → List ℕ
 unconverted_text a = test eqb a.code 0 then [] else refused_line (bare a.code a.place)
 
-pub record Renews (a : Conversion) (old_image new_image old_line new_line : List ℕ) (w : Renewed) : Type 0 where
-  pub image : Fronted a.image old_image new_image w.image
+pub record Renews (a : Conversion) (old_image new_image old_line new_line : List ℕ) (w : Written) : Type 0 where
+  pub image : Fronted a.image old_image new_image w.length
   pub line : Fronted (unconverted_text a) old_line new_line w.line
   pub status : w.status ≡ status_of a.code
 

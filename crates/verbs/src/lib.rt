@@ -1,6 +1,6 @@
 // What the words behind the program's name ask for, and what each verb says, over slices: the bytes for standard
 // output and the status. The program `cablebirch` reads the files and writes what is said.
-#![tactic(auto)]
+#![tactic(auto, unfolding(crate::proofs::Open::tests_open), using(std::proofs::lemmas::Bool::Decides::nat_tests))]
 
 ghost use Rattle.std.specs.Prelude.{◌≡◌, true, ◌+◌, ◌<◌, ◌≤◌, length};
 ghost use Rattle.meaning.specs.Limits.{sheet_buffer, message_buffer, largest_show, largest_changes};
@@ -11,22 +11,22 @@ ghost use Rattle.meaning.specs.Show.{changes_text, changes as changes_of};
 ghost use Rattle.line.specs.Printing.{Fronted};
 ghost use Rattle.words.specs.Words.{Wrote};
 ghost use Rattle.meaning.specs.Known.{def_in_if};
-ghost use Rattle.show.specs.Words.{telling_length};
+ghost use Rattle.steady.specs.Told.{meant};
 ghost use Rattle.verbs.specs.Words.{verb_of, with_file, with_word, setting_if, known_asked};
 ghost use Rattle.verbs.specs.Words.{kind_of as kind_told, command_of as command_asked};
 ghost use Rattle.verbs.specs.Said.{status_number, status_of, Says, span_text, first_text, check_said, line_room};
-ghost use Rattle.verbs.specs.Said.{Knows, known_text, known_line, known_room, known_said, Writes, Renews};
+ghost use Rattle.verbs.specs.Said.{known_text, known_line, known_room, known_said, Writes, Renews};
 ghost use Rattle.verbs.specs.Said.{show_said, compared_as, changes_said, names_in, look_text};
 ghost use Rattle.verbs.specs.Said.{load_said, load_room};
 
-use checker::{PLAIN, Reading, STRICT, read_sheet, replied};
+use checker::{PLAIN, STRICT, read_sheet, replied};
+use codes;
+use image::Fault;
 use limits::{LARGEST_CHANGES, MESSAGE_BUFFER, SHEET_BUFFER};
 use line::{put_spaced, refused_line};
 use load::{Loading, cablebirch_convert};
-use rules::codes;
-use show::Telling;
-use steady::{Def, Steadiness, steady};
-use words::{put, same, text};
+use steady::{Def, steady};
+use words::{put, text};
 
 // ---- the words
 
@@ -42,31 +42,20 @@ pub enum Verb {
     Nothing,
 }
 
+#[tactic(auto, using(crate::proofs::Texts::verbs))]
 pub fn verb_told(word: &[u8]) -> Verb
     ensures { result ≡ verb_of word.now }
 {
-    if same(word, b"check") {
-        return Verb::Check;
+    match word {
+        b"check" => Verb::Check,
+        b"sheet" => Verb::Sheet,
+        b"show" => Verb::Show,
+        b"changes" => Verb::Changes,
+        b"load" => Verb::Load,
+        b"convert" => Verb::Convert,
+        b"help" => Verb::Help,
+        _ => Verb::Nothing,
     }
-    if same(word, b"sheet") {
-        return Verb::Sheet;
-    }
-    if same(word, b"show") {
-        return Verb::Show;
-    }
-    if same(word, b"changes") {
-        return Verb::Changes;
-    }
-    if same(word, b"load") {
-        return Verb::Load;
-    }
-    if same(word, b"convert") {
-        return Verb::Convert;
-    }
-    if same(word, b"help") {
-        return Verb::Help;
-    }
-    Verb::Nothing
 }
 
 // What a word behind the verb is.
@@ -80,25 +69,17 @@ pub enum Kind {
 }
 
 // `-` alone is standard input. No name begins with a `-`, so that a misspelt `--strict` is not taken for a file.
+#[tactic(auto, using(crate::proofs::Texts::kinds))]
 pub fn kind_of(word: &[u8]) -> Kind
     ensures { result ≡ kind_told word.now }
 {
-    if same(word, b"--strict") {
-        return Kind::Strict;
+    match word {
+        b"--strict" => Kind::Strict,
+        b"--known" => Kind::Known,
+        b"-" => Kind::Input,
+        [b'-', ..] => Kind::Unknown,
+        _ => Kind::Name,
     }
-    if same(word, b"--known") {
-        return Kind::Known;
-    }
-    if same(word, b"-") {
-        return Kind::Input;
-    }
-    if word.len() == 0 {
-        return Kind::Name;
-    }
-    if word[0] == b'-' {
-        return Kind::Unknown;
-    }
-    Kind::Name
 }
 
 // The numbers of the arguments that name files; no verb takes three.
@@ -116,8 +97,7 @@ fn with_file(files: Files, a: usize) -> Files
     match files {
         Files::None => Files::One(a),
         Files::One(i) => Files::Two(i, a),
-        Files::Two(_, _) => Files::Wrong,
-        Files::Wrong => Files::Wrong,
+        Files::Two(_, _) | Files::Wrong => Files::Wrong,
     }
 }
 
@@ -135,41 +115,33 @@ pub struct Asked {
 pub fn with_word(w: Asked, a: usize, kind: Kind) -> Asked
     ensures { result ≡ with_word w a kind }
 {
-    let files = w.files;
     match kind {
         Kind::Strict => Asked {
             strict: true,
-            known: w.known,
-            input: w.input,
-            files: if w.strict { Files::Wrong } else { files },
+            files: if w.strict { Files::Wrong } else { w.files },
+            ..w
         },
         Kind::Known => Asked {
-            strict: w.strict,
             known: true,
-            input: w.input,
-            files: if w.known { Files::Wrong } else { files },
+            files: if w.known { Files::Wrong } else { w.files },
+            ..w
         },
         Kind::Input => Asked {
-            strict: w.strict,
-            known: w.known,
             input: true,
             files: if w.input {
                 Files::Wrong
             } else {
-                with_file(files, a)
+                with_file(w.files, a)
             },
+            ..w
         },
         Kind::Name => Asked {
-            strict: w.strict,
-            known: w.known,
-            input: w.input,
-            files: with_file(files, a),
+            files: with_file(w.files, a),
+            ..w
         },
         Kind::Unknown => Asked {
-            strict: w.strict,
-            known: w.known,
-            input: w.input,
             files: Files::Wrong,
+            ..w
         },
     }
 }
@@ -199,15 +171,9 @@ fn setting_of(strict: bool) -> u32
 fn known_asked(verb: Verb, w: Asked) -> Command
     ensures { result ≡ known_asked verb w }
 {
-    let files = w.files;
-    match verb {
-        Verb::Check => {
-            let Files::One(i) = files else {
-                return Command::BadWords;
-            };
-            Command::CheckKnown(setting_of(w.strict), i)
-        }
-        Verb::Nothing => Command::NoVerb,
+    match (verb, w.files) {
+        (Verb::Check, Files::One(i)) => Command::CheckKnown(setting_of(w.strict), i),
+        (Verb::Nothing, _) => Command::NoVerb,
         _ => Command::BadWords,
     }
 }
@@ -219,64 +185,17 @@ pub fn command_of(verb: Verb, w: Asked) -> Command
     if w.known {
         return known_asked(verb, w);
     }
-    let files = w.files;
     let setting = setting_of(w.strict);
-    match verb {
-        Verb::Check => {
-            let Files::One(i) = files else {
-                return Command::BadWords;
-            };
-            Command::CheckImage(setting, i)
-        }
-        Verb::Sheet => {
-            let Files::One(i) = files else {
-                return Command::BadWords;
-            };
-            Command::WriteSheet(setting, i)
-        }
-        Verb::Load => {
-            let Files::Two(i, j) = files else {
-                return Command::BadWords;
-            };
-            Command::LoadImage(setting, i, j)
-        }
-        Verb::Show => {
-            if w.strict {
-                return Command::BadWords;
-            }
-            let Files::One(i) = files else {
-                return Command::BadWords;
-            };
-            Command::ShowSheet(i)
-        }
-        Verb::Changes => {
-            if w.strict {
-                return Command::BadWords;
-            }
-            let Files::Two(i, j) = files else {
-                return Command::BadWords;
-            };
-            Command::TellChanges(i, j)
-        }
-        Verb::Convert => {
-            if w.strict {
-                return Command::BadWords;
-            }
-            let Files::One(i) = files else {
-                return Command::BadWords;
-            };
-            Command::ConvertImage(i)
-        }
-        Verb::Help => {
-            if w.strict {
-                return Command::BadWords;
-            }
-            let Files::None = files else {
-                return Command::BadWords;
-            };
-            Command::Usage
-        }
-        Verb::Nothing => Command::NoVerb,
+    match (verb, w.files) {
+        (Verb::Check, Files::One(i)) => Command::CheckImage(setting, i),
+        (Verb::Sheet, Files::One(i)) => Command::WriteSheet(setting, i),
+        (Verb::Load, Files::Two(i, j)) => Command::LoadImage(setting, i, j),
+        (Verb::Show, Files::One(i)) if !w.strict => Command::ShowSheet(i),
+        (Verb::Changes, Files::Two(i, j)) if !w.strict => Command::TellChanges(i, j),
+        (Verb::Convert, Files::One(i)) if !w.strict => Command::ConvertImage(i),
+        (Verb::Help, Files::None) if !w.strict => Command::Usage,
+        (Verb::Nothing, _) => Command::NoVerb,
+        _ => Command::BadWords,
     }
 }
 
@@ -294,21 +213,17 @@ pub enum Status {
 pub fn digit_of(status: Status) -> u8
     ensures { result ≡ 48 + status_number status }
 {
-    match status {
-        Status::Fine => b'0',
-        Status::Changed => b'1',
-        Status::Refused => b'2',
-        Status::Misused => b'3',
-    }
+    b'0' + status as u8
 }
 
 fn status_of(code: u32) -> Status
     ensures { result ≡ status_of code }
 {
     if code == 0 {
-        return Status::Fine;
+        Status::Fine
+    } else {
+        Status::Refused
     }
-    Status::Refused
 }
 
 // How many bytes for standard output stand at the front of the buffer that was lent.
@@ -384,15 +299,15 @@ fn put_def(out: &mut [u8], at: usize, setting: u32, def: Def) -> usize
     put_span(out, words, def.begins, def.ends)
 }
 
-// Whether "known stays known", and why.
-fn put_known(out: &mut [u8], at: usize, setting: u32, s: Steadiness) -> usize
+// Whether "known stays known", and why; nothing of what is no image.
+fn put_known(out: &mut [u8], at: usize, setting: u32, s: Result<Option<Def>, Fault>) -> usize
     requires { at + known_line ≤ length out.old }
-    ensures { Knows setting s out.old at out.new result }
+    ensures { Wrote out.old at (known_text setting (meant s)) out.new result }
 {
     match s {
-        Steadiness::Steady => put(out, at, b"known stays known: no def inside an if\n"),
-        Steadiness::DefInIf(def) => put_def(out, at, setting, def),
-        Steadiness::Faulty(_) => at,
+        Ok(None) => put(out, at, b"known stays known: no def inside an if\n"),
+        Ok(Some(def)) => put_def(out, at, setting, def),
+        Err(_) => at,
     }
 }
 
@@ -408,10 +323,11 @@ pub fn say_known(setting: u32, image: &[u8], out: &mut [u8]) -> Done
     Done { length, status }
 }
 
-// How many bytes of the sheet go to standard output, and how many of a refusal's lines to standard error.
+// How many bytes of what was written, a sheet or an image, go to standard output, and how many of a refusal's lines to
+// standard error.
 #[derive(Clone, Copy)]
 pub struct Written {
-    pub sheet: usize,
+    pub length: usize,
     pub line: usize,
     pub status: Status,
 }
@@ -420,74 +336,64 @@ pub fn write_sheet(setting: u32, image: &[u8], sheet: &mut [u8], out: &mut [u8])
     requires { line_room ≤ length out.old }
     ensures writes { Writes (answer setting image.now (length sheet.old) message_buffer)
         sheet.old sheet.new out.old out.new result }
-    ensures sheet_in_bounds { (result.sheet ≤ length sheet.new) × (result.line ≤ length out.new) }
+    ensures sheet_in_bounds { (result.length ≤ length sheet.new) × (result.line ≤ length out.new) }
 {
     let mut message = [0u8; MESSAGE_BUFFER];
     let p = line::of_image(setting, image, sheet, &mut message, out);
     let line = put_first(out, p.length, p.code, p.second_start, p.second_end);
     if p.code == 0 {
         return Written {
-            sheet: p.sheet,
+            length: p.sheet,
             line: 0,
             status: Status::Fine,
         };
     }
     Written {
-        sheet: p.sheet,
+        length: p.sheet,
         line,
         status: Status::Refused,
     }
 }
 
-// How many bytes of the converted image go to standard output, and how many of a refusal's line to standard error.
-#[derive(Clone, Copy)]
-pub struct Renewed {
-    pub image: usize,
-    pub line: usize,
-    pub status: Status,
-}
-
 // Nothing is checked: a refusal is one of the codes 1 to 8, or 15, and has no span and no message.
-pub fn renew(image: &[u8], new: &mut [u8], out: &mut [u8]) -> Renewed
+pub fn renew(image: &[u8], new: &mut [u8], out: &mut [u8]) -> Written
     requires { 64 ≤ length out.old }
     ensures renews { Renews (convert_answer image.now (length new.old))
         new.old new.new out.old out.new result }
-    ensures image_in_bounds { (result.image ≤ length new.new) × (result.line ≤ length out.new) }
+    ensures image_in_bounds { (result.length ≤ length new.new) × (result.line ≤ length out.new) }
 {
     let c = cablebirch_convert(image, new);
     if c.code == 0 {
-        return Renewed {
-            image: c.length,
+        return Written {
+            length: c.length,
             line: 0,
             status: Status::Fine,
         };
     }
-    Renewed {
-        image: c.length,
+    Written {
+        length: c.length,
         line: refused_line(c.code, line::word(c.place), 0, 0, b"", out),
         status: Status::Refused,
     }
 }
+
+// What is no sheet has nothing to show.
+const NOTHING_SHOWN: Done = Done {
+    length: 0,
+    status: Status::Refused,
+};
 
 pub fn say_show(sheet: &[u8], out: &mut [u8]) -> Done
     requires { largest_show ≤ length out.old }
     ensures says { Says (show_said sheet.now) out.old out.new result }
     ensures length_in_bounds { result.length ≤ length out.new }
 {
-    let told = show::show(sheet, out);
-    match told {
-        Telling::Told(length) => Done {
+    match show::show(sheet, out) {
+        Ok(length) => Done {
             length,
             status: Status::Fine,
         },
-        Telling::NoRoom => Done {
-            length: 0,
-            status: Status::Refused,
-        },
-        Telling::NoSheet => Done {
-            length: 0,
-            status: Status::Refused,
-        },
+        Err(_) => NOTHING_SHOWN,
     }
 }
 
@@ -496,9 +402,10 @@ fn changed_by(length: usize) -> Status
     ensures { result ≡ compared_as 0 length }
 {
     if length == 0 {
-        return Status::Fine;
+        Status::Fine
+    } else {
+        Status::Changed
     }
-    Status::Changed
 }
 
 pub fn say_changes(old: &[u8], new: &[u8], out: &mut [u8]) -> Done
@@ -507,20 +414,12 @@ pub fn say_changes(old: &[u8], new: &[u8], out: &mut [u8]) -> Done
         out.old out.new result }
     ensures length_in_bounds { result.length ≤ length out.new }
 {
-    let told = show::changes(old, new, out);
-    match told {
-        Telling::Told(length) => Done {
+    match show::changes(old, new, out) {
+        Ok(length) => Done {
             length,
             status: changed_by(length),
         },
-        Telling::NoRoom => Done {
-            length: 0,
-            status: Status::Refused,
-        },
-        Telling::NoSheet => Done {
-            length: 0,
-            status: Status::Refused,
-        },
+        Err(_) => NOTHING_SHOWN,
     }
 }
 
@@ -531,16 +430,6 @@ pub fn say_changes(old: &[u8], new: &[u8], out: &mut [u8]) -> Done
 const NO_NAMES: [u8; 40] =
     *b"\x01\0\0\0\0\0\0\0\x28\0\0\0\0\0\0\0\x28\0\0\0\0\0\0\0\x28\0\0\0\0\0\0\0\x28\0\0\0\x28\0\0\0";
 
-fn length_told(told: Telling) -> usize
-    ensures { result ≡ telling_length told }
-{
-    match told {
-        Telling::Told(length) => length,
-        Telling::NoRoom => 0,
-        Telling::NoSheet => 0,
-    }
-}
-
 // What changed from the approved sheet. Where that is none, every name is new.
 fn put_changed(approved: &[u8], sheet: &[u8], out: &mut [u8]) -> usize
     requires sheet_value { is_sheet sheet.now ≡ true }
@@ -549,14 +438,11 @@ fn put_changed(approved: &[u8], sheet: &[u8], out: &mut [u8]) -> usize
         (changes_text (changes_of (names_in approved.now) (names_in sheet.now)))
         out.old out.new result }
 {
-    let reading = read_sheet(approved);
-    match reading {
-        Reading::Sheet => length_told(show::changes(approved, sheet, out)),
-        Reading::NoSheet => {
-            let nothing = NO_NAMES;
-            length_told(show::changes(&nothing, sheet, out))
-        }
-    }
+    let told = match read_sheet(approved) {
+        Ok(()) => show::changes(approved, sheet, out),
+        Err(_) => show::changes(&NO_NAMES, sheet, out),
+    };
+    told.unwrap_or(0)
 }
 
 fn put_look(approved: &[u8], sheet: &[u8], out: &mut [u8]) -> usize
@@ -580,18 +466,17 @@ pub fn say_load(setting: u32, image: &[u8], approved: &[u8], out: &mut [u8]) -> 
 {
     let mut sheet = [0u8; SHEET_BUFFER];
     let mut message = [0u8; MESSAGE_BUFFER];
-    let loading = load::load(setting, image, approved, &mut sheet, &mut message);
-    match loading {
-        Loading::Loads(_) => Done {
+    match load::load(setting, image, approved, &mut sheet, &mut message) {
+        Ok(Loading::Loads(_)) => Done {
             length: put(out, 0, b"loads\n"),
             status: Status::Fine,
         },
-        Loading::Look(n) => Done {
+        Ok(Loading::Look(n)) => Done {
             length: put_look(approved, text(&sheet, 0, n), out),
             status: Status::Changed,
         },
-        Loading::Refused(a) => {
-            let p = replied(a);
+        Err(refused) => {
+            let p = replied(Err(refused));
             let line = line::write(
                 p.code,
                 line::word(p.place),

@@ -128,13 +128,6 @@ module _ (d : List ℕ) (at : ℕ) (s : List ℕ) (k : ℕ) (within : at ≤ len
   pub put_other : Apart k 4 at (length s) → word (put_at d at s) k ≡ word d k
   put_other h = word_part _ k ∙ ap (λ (p : List ℕ). word p 0) (put_other_part 4 h) ∙ sym (word_part d k)
 
--- two writes end to end are one, the hinder one first
-pub put_put_back : (d : List ℕ) (at : ℕ) (s t : List ℕ) → at + length s ≤ length d → put_at (put_at d (at + length s) t) at s ≡ put_at d at (s ++ t)
-unfolding put_at
-put_put_back d at s t within =
-    rw (put_other_part d (at + length s) t 0 within at (inl (omega arith)), put_drop d (at + length s) t within, length-append)
-    (simp (append_assoc, add_assoc))
-
 -- one store
 pub put_byte : (d : List ℕ) (at b : ℕ) → at < length d → set d at b ≡ put_at d at (b ∷ [])
 unfolding put_at

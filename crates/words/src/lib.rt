@@ -7,58 +7,23 @@ ghost use Rattle.meaning.specs.Base.{word, words, same_text, before as comes_bef
 ghost use Rattle.meaning.specs.Image.{printable, text_stands};
 ghost use Rattle.words.specs.Words.{put_at};
 
-use limits::LONGEST_NAME;
-
-// ---- numbers made wider, one function for each width: as a call of its own, a number asks no proof that it fits
-
-pub fn wide8(b: u8) -> u32
-    ensures { (result ≡ b) × (result < 256) }
-{
-    b as u32
-}
-
-pub fn wide16(x: u16) -> usize
-    ensures { (result ≡ x) × (result < 65536) }
-{
-    x as usize
-}
-
-pub fn wide32(x: u32) -> usize
-    ensures { (result ≡ x) × (result < 4294967296) }
-{
-    x as usize
-}
+use limits::{LONGEST_NAME, WORD};
 
 // ---- words of four bytes, the lowest byte first
-
-// A byte has 256 values, so a byte of a word counts 256 times the one before.
-const BYTE: u32 = 256;
-
-const THIRD: u32 = BYTE * BYTE;
-
-const FOURTH: u32 = BYTE * BYTE * BYTE;
 
 pub fn get_word(s: &[u8], at: usize) -> u32
     requires { at + 4 ≤ length s.now }
     ensures { result ≡ word s.now at }
 {
-    let b0 = wide8(s[at]);
-    let b1 = wide8(s[at + 1]);
-    let b2 = wide8(s[at + 2]);
-    let b3 = wide8(s[at + 3]);
-    b0 + BYTE * b1 + THIRD * b2 + FOURTH * b3
+    u32::from_le_bytes([s[at], s[at + 1], s[at + 2], s[at + 3]])
 }
 
-// The last `% BYTE` changes nothing: with it each byte is what `words` says.
 pub fn put_word(buf: &mut [u8], at: usize, w: u32)
     requires { at + 4 ≤ length buf.old }
     ensures buf_after { buf.new ≡ put_at buf.old at (words (w ∷ [])) }
     ensures buf_len_unchanged { length buf.new ≡ length buf.old }
 {
-    buf[at] = (w % BYTE) as u8;
-    buf[at + 1] = (w / BYTE % BYTE) as u8;
-    buf[at + 2] = (w / BYTE / BYTE % BYTE) as u8;
-    buf[at + 3] = (w / BYTE / BYTE / BYTE % BYTE) as u8;
+    buf[at..at + WORD].copy_from_slice(&w.to_le_bytes());
 }
 
 // ---- texts
@@ -76,56 +41,22 @@ pub fn text(s: &[u8], start: usize, len: usize) -> &[u8]
 pub fn same(a: &[u8], b: &[u8]) -> bool
     ensures { result ≡ same_text a.now b.now }
 {
-    if a.len() != b.len() {
-        return false;
-    }
-    let mut i = 0;
-    while i < a.len() {
-        if a[i] != b[i] {
-            return false;
-        }
-        i += 1;
-    }
-    true
+    a == b
 }
 
 pub fn before(a: &[u8], b: &[u8]) -> bool
     ensures { result ≡ comes_before a.now b.now }
 {
-    let mut i = 0;
-    while i < a.len() {
-        if b.len() <= i {
-            return false;
-        }
-        if a[i] != b[i] {
-            return a[i] < b[i];
-        }
-        i += 1;
-    }
-    i < b.len()
+    a < b
 }
 
 // ---- what a text of a name may be
 
-// "Each byte is 33..126."
-const FIRST_PRINTABLE: u8 = 33;
-
-const LAST_PRINTABLE: u8 = 126;
-
+// "Each byte is 33..126": std calls such a one graphic.
 fn all_printable(s: &[u8]) -> bool
     ensures { result ≡ all printable s.now }
 {
-    let mut i = 0;
-    while i < s.len() {
-        if s[i] < FIRST_PRINTABLE {
-            return false;
-        }
-        if LAST_PRINTABLE < s[i] {
-            return false;
-        }
-        i += 1;
-    }
-    true
+    s.iter().all(|b| b.is_ascii_graphic())
 }
 
 // "Text length 1..64"; texts "ascend strictly as byte strings": an image's names and a sheet's. `last` is the text
@@ -133,16 +64,7 @@ fn all_printable(s: &[u8]) -> bool
 pub fn text_stands(last: &[u8], s: &[u8]) -> bool
     ensures { result ≡ text_stands last.now s.now }
 {
-    if s.len() < 1 {
-        return false;
-    }
-    if LONGEST_NAME < s.len() {
-        return false;
-    }
-    if !all_printable(s) {
-        return false;
-    }
-    before(last, s)
+    1 <= s.len() && s.len() <= LONGEST_NAME && all_printable(s) && before(last, s)
 }
 
 // ---- copies
@@ -153,29 +75,21 @@ pub fn put(buf: &mut [u8], at: usize, s: &[u8]) -> usize
     ensures buf_after { buf.new ≡ put_at buf.old at s.now }
     ensures value { result ≡ at + length s.now }
 {
-    let mut j = 0;
-    while j < s.len() {
-        buf[at + j] = s[j];
-        j += 1;
-    }
-    at + j
+    let end = at + s.len();
+    buf[at..end].copy_from_slice(s);
+    end
 }
 
 // ---- numbers in decimal
 
 const BASE: u32 = 10;
 
+// 0 has one digit.
 pub fn decimal_length(n: u32) -> usize
     ensures value { result ≡ length (decimal n) }
     ensures lower_bound { (1 ≤ result) × (result ≤ 10) }
 {
-    let mut len = 1;
-    let mut rest = n;
-    while BASE <= rest {
-        rest /= BASE;
-        len += 1;
-    }
-    len
+    n.max(1).ilog10() as usize + 1
 }
 
 fn digit(d: u32) -> u8
@@ -185,21 +99,18 @@ fn digit(d: u32) -> u8
     b'0' + d as u8
 }
 
-// Division gives the last digit first, so the digits are written from the last to the first. Returns where they end in
-// buf.
+// Division gives the last digit first, so the ones before it are written by a call of its own. Returns where the digits
+// end in buf.
 pub fn put_decimal(buf: &mut [u8], at: usize, n: u32) -> usize
     requires { at + length (decimal n) ≤ length buf.old }
     ensures buf_after { buf.new ≡ put_at buf.old at (decimal n) }
     ensures value { result ≡ at + length (decimal n) }
 {
-    let len = decimal_length(n);
-    let mut left = len;
-    let mut rest = n;
-    while BASE <= rest {
-        left -= 1;
-        buf[at + left] = digit(rest % BASE);
-        rest /= BASE;
+    if n < BASE {
+        buf[at] = digit(n);
+        return at + 1;
     }
-    buf[at] = digit(rest);
-    at + len
+    let last = put_decimal(buf, at, n / BASE);
+    buf[last] = digit(n % BASE);
+    last + 1
 }

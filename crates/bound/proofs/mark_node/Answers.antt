@@ -4,23 +4,11 @@ use Rattle.meaning.proofs.Faults.{sizes}
 use mathlib.Core.Logic.{inl, inr}
 use native.Mathlib.Omega.{arith}
 use Rattle.bound.proofs.mark_node.Goals as goal
-use Rattle.bound.proofs.mark_node.Goals.{in_default-via-then-kind-lt8, in_default-via-else-kind-lt8+else-kind-lt10, in-12-1, in_default+else-kind-lt8+then-kind-lt10}
-
-pub node_at-node-requires-clause-headed : goal.node_at-node-requires-clause-headed
-node_at-node-requires-clause-headed c =
-    c.requires.sound.headed
-
-pub node_at-node-requires-clause-nodes_value : goal.node_at-node-requires-clause-nodes_value
-node_at-node-requires-clause-nodes_value c =
-    c.requires.nodes_value
+use Rattle.bound.proofs.mark_node.Goals.{in_default-via-then-node-lt8, in_default-via-else-node-lt8+else-node-lt10, in-12-1, in_default+else-node-lt8+then-node-lt10}
 
 pub overflow_add-i : goal.overflow_add-i
 overflow_add-i c =
     omega (arith, (sizes c.requires.sound.headed).nodes)
-
-pub node_at-target-requires-clause-headed : goal.node_at-target-requires-clause-headed
-node_at-target-requires-clause-headed c =
-    c.requires.sound.headed
 
 pub node_at-target-requires-clause-nodes_value : goal.node_at-target-requires-clause-nodes_value
 node_at-target-requires-clause-nodes_value c =
@@ -29,10 +17,6 @@ node_at-target-requires-clause-nodes_value c =
 pub overflow_add-i-in-5 : goal.overflow_add-i-in-5
 overflow_add-i-in-5 c =
     omega (arith, (sizes c.requires.sound.headed).nodes)
-
-pub mark_target-requires-clause-sound : goal.mark_target-requires-clause-sound
-mark_target-requires-clause-sound c =
-    c.requires.sound
 
 pub mark_target-requires-clause-nodes_value : goal.mark_target-requires-clause-nodes_value
 mark_target-requires-clause-nodes_value c =
@@ -62,8 +46,8 @@ pub returns-in_default : goal.returns-in_default
 returns-in_default c =
     let h = here _ c.requires.sound c.requires.nodes_value.1 c.node_at-node.ensures in
     elim c.in_default.branch [
-      | in_default-via-then-kind-lt8 w ↦ step_over h _ (λ q. omega arith) (λ q. omega arith) (λ q. omega arith) (inl (omega arith))
-      | in_default-via-else-kind-lt8+else-kind-lt10 w ↦ step_over h _ (λ q. omega arith) (λ q. omega arith) (λ q. omega arith) (inr (omega arith))
+      | in_default-via-then-node-lt8 w ↦ step_over h _ (λ q. omega arith) (λ q. omega arith) (λ q. omega arith) (inl (omega arith))
+      | in_default-via-else-node-lt8+else-node-lt10 w ↦ step_over h _ (λ q. omega arith) (λ q. omega arith) (λ q. omega arith) (inr (omega arith))
     ]
 
 pub returns-in-8 : goal.returns-in-8
@@ -71,5 +55,5 @@ returns-in-8 c =
     let h = here _ c.requires.sound c.requires.nodes_value.1 c.node_at-node.ensures in
     elim c.in-8-1.branch [
       | in-12-1 w ↦ step_block h _ (omega arith)
-      | in_default+else-kind-lt8+then-kind-lt10 w ↦ step_branch h _ (omega arith) (omega arith)
+      | in_default+else-node-lt8+then-node-lt10 w ↦ step_branch h _ (omega arith) (omega arith)
     ]

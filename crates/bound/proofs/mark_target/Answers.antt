@@ -7,14 +7,6 @@ pub loop-j-init : goal.loop-j-init
 loop-j-init c =
     aiming_first _ _ _ _ c.requires.nodes_value.1
 
-pub node_at-node-requires-clause-headed : goal.node_at-node-requires-clause-headed
-node_at-node-requires-clause-headed c =
-    c.requires.sound.headed
-
-pub node_at-node-requires-clause-nodes_value : goal.node_at-node-requires-clause-nodes_value
-node_at-node-requires-clause-nodes_value c =
-    (c.requires.nodes_value.0, omega arith)
-
 pub loop-j-preserved-in-28 : goal.loop-j-preserved-in-28
 loop-j-preserved-in-28 c =
     aiming_tuple c.loop-j.invariant (here _ c.requires.sound (omega arith) c.node_at-node.ensures) c.loop-j-test.true c.in-28.is

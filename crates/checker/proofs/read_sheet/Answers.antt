@@ -5,15 +5,15 @@ use Rattle.checker.proofs.Sheets.{reading_yes, reading_no}
 use native.Mathlib.Omega.{arith}
 use Rattle.checker.proofs.read_sheet.Goals as goal
 
-pub read-r-requires : goal.read-r-requires
+pub read-requires : goal.read-requires
 unfolding capacity
-read-r-requires c =
-    (refl, refl, fresh_filled 12336 1 (omega arith) (omega arith) (omega arith))
+read-requires c =
+    (refl, fresh_filled 12336 1 (omega arith) (omega arith) (omega arith))
 
-pub returns-then-r : goal.returns-then-r
-returns-then-r c =
-    reading_yes c.read-r.ensures c.if-r.true
+pub returns-in-Some : goal.returns-in-Some
+returns-in-Some c =
+    reading_yes c.in-Some.ensures
 
-pub returns : goal.returns
-returns c =
-    reading_no c.read-r.ensures c.if-r.false
+pub returns-in-None : goal.returns-in-None
+returns-in-None c =
+    reading_no c.in-None.ensures

@@ -1,12 +1,8 @@
 use mathlib.Core.Path.{◌≡◌}
-use Prim.Native.Nat.{◌-◌, ◌≤◌}
 use lib.ListN.{length}
 use Rattle.meaning.specs.Answer.{overlaid}
 use Rattle.meaning.specs.Convert.{converted_to}
 use Rattle.convert.proofs.write_converted.Given as goal
 
 abbrev pub invariant-loop-i : goal.invariant-loop-i
-invariant-loop-i l = (l.i ≤ l.l.count) × (length l.out ≡ length l.initial.out) × (l.out ≡ overlaid (converted_to l.image l.i) l.initial.out)
-
-abbrev pub decreases-loop-i : goal.decreases-loop-i
-decreases-loop-i l = l.l.count - l.i
+invariant-loop-i l = (length l.out ≡ length l.initial.out) × (l.out ≡ overlaid (converted_to l.image l.i) l.initial.out)

@@ -1,22 +1,32 @@
-use mathlib.Core.Path.{◌≡◌, sym, ap, ◌∙◌}
-use borrow.Author.Tests.{eq-eqb, ne_eqb}
-use Rattle.frames.specs.Env.{type_in, look}
-use Rattle.frames.proofs.Laws.{look_down, looked, looked_nowhere}
+use mathlib.Core.Path.{◌≡◌, refl, sym, ap, ◌∙◌}
+use Prim.Native.Nat.{◌+◌, ◌-◌}
 use native.Mathlib.Omega.{arith}
-use borrow.Author.Rules.{rules}
+use Rattle.frames.specs.Env.{type_in, look, first_number}
+use Rattle.frames.proofs.Laws.{look_on, look_here, looked, looked_nowhere}
 use Rattle.frames.proofs.lookup.Goals as goal
+use Rattle.frames.proofs.lookup.Goals.{else-loop-i-test, then-loop-i-test+in_default+else-i-gt0}
 
-pub returns-then-cell-ne-ABSENT : goal.returns-then-cell-ne-ABSENT
-returns-then-cell-ne-ABSENT c =
-    looked _ (sym (rw (ne_eqb _ _ c.if-cell-ne-ABSENT.true) at (look_down c.args.frames.now c.args.name c.loop-i.i (omega arith))) ∙ c.loop-i.invariant.1)
-    c.binding_in.ensures.0 c.binding_in.ensures.2 c.binding_in.ensures.3
+pub loop-i-init : goal.loop-i-init
+loop-i-init c =
+    refl
+
+pub returns-in-Some : goal.returns-in-Some
+returns-in-Some c =
+    let e = c.counted.ensures ∙ ap first_number c.in-Some.is in
+    looked _ (sym (look_here _ _ _ e) ∙ c.loop-i.invariant) (sym e) c.first_in.ensures.0 c.first_in.ensures.1
 
 pub loop-i-preserved : goal.loop-i-preserved
 loop-i-preserved c =
-    (search rules, sym (rw (eq-eqb _ _ c.if-cell-ne-ABSENT.false) at (look_down c.args.frames.now c.args.name c.loop-i.i (omega arith))) ∙ c.loop-i.invariant.1)
+    let z : c.loop-i.i - 1 + 1 ≡ c.loop-i.i = omega arith in
+    rw z (sym (look_on _ _ _ (c.counted.ensures ∙ ap first_number c.in_default.is)) ∙ c.loop-i.invariant)
 
 pub returns : goal.returns
 unfolding look
 returns c =
-    let e : c.loop-i.i ≡ 0 = omega arith in
-    looked_nowhere (ap type_in (sym (rw e at c.loop-i.invariant.1))) c.blank.ensures.0 c.blank.ensures.1
+    elim c.loop-i-test.branch [
+      | else-loop-i-test w ↦ absurd (omega arith)
+      | then-loop-i-test+in_default+else-i-gt0 w ↦
+          let z : c.loop-i.i ≡ 0 = omega arith in
+          let e = sym c.loop-i.invariant ∙ look_on c.args.frames.now c.args.name c.loop-i.i (w.counted.ensures ∙ ap first_number w.in_default.is) ∙ ap (λ j. look c.args.frames.now j c.args.name) z in
+          looked_nowhere (ap type_in e) c.blank.ensures.0 c.blank.ensures.1
+    ]

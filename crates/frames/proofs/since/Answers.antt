@@ -1,14 +1,14 @@
 use Rattle.frames.proofs.Laws.{known_none, known_kept, known_new}
 use Rattle.frames.proofs.since.Goals as goal
 
-pub returns-then-ty-eq-UNKNOWN : goal.returns-then-ty-eq-UNKNOWN
-returns-then-ty-eq-UNKNOWN c =
-    rw c.in-Nowhere.is (known_none c.if-ty-eq-UNKNOWN.true c.blank.ensures.0 c.blank.ensures.1)
+pub returns-in-Some : goal.returns-in-Some
+returns-in-Some c =
+    rw c.in-Some.is known_kept
 
-pub returns-in-At : goal.returns-in-At
-returns-in-At c =
-    rw c.in-At.is known_kept
+pub returns-in-None : goal.returns-in-None
+returns-in-None c =
+    rw c.in-None.is (known_none c.if-ty-eq-UNKNOWN.true c.blank.ensures.0 c.blank.ensures.1)
 
-pub returns-else-ty-eq-UNKNOWN : goal.returns-else-ty-eq-UNKNOWN
-returns-else-ty-eq-UNKNOWN c =
-    rw c.in-Nowhere.is (known_new c.if-ty-eq-UNKNOWN.false)
+pub returns-in-None-2 : goal.returns-in-None-2
+returns-in-None-2 c =
+    rw c.in-None.is (known_new c.if-ty-eq-UNKNOWN.false)

@@ -1,6 +1,5 @@
 use Rattle.image.specs.Kinds.{root_stands}
 use Rattle.meaning.specs.Image.{nodes_of, nests, first_not, badly_nested}
-use Prim.Native.Nat.{◌-◌, ◌≤◌}
 use lib.ListN.{drop}
 use mathlib.Core.Bool.{true}
 use mathlib.Core.Path.{◌≡◌}
@@ -8,7 +7,4 @@ use Rattle.image.proofs.badly_nested.Given as goal
 
 -- node 0 stands, and the nodes from i on answer what all answer
 abbrev pub invariant-loop-i : goal.invariant-loop-i
-invariant-loop-i l = (root_stands (nodes_of l.image) ≡ true) × (l.i ≤ l.count) × (first_not (nests (nodes_of l.image)) l.i (drop l.i (nodes_of l.image)) ≡ badly_nested l.image)
-
-abbrev pub decreases-loop-i : goal.decreases-loop-i
-decreases-loop-i l = l.count - l.i
+invariant-loop-i l = (root_stands (nodes_of l.image) ≡ true) × (first_not (nests (nodes_of l.image)) l.i (drop l.i (nodes_of l.image)) ≡ badly_nested l.image)

@@ -1,53 +1,34 @@
-use Rattle.meaning.proofs.Faults.{sizes}
-use Rattle.image.proofs.Nesting.{lands_end, lands_past, lands_wrong, lands_next}
+use Rattle.image.proofs.Nesting.{node_stands_lem, lands_past, lands_wrong, lands_next}
 use Rattle.image.specs.Parts.{node_means}
 use Rattle.meaning.specs.Image.{Node, nodes_of}
-use native.Mathlib.Numerals.{add-one}
 use mathlib.Core.Path.{sym, ap, ◌∙◌}
 use native.Mathlib.Omega.{arith}
 use Rattle.image.proofs.lands_on_end.Goals as goal
 
-pub overflow_add-at : goal.overflow_add-at
-overflow_add-at c =
-    omega (arith, sizes c.requires.headed)
-
-pub loop-left-init : goal.loop-left-init
-loop-left-init c =
-    (omega arith, rw add-one)
+pub node_at-child-requires-clause-nodes_value : goal.node_at-child-requires-clause-nodes_value
+node_at-child-requires-clause-nodes_value c =
+    let stands = node_stands_lem c.args.image.now c.requires.image_value c.args.i c.requires.nodes_value.1 in
+    (c.requires.nodes_value.0, omega (arith, rw (← c.node_at-d.ensures) at stands.within))
 
 pub returns-then-d-at : goal.returns-then-d-at
 returns-then-d-at c =
-    let a = c.args in
-    sym (lands_past (nodes_of a.image.now) (node_means a.d) c.loop-left.at c.loop-left.left c.loop-left-test.true c.if-d-at.true) ∙ c.loop-left.invariant.1
-
-pub node_at-child-requires-clause-headed : goal.node_at-child-requires-clause-headed
-node_at-child-requires-clause-headed c =
-    c.requires.headed
-
-pub node_at-child-requires-clause-nodes_value : goal.node_at-child-requires-clause-nodes_value
-node_at-child-requires-clause-nodes_value c =
-    (c.requires.nodes_value.0, omega arith)
+    let l = c.loop-j in
+    rw (← c.node_at-d.ensures)
+    (sym (lands_past (nodes_of c.args.image.now) (node_means c.node_at-d.result) l.at l.j c.loop-j-test.true c.if-d-at.true) ∙ l.invariant)
 
 pub returns-then-not-has_business : goal.returns-then-not-has_business
 returns-then-not-has_business c =
-    let a = c.args in
-    let l = c.loop-left in
+    let l = c.loop-j in
     let kind = ap (λ (n : Node). n.kind) c.node_at-child.ensures in
     let wrong = rw kind at (sym c.has_business.ensures ∙ c.if-not-has_business.true) in
-    sym (lands_wrong (nodes_of a.image.now) (node_means a.d) l.at l.left c.loop-left-test.true c.if-d-at.false wrong) ∙ l.invariant.1
+    rw (← c.node_at-d.ensures)
+    (sym (lands_wrong (nodes_of c.args.image.now) (node_means c.node_at-d.result) l.at l.j c.loop-j-test.true c.if-d-at.false wrong) ∙ l.invariant)
 
-pub loop-left-preserved : goal.loop-left-preserved
-loop-left-preserved c =
-    let a = c.args in
-    let l = c.loop-left in
+pub loop-j-preserved : goal.loop-j-preserved
+loop-j-preserved c =
+    let l = c.loop-j in
     let kind = ap (λ (n : Node). n.kind) c.node_at-child.ensures in
     let stop = ap (λ (n : Node). n.stop) c.node_at-child.ensures in
-    let right = rw kind at (sym c.has_business.ensures ∙ c.if-not-has_business.false) in (
-      omega arith,
-      rw stop (sym (lands_next (nodes_of a.image.now) (node_means a.d) l.at l.left c.loop-left-test.true c.if-d-at.false right) ∙ l.invariant.1),
-    )
-
-pub returns : goal.returns
-returns c =
-    let a = c.args in
-    sym (lands_end (nodes_of a.image.now) (node_means a.d) c.loop-left.at c.loop-left.left (omega arith)) ∙ c.loop-left.invariant.1
+    let right = rw kind at (sym c.has_business.ensures ∙ c.if-not-has_business.false) in
+    rw stop
+    (sym (lands_next (nodes_of c.args.image.now) (node_means c.node_at-d.result) l.at l.j c.loop-j-test.true c.if-d-at.false right) ∙ l.invariant)

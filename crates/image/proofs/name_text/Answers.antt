@@ -4,20 +4,6 @@ use mathlib.Core.Path.{sym, ap, ◌∙◌}
 use native.Mathlib.Omega.{arith}
 use Rattle.image.proofs.name_text.Goals as goal
 
-pub name_at-r-requires-clause-headed : goal.name_at-r-requires-clause-headed
-name_at-r-requires-clause-headed c =
-    c.requires.headed
-
-pub name_at-r-requires-clause-k_bound : goal.name_at-r-requires-clause-k_bound
-name_at-r-requires-clause-k_bound c =
-    c.requires.texts_value.1
-
-pub overflow_add-texts : goal.overflow_add-texts
-overflow_add-texts c =
-    let fits = text_fits c.requires.headed c.requires.image_value c.args.k c.requires.texts_value.1 in
-    let start = ap (λ (r : NameRecord). r.start) c.name_at-r.ensures in
-    omega (arith, text_inside c.requires.headed)
-
 pub text-requires : goal.text-requires
 text-requires c =
     let fits = text_fits c.requires.headed c.requires.image_value c.args.k c.requires.texts_value.1 in

@@ -14,34 +14,12 @@ pub accepted_line-requires-clause-in_bounds_2 : goal.accepted_line-requires-clau
 accepted_line-requires-clause-in_bounds_2 c =
     omega (arith, c.requires.room)
 
-pub returns-then-code-eq0-clause-out_after : goal.returns-then-code-eq0-clause-out_after
-returns-then-code-eq0-clause-out_after c =
+pub returns-then-code-eq0 : goal.returns-then-code-eq0
+returns-then-code-eq0 c =
     let w = accepted_whole _ _ _ _ _ _ c.if-code-eq0.true c.accepted_line.ensures.wrote in
-    w.0
+    record { out_after = w.0; value = w.1; upper_bound = omega (arith, c.accepted_line.ensures.upper_bound) }
 
-pub returns-then-code-eq0-clause-value : goal.returns-then-code-eq0-clause-value
-returns-then-code-eq0-clause-value c =
-    let w = accepted_whole _ _ _ _ _ _ c.if-code-eq0.true c.accepted_line.ensures.wrote in
-    w.1
-
-pub returns-then-code-eq0-clause-upper_bound : goal.returns-then-code-eq0-clause-upper_bound
-returns-then-code-eq0-clause-upper_bound c =
-    omega (arith, c.accepted_line.ensures.upper_bound)
-
-pub refused_line-requires : goal.refused_line-requires
-refused_line-requires c =
-    c.requires.room
-
-pub returns-clause-out_after : goal.returns-clause-out_after
-returns-clause-out_after c =
+pub returns-else-code-eq0 : goal.returns-else-code-eq0
+returns-else-code-eq0 c =
     let w = refused_whole _ _ _ _ _ _ c.if-code-eq0.false c.refused_line.ensures.wrote in
-    w.0
-
-pub returns-clause-value : goal.returns-clause-value
-returns-clause-value c =
-    let w = refused_whole _ _ _ _ _ _ c.if-code-eq0.false c.refused_line.ensures.wrote in
-    w.1
-
-pub returns-clause-upper_bound : goal.returns-clause-upper_bound
-returns-clause-upper_bound c =
-    c.refused_line.ensures.upper_bound
+    record { out_after = w.0; value = w.1; upper_bound = c.refused_line.ensures.upper_bound }

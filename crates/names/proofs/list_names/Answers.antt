@@ -1,4 +1,4 @@
-use Rattle.names.proofs.Naming.{told_small, naming_first, naming_skip, naming_put, naming_end}
+use Rattle.names.proofs.Naming.{naming_first, naming_skip, naming_put, naming_end}
 use Rattle.image.proofs.Records.{head_long, text_fits, text_inside}
 use Rattle.meaning.specs.Image.{NameRecord, name_count}
 use Rattle.meaning.proofs.Faults.{sizes, image_length}
@@ -6,27 +6,23 @@ use Prim.Native.Nat.{◌<◌}
 use mathlib.Core.Path.{ap}
 use native.Mathlib.Omega.{arith}
 use Rattle.names.proofs.list_names.Goals as goal
-use Rattle.names.proofs.list_names.Goals.{in-OfType, in_default}
+use Rattle.names.proofs.list_names.Goals.{in-Some, in_default}
 
 pub areas-l-requires : goal.areas-l-requires
 areas-l-requires c =
     head_long c.requires.sound.headed
 
-pub may_bind-bound-requires : goal.may_bind-bound-requires
-may_bind-bound-requires c =
-    c.requires.sound
-
 pub loop-k-init : goal.loop-k-init
 loop-k-init c =
-    naming_first _ _ _ _ c.requires.top_lt_most_frames.1
+    naming_first _ _ _ _
 
 pub told_of-requires : goal.told_of-requires
 told_of-requires c =
-    (c.requires.top_lt_most_frames.0, omega (arith, (sizes c.requires.sound.headed).names))
+    (c.requires.top_lt_most_frames, omega (arith, (sizes c.requires.sound.headed).names))
 
-pub name_at-name-requires-clause-headed : goal.name_at-name-requires-clause-headed
-name_at-name-requires-clause-headed c =
-    c.requires.sound.headed
+pub put_name-requires : goal.put_name-requires
+put_name-requires c =
+    omega (arith, (sizes c.requires.sound.headed).names)
 
 pub overflow_cast-l : goal.overflow_cast-l
 overflow_cast-l c =
@@ -39,33 +35,17 @@ overflow_add-l c =
     let here : c.loop-k.k < name_count c.args.image.now = omega arith in
     omega (arith, image_length s.headed, text_inside s.headed, text_fits s.headed s.names c.loop-k.k here)
 
-pub overflow_cast-ty : goal.overflow_cast-ty
-overflow_cast-ty c =
-    omega (arith, told_small c.told_of.ensures c.in-OfType.is)
-
-pub put_name-requires : goal.put_name-requires
-put_name-requires c =
-    (omega (arith, c.loop-k.invariant.few, (sizes c.requires.sound.headed).names), c.loop-k.invariant.long)
-
-pub overflow_add-c : goal.overflow_add-c
-overflow_add-c c =
-    omega (arith, c.loop-k.invariant.few, (sizes c.requires.sound.headed).names)
-
-pub overflow_add-k : goal.overflow_add-k
-overflow_add-k c =
-    omega (arith, (sizes c.requires.sound.headed).names)
-
 pub loop-k-preserved : goal.loop-k-preserved
 loop-k-preserved c =
     let s = c.requires.sound in
     let here : c.loop-k.k < name_count c.args.image.now = omega arith in
     let texts = c.areas-l.ensures.texts in
     elim c.match-told_of.branch [
-      | in-OfType w ↦
+      | in-Some w ↦
           let start = ap (λ (r : NameRecord). r.start) w.name_at-name.ensures in
           let size = ap (λ (r : NameRecord). r.size) w.name_at-name.ensures in
-          rw (w.names-is, w.c-is) (naming_put s c.loop-k.invariant here c.may_bind-bound.ensures c.told_of.ensures w.in-OfType.is w.put_name.ensures (omega (arith, texts, start)) size)
-      | in_default w ↦ rw (w.names-is, w.c-is) (naming_skip s c.loop-k.invariant here c.may_bind-bound.ensures c.told_of.ensures w.in_default.is)
+          rw (w.names-is, w.count-is) (naming_put s c.loop-k.invariant here c.may_bind-bound.ensures c.told_of.ensures w.in-Some.is w.put_name.ensures (omega (arith, texts, start)) size)
+      | in_default w ↦ rw (w.names-is, w.count-is) (naming_skip s c.loop-k.invariant here c.may_bind-bound.ensures c.told_of.ensures w.in_default.is)
     ]
 
 pub returns : goal.returns

@@ -1,19 +1,22 @@
+use borrow.Author.Tests.{ne_eqb}
+use Rattle.codes.specs.declared.Code.TheVariants.{NotSubscriptable}
+use Rattle.codes.specs.Codes.{code_number}
+use Rattle.codes.proofs.Laws.{same_code}
 use Rattle.meaning.specs.Base.{test◌then◌else◌}
 use Rattle.rules.specs.Leaves.{index_place}
-use borrow.Author.Tests.{eq-eqb, ne_eqb}
 use Rattle.nodes.proofs.index_place.Goals as goal
 
-pub returns-then-why-eq-NOT_SUBSCRIPTABLE : goal.returns-then-why-eq-NOT_SUBSCRIPTABLE
+pub returns-in-Ok : goal.returns-in-Ok
 unfolding index_place test◌then◌else◌
-returns-then-why-eq-NOT_SUBSCRIPTABLE c =
-    rw (c.in-Refused.is, eq-eqb _ _ c.if-why-eq-NOT_SUBSCRIPTABLE.true)
+returns-in-Ok c =
+    rw c.in-Ok.is
 
-pub returns-in-Type : goal.returns-in-Type
+pub returns-in-NotSubscriptable : goal.returns-in-NotSubscriptable
 unfolding index_place test◌then◌else◌
-returns-in-Type c =
-    rw c.in-Type.is
+returns-in-NotSubscriptable c =
+    rw (c.in-Err.is, c.in-NotSubscriptable.is)
 
-pub returns-else-why-eq-NOT_SUBSCRIPTABLE : goal.returns-else-why-eq-NOT_SUBSCRIPTABLE
+pub returns-in_default : goal.returns-in_default
 unfolding index_place test◌then◌else◌
-returns-else-why-eq-NOT_SUBSCRIPTABLE c =
-    rw (c.in-Refused.is, ne_eqb _ _ c.if-why-eq-NOT_SUBSCRIPTABLE.false)
+returns-in_default c =
+    rw (c.in-Err.is, ne_eqb (code_number c.in-Err.why.code) 50 (λ e. c.in_default.not-NotSubscriptable (same_code _ NotSubscriptable e)))

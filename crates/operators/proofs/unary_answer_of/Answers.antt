@@ -1,20 +1,11 @@
 use native.Mathlib.Omega.{arith}
-use mathlib.Core.Path.{◌∙◌}
-use Rattle.operators.proofs.Lists.{unary_answers}
-use Rattle.operators.proofs.Rules.{unary_rule_lem}
+use mathlib.Core.Logic.{⊎_elim}
+use Rattle.meaning.specs.Decode.{unary_of}
+use Rattle.meaning.proofs.Operators.{unary_range}
 use Rattle.operators.proofs.unary_answer_of.Goals as goal
 
-pub returns-in-0 : goal.returns-in-0
-unfolding unary_answers
-returns-in-0 c =
-    c.unary_entry.ensures ∙ unary_rule_lem 0 c.in-0.is c.requires
-
-pub returns-in-1 : goal.returns-in-1
-unfolding unary_answers
-returns-in-1 c =
-    c.unary_entry-in-1.ensures ∙ unary_rule_lem 1 c.in-1.is c.requires
-
 pub returns-in_default : goal.returns-in_default
-unfolding unary_answers
-returns-in_default c =
-    c.unary_entry-in_default.ensures ∙ unary_rule_lem 2 (omega arith) c.requires
+returns-in_default c = (
+  cc,
+  ⊎_elim (λ u. u) (λ u. absurd (omega (arith, c.unary_entry_of.ensures))) (unary_range (unary_of c.args.op) c.args.kind).says,
+)

@@ -1,22 +1,22 @@
 use Rattle.replay.specs.Lines.{line_for}
 use Rattle.replay.proofs.line_of.Goals as goal
 
-pub returns-in-Images : goal.returns-in-Images
+pub returns-in-Images-clause-fronted : goal.returns-in-Images-clause-fronted
 unfolding line_for
-returns-in-Images c =
-    rw c.in-Images.is (record { fronted = c.image_line.ensures; upper_bound = c.image_line.ensures.inside })
+returns-in-Images-clause-fronted c =
+    rw c.in-Images.is c.image_line.ensures
 
-pub returns-in-Strict : goal.returns-in-Strict
+pub returns-in-Strict-clause-fronted : goal.returns-in-Strict-clause-fronted
 unfolding line_for
-returns-in-Strict c =
-    rw c.in-Strict.is (record { fronted = c.image_line-in-Strict.ensures; upper_bound = c.image_line-in-Strict.ensures.inside })
+returns-in-Strict-clause-fronted c =
+    rw c.in-Strict.is c.image_line-in-Strict.ensures
 
-pub returns-in-Tight : goal.returns-in-Tight
+pub returns-in-Tight-clause-fronted : goal.returns-in-Tight-clause-fronted
 unfolding line_for
-returns-in-Tight c =
-    rw c.in-Tight.is (record { fronted = c.image_line-in-Tight.ensures; upper_bound = c.image_line-in-Tight.ensures.inside })
+returns-in-Tight-clause-fronted c =
+    rw c.in-Tight.is c.image_line-in-Tight.ensures
 
-pub returns-in-Sheets : goal.returns-in-Sheets
+pub returns-in-Sheets-clause-fronted : goal.returns-in-Sheets-clause-fronted
 unfolding line_for
-returns-in-Sheets c =
-    rw c.in-Sheets.is (record { fronted = c.sheet_line.ensures; upper_bound = c.sheet_line.ensures.inside })
+returns-in-Sheets-clause-fronted c =
+    rw c.in-Sheets.is c.sheet_line.ensures

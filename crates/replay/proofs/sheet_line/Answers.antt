@@ -1,6 +1,6 @@
 use Rattle.std.proofs.Common.{ℕ, arith, rules}
 use lib.ListN.{length-replicate}
-use Rattle.replay.proofs.Fronts.{again_in, again_headed, read_fronted, refused_fronted, no_sheet}
+use Rattle.replay.proofs.Fronts.{again_in, again_headed, read_fronted, refused_fronted}
 use Rattle.replay.proofs.sheet_line.Goals as goal
 
 pub text-requires : goal.text-requires
@@ -11,17 +11,9 @@ pub read_line-requires-clause-in_bounds : goal.read_line-requires-clause-in_boun
 read_line-requires-clause-in_bounds c =
     rw c.text.ensures (again_headed _ _ _ c.cablebirch_write_sheet-p.ensures c.if-code-eq-ACCEPTED.true)
 
-pub read_line-requires-clause-in_bounds_2 : goal.read_line-requires-clause-in_bounds_2
-read_line-requires-clause-in_bounds_2 c =
-    omega (arith, c.requires)
-
 pub returns-then-code-eq-ACCEPTED : goal.returns-then-code-eq-ACCEPTED
 returns-then-code-eq-ACCEPTED c =
     read_fronted _ _ _ c.cablebirch_write_sheet-p.ensures (length-replicate {A = ℕ} 42532 0) c.if-code-eq-ACCEPTED.true (rw c.text.ensures at c.read_line.ensures)
-
-pub write-requires : goal.write-requires
-write-requires c =
-    rw (c.text-2.ensures, c.text-3.ensures) (no_sheet _ c.if-code-eq-ACCEPTED.false c.requires)
 
 pub returns : goal.returns
 returns c =

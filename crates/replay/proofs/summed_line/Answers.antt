@@ -1,6 +1,6 @@
 use Rattle.replay.specs.Lines.{checked_line}
 use Rattle.line.proofs.One.{sheet_inside}
-use Rattle.replay.proofs.Fronts.{end_room, some_line, summed, pointed, fronted}
+use Rattle.replay.proofs.Fronts.{some_line, summed, pointed, fronted}
 use Rattle.std.proofs.Common.{arith}
 use Rattle.replay.proofs.summed_line.Goals as goal
 
@@ -12,17 +12,9 @@ pub text-requires : goal.text-requires
 text-requires c =
     omega (arith, sheet_inside _ _ c.of_image-p.ensures.lined)
 
-pub put_checksum-requires : goal.put_checksum-requires
-put_checksum-requires c =
-    omega (arith, some_line c.of_image-p.ensures.lined, (end_room c.of_image-p.ensures.lined c.of_image-p.ensures.length_bound c.requires.sheet_len_bound.1 c.requires.line_room_in_bounds))
-
 pub overflow_sub-length-in-25 : goal.overflow_sub-length-in-25
 overflow_sub-length-in-25 c =
     some_line c.of_image-p.ensures.lined
-
-pub put_second-requires : goal.put_second-requires
-put_second-requires c =
-    omega (arith, some_line c.of_image-p.ensures.lined, (end_room c.of_image-p.ensures.lined c.of_image-p.ensures.length_bound c.requires.sheet_len_bound.1 c.requires.line_room_in_bounds))
 
 pub returns-in-0 : goal.returns-in-0
 unfolding checked_line

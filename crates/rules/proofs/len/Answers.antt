@@ -1,10 +1,11 @@
-use Rattle.rules.proofs.Arguments.{sized_yes, sized_no}
+use Rattle.rules.proofs.Arguments.{sized_in, sized_none, sized_yes, sized_no}
 use Rattle.rules.proofs.len.Goals as goal
 
-pub returns-then-has_length : goal.returns-then-has_length
-returns-then-has_length c =
-    sized_yes c.kind_of-kind.ensures c.has_length.ensures c.if-has_length.true
+pub returns-in-Unknown : goal.returns-in-Unknown
+returns-in-Unknown c =
+    sized_yes c.kind_of.ensures (sized_in c.in-Unknown.is)
 
-pub returns : goal.returns
-returns c =
-    rw c.refused.ensures (sized_no c.kind_of-kind.ensures c.has_length.ensures c.if-has_length.false)
+pub returns-in_default : goal.returns-in_default
+returns-in_default c =
+    let d = c.in_default in
+    rw c.refused.ensures (sized_no c.kind_of.ensures (sized_none _ d.not-Unknown d.not-String d.not-List d.not-Dict d.not-Tuple))

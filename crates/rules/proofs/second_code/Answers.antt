@@ -7,7 +7,7 @@ unfolding second_code test◌then◌else◌
 returns-then-filters c =
     rw c.if-filters.true
 
-pub returns : goal.returns
+pub returns-else-filters : goal.returns-else-filters
 unfolding second_code test◌then◌else◌
-returns c =
+returns-else-filters c =
     rw c.if-filters.false

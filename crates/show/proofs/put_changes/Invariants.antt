@@ -3,8 +3,8 @@ use Rattle.meaning.specs.Read.{entries_in}
 use Rattle.show.proofs.Merging.{ChangesLeft}
 use Rattle.show.proofs.put_changes.Given as goal
 
-abbrev pub invariant-loop-i : goal.invariant-loop-i
-invariant-loop-i l = ChangesLeft (entries_in l.old_sheet) (entries_in l.new_sheet) l.initial.out l.out l.i l.j l.at
+abbrev pub invariant-loop-place : goal.invariant-loop-place
+invariant-loop-place l = ChangesLeft (entries_in l.old.sheet.now) (entries_in l.new.sheet.now) l.initial.out l.out l.place
 
-abbrev pub decreases-loop-i : goal.decreases-loop-i
-decreases-loop-i l = l.all - (l.i + l.j)
+abbrev pub decreases-loop-place : goal.decreases-loop-place
+decreases-loop-place l = l.all - (l.place.old + l.place.new)

@@ -1,5 +1,7 @@
 use mathlib.Core.Path.{sym, ◌∙◌}
+use Rattle.meaning.specs.Show.{dotted}
 use Rattle.meaning.specs.Types.{text}
+use Rattle.types.specs.Kinds.{kind_number}
 use Rattle.types.specs.Reading.{type_at}
 use Rattle.types.proofs.Readers.{known_room}
 use Rattle.words.proofs.Laws.{wrote}
@@ -28,10 +30,13 @@ pub kind_of-requires : goal.kind_of-requires
 kind_of-requires c =
     known_room (c.requires.all_known.each c.args.i (omega arith))
 
-pub put_dotted-requires : goal.put_dotted-requires
-put_dotted-requires c =
-    rw (known_kind (c.requires.all_known.each c.args.i (omega arith)) c.kind_of.ensures, ← shown_dotted _ (sym c.is_short.ensures ∙ c.if-is_short.false)) c.requires.i_in_bounds
+pub put-requires : goal.put-requires
+put-requires c =
+    rw (c.dotted.ensures, known_kind (c.requires.all_known.each c.args.i (omega arith)) c.kind_of.ensures, ← shown_dotted _ (sym c.is_short.ensures ∙ c.if-is_short.false))
+    c.requires.i_in_bounds
 
 pub returns : goal.returns
 returns c =
-    rw (shown_dotted _ (sym c.is_short.ensures ∙ c.if-is_short.false), ← known_kind (c.requires.all_known.each c.args.i (omega arith)) c.kind_of.ensures) c.put_dotted.ensures
+    let it = shown_dotted _ (sym c.is_short.ensures ∙ c.if-is_short.false) in
+    let kind = known_kind (c.requires.all_known.each c.args.i (omega arith)) c.kind_of.ensures in
+    rw (it, ← kind) (wrote (dotted (kind_number c.kind_of.result)) (rw (kind, ← it) c.requires.i_in_bounds) (rw c.dotted.ensures at c.put.ensures.buf_after) (rw c.dotted.ensures at c.put.ensures.value))

@@ -1,109 +1,79 @@
 use mathlib.Core.Path.{sym, ◌∙◌}
 use Rattle.meaning.specs.Base.{bytes}
-use Rattle.show.proofs.Names.{its_named, names_many, its_names, few_names, types_known, type_told}
+use Rattle.show.proofs.Names.{names_many, its_names}
 use Rattle.show.proofs.Merging.{came_fits, came_stepped, went_fits, went_stepped, passed_over, turned_fits, turned_stepped}
 use native.Mathlib.Omega.{arith}
 use Rattle.show.proofs.tell_next.Goals as goal
 
-pub next_of-next-requires-clause-named : goal.next_of-next-requires-clause-named
-next_of-next-requires-clause-named c =
-    (its_named c.requires.opened, its_named c.requires.opened_2)
-
-pub next_of-next-requires-clause-i_le_olds : goal.next_of-next-requires-clause-i_le_olds
-next_of-next-requires-clause-i_le_olds c =
-    (omega (arith, names_many c.requires.opened, c.requires.ahead.olds_in), omega (arith, names_many c.requires.opened_2, c.requires.ahead.news_in), omega (arith, names_many c.requires.opened, names_many c.requires.opened_2, c.requires.ahead.some_left))
-
-pub put_signed-end-requires-clause-opened : goal.put_signed-end-requires-clause-opened
-unfolding bytes
-put_signed-end-requires-clause-opened c =
-    (c.requires.opened_2, omega (arith, names_many c.requires.opened_2, (rw c.in-Came.is at c.next_of-next.ensures).0))
-
-pub put_signed-end-requires-clause-bytes_in_bounds : goal.put_signed-end-requires-clause-bytes_in_bounds
-unfolding bytes
-put_signed-end-requires-clause-bytes_in_bounds c =
-    came_fits c.requires.ahead (rw c.in-Came.is at c.next_of-next.ensures)
+pub next_of-requires : goal.next_of-requires
+next_of-requires c =
+    let olds = names_many c.args.old.now in
+    let news = names_many c.args.new.now in
+    (omega arith, omega arith, omega arith)
 
 pub overflow_add-result : goal.overflow_add-result
 overflow_add-result c =
-    omega (arith, (rw c.in-Came.is at c.next_of-next.ensures).0, names_many c.requires.opened_2, (its_names c.requires.opened_2).few)
+    let news = names_many c.args.new.now in
+    omega (arith, c.in-Came.ensures.0, (its_names c.args.new.now).few)
 
-pub put_signed-end-requires-in-Went-clause-opened : goal.put_signed-end-requires-in-Went-clause-opened
-unfolding bytes
-put_signed-end-requires-in-Went-clause-opened c =
-    (c.requires.opened, omega (arith, names_many c.requires.opened, (rw c.in-Went.is at c.next_of-next.ensures).0))
+pub put_signed-requires-clause-k_bound : goal.put_signed-requires-clause-k_bound
+put_signed-requires-clause-k_bound c = omega (arith, names_many c.args.new.now, c.in-Came.ensures.0)
 
-pub put_signed-end-requires-in-Went-clause-bytes_in_bounds : goal.put_signed-end-requires-in-Went-clause-bytes_in_bounds
+pub put_signed-requires-clause-in_bounds : goal.put_signed-requires-clause-in_bounds
 unfolding bytes
-put_signed-end-requires-in-Went-clause-bytes_in_bounds c =
-    went_fits c.requires.ahead (rw c.in-Went.is at c.next_of-next.ensures)
+put_signed-requires-clause-in_bounds c = came_fits c.requires c.in-Came.ensures
 
 pub overflow_add-result-in-Went : goal.overflow_add-result-in-Went
 overflow_add-result-in-Went c =
-    omega (arith, (rw c.in-Went.is at c.next_of-next.ensures).0, names_many c.requires.opened, (its_names c.requires.opened).few)
+    let olds = names_many c.args.old.now in
+    omega (arith, c.in-Went.ensures.0, (its_names c.args.old.now).few)
 
-pub has_turned-requires-clause-opened : goal.has_turned-requires-clause-opened
-has_turned-requires-clause-opened c =
-    (c.requires.opened, omega (arith, names_many c.requires.opened, (rw c.in-Both.is at c.next_of-next.ensures).0))
+pub put_signed-requires-in-Went-clause-k_bound : goal.put_signed-requires-in-Went-clause-k_bound
+put_signed-requires-in-Went-clause-k_bound c = omega (arith, names_many c.args.old.now, c.in-Went.ensures.0)
 
-pub has_turned-requires-clause-opened_2 : goal.has_turned-requires-clause-opened_2
-has_turned-requires-clause-opened_2 c =
-    (c.requires.opened_2, omega (arith, names_many c.requires.opened_2, (rw c.in-Both.is at c.next_of-next.ensures).1))
+pub put_signed-requires-in-Went-clause-in_bounds : goal.put_signed-requires-in-Went-clause-in_bounds
+unfolding bytes
+put_signed-requires-in-Went-clause-in_bounds c = went_fits c.requires c.in-Went.ensures
 
-pub has_turned-requires-clause-i_value : goal.has_turned-requires-clause-i_value
-has_turned-requires-clause-i_value c =
-    (rw c.in-Both.is at c.next_of-next.ensures).2
+pub overflow_add-next : goal.overflow_add-next
+overflow_add-next c =
+    let olds = names_many c.args.old.now in
+    omega (arith, c.in-Both.ensures.0, (its_names c.args.old.now).few)
 
-pub overflow_add-result-then-not-has_turned : goal.overflow_add-result-then-not-has_turned
-overflow_add-result-then-not-has_turned c =
-    omega (arith, (rw c.in-Both.is at c.next_of-next.ensures).0, names_many c.requires.opened, (its_names c.requires.opened).few)
+pub overflow_add-next-in-Both : goal.overflow_add-next-in-Both
+overflow_add-next-in-Both c =
+    let news = names_many c.args.new.now in
+    omega (arith, c.in-Both.ensures.1, (its_names c.args.new.now).few)
 
-pub overflow_add-result-then-not-has_turned-2 : goal.overflow_add-result-then-not-has_turned-2
-overflow_add-result-then-not-has_turned-2 c =
-    omega (arith, (rw c.in-Both.is at c.next_of-next.ensures).1, names_many c.requires.opened_2, (its_names c.requires.opened_2).few)
+pub has_turned-requires-clause-i_bound : goal.has_turned-requires-clause-i_bound
+has_turned-requires-clause-i_bound c = omega (arith, names_many c.args.old.now, c.in-Both.ensures.0)
+
+pub has_turned-requires-clause-j_bound : goal.has_turned-requires-clause-j_bound
+has_turned-requires-clause-j_bound c = omega (arith, names_many c.args.new.now, c.in-Both.ensures.1)
+
+pub has_turned-requires-clause-one_name : goal.has_turned-requires-clause-one_name
+has_turned-requires-clause-one_name c = c.in-Both.ensures.2
 
 pub returns-then-not-has_turned : goal.returns-then-not-has_turned
-unfolding bytes
-returns-then-not-has_turned c =
-    passed_over c.requires.ahead (rw c.in-Both.is at c.next_of-next.ensures) (sym c.has_turned.ensures ∙ c.if-not-has_turned.true)
+returns-then-not-has_turned c = passed_over c.requires c.in-Both.ensures (sym c.has_turned.ensures ∙ c.if-not-has_turned.true)
 
-pub type_of-ty-requires : goal.type_of-ty-requires
-type_of-ty-requires c =
-    few_names c.requires.opened_2 (omega (arith, names_many c.requires.opened_2, (rw c.in-Both.is at c.next_of-next.ensures).1))
+pub put_turned-requires-clause-i_bound : goal.put_turned-requires-clause-i_bound
+put_turned-requires-clause-i_bound c = omega (arith, names_many c.args.old.now, c.in-Both.ensures.0)
 
-pub put_turned-end-requires-clause-opened : goal.put_turned-end-requires-clause-opened
-unfolding bytes
-put_turned-end-requires-clause-opened c =
-    (c.requires.opened, omega (arith, names_many c.requires.opened, (rw c.in-Both.is at c.next_of-next.ensures).0))
+pub put_turned-requires-clause-j_bound : goal.put_turned-requires-clause-j_bound
+put_turned-requires-clause-j_bound c = omega (arith, names_many c.args.new.now, c.in-Both.ensures.1)
 
-pub put_turned-end-requires-clause-all_known : goal.put_turned-end-requires-clause-all_known
-unfolding bytes
-put_turned-end-requires-clause-all_known c =
-    rw c.type_of-ty.ensures (types_known c.requires.opened_2 (omega (arith, names_many c.requires.opened_2, (rw c.in-Both.is at c.next_of-next.ensures).1)))
-
-pub put_turned-end-requires-clause-new_type_in_bounds : goal.put_turned-end-requires-clause-new_type_in_bounds
-unfolding bytes
-put_turned-end-requires-clause-new_type_in_bounds c =
-    rw (c.type_of-ty.ensures, type_told c.requires.opened_2 {k = c.args.from.new} (omega (arith, names_many c.requires.opened_2, (rw c.in-Both.is at c.next_of-next.ensures).1))) (turned_fits c.requires.ahead (rw c.in-Both.is at c.next_of-next.ensures) (sym c.has_turned.ensures ∙ c.if-not-has_turned.false))
-
-pub overflow_add-result-in-Both : goal.overflow_add-result-in-Both
-overflow_add-result-in-Both c =
-    omega (arith, (rw c.in-Both.is at c.next_of-next.ensures).0, names_many c.requires.opened, (its_names c.requires.opened).few)
-
-pub overflow_add-result-in-Both-2 : goal.overflow_add-result-in-Both-2
-overflow_add-result-in-Both-2 c =
-    omega (arith, (rw c.in-Both.is at c.next_of-next.ensures).1, names_many c.requires.opened_2, (its_names c.requires.opened_2).few)
+pub put_turned-requires-clause-in_bounds : goal.put_turned-requires-clause-in_bounds
+put_turned-requires-clause-in_bounds c = turned_fits c.requires c.in-Both.ensures (sym c.has_turned.ensures ∙ c.if-not-has_turned.false)
 
 pub returns-in-Came : goal.returns-in-Came
 unfolding bytes
-returns-in-Came c =
-    came_stepped c.requires.ahead (rw c.in-Came.is at c.next_of-next.ensures) c.put_signed-end.ensures
+returns-in-Came c = came_stepped c.requires c.in-Came.ensures c.put_signed.ensures
 
 pub returns-in-Went : goal.returns-in-Went
 unfolding bytes
-returns-in-Went c =
-    went_stepped c.requires.ahead (rw c.in-Went.is at c.next_of-next.ensures) c.put_signed-end-in-Went.ensures
+returns-in-Went c = went_stepped c.requires c.in-Went.ensures c.put_signed-in-Went.ensures
 
 pub returns-else-not-has_turned : goal.returns-else-not-has_turned
-unfolding bytes
 returns-else-not-has_turned c =
-    turned_stepped c.requires.ahead (rw c.in-Both.is at c.next_of-next.ensures) (sym c.has_turned.ensures ∙ c.if-not-has_turned.false) (rw (c.type_of-ty.ensures, type_told c.requires.opened_2 {k = c.args.from.new} (omega (arith, names_many c.requires.opened_2, (rw c.in-Both.is at c.next_of-next.ensures).1))) at c.put_turned-end.ensures)
+    turned_stepped c.requires c.in-Both.ensures (sym c.has_turned.ensures ∙ c.if-not-has_turned.false) c.put_turned.ensures

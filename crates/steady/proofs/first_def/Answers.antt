@@ -4,7 +4,7 @@ use Rattle.image.proofs.Records.{head_long}
 use mathlib.Core.Logic.{inl, inr}
 use native.Mathlib.Omega.{arith}
 use Rattle.steady.proofs.first_def.Goals as goal
-use Rattle.steady.proofs.first_def.Goals.{then-until-i, else-until-i, in_default-via-then-kind-lt8, in_default-via-else-kind-lt8+else-kind-lt11, in-12-1, in_default+else-kind-lt8+then-kind-lt11}
+use Rattle.steady.proofs.first_def.Goals.{then-until-i, else-until-i, in_default-via-then-node-lt8, in_default-via-else-node-lt8+else-node-lt11, in-12-1, in_default+else-node-lt8+then-node-lt11}
 
 pub areas-l-requires : goal.areas-l-requires
 areas-l-requires c =
@@ -13,14 +13,6 @@ areas-l-requires c =
 pub loop-i-init : goal.loop-i-init
 loop-i-init c =
     passing_first c.requires
-
-pub node_at-node-requires-clause-headed : goal.node_at-node-requires-clause-headed
-node_at-node-requires-clause-headed c =
-    c.requires.headed
-
-pub node_at-node-requires-clause-nodes_value : goal.node_at-node-requires-clause-nodes_value
-node_at-node-requires-clause-nodes_value c =
-    (c.areas-l.ensures.nodes, omega (arith, c.areas-l.ensures.count))
 
 pub loop-i-preserved-in-8-1 : goal.loop-i-preserved-in-8-1
 loop-i-preserved-in-8-1 c =
@@ -46,8 +38,8 @@ pub loop-i-preserved-in_default-1 : goal.loop-i-preserved-in_default-1
 loop-i-preserved-in_default-1 c =
     let h = here _ c.requires (omega (arith, c.areas-l.ensures.count)) c.node_at-node.ensures in
     elim c.in_default.branch [
-      | in_default-via-then-kind-lt8 w ↦ passing_over c.loop-i.invariant h (λ q. omega arith) (λ q. omega arith) (λ q. omega arith) (inl (omega arith))
-      | in_default-via-else-kind-lt8+else-kind-lt11 w ↦ passing_over c.loop-i.invariant h (λ q. omega arith) (λ q. omega arith) (λ q. omega arith) (inr (omega arith))
+      | in_default-via-then-node-lt8 w ↦ passing_over c.loop-i.invariant h (λ q. omega arith) (λ q. omega arith) (λ q. omega arith) (inl (omega arith))
+      | in_default-via-else-node-lt8+else-node-lt11 w ↦ passing_over c.loop-i.invariant h (λ q. omega arith) (λ q. omega arith) (λ q. omega arith) (inr (omega arith))
     ]
 
 pub loop-i-preserved : goal.loop-i-preserved
@@ -55,7 +47,7 @@ loop-i-preserved c =
     let h = here _ c.requires (omega (arith, c.areas-l.ensures.count)) c.node_at-node.ensures in
     elim c.in-9-1.branch [
       | in-12-1 w ↦ passing_block c.loop-i.invariant h (omega arith)
-      | in_default+else-kind-lt8+then-kind-lt11 w ↦ passing_loop c.loop-i.invariant h (omega arith) (omega arith)
+      | in_default+else-node-lt8+then-node-lt11 w ↦ passing_loop c.loop-i.invariant h (omega arith) (omega arith)
     ]
 
 pub returns : goal.returns

@@ -1,15 +1,18 @@
-use Rattle.steady.proofs.Whole.{sound_told, faulty_told}
-use Rattle.image.proofs.Answers.{judged_sound}
+use Rattle.std.proofs.lemmas.Result.{err_from_is_err_and}
+use Rattle.meaning.proofs.Faults.{sound}
+use Rattle.steady.proofs.Whole.{steadiness_sound, steadiness_faulty}
+use mathlib.Core.Path.{sym, ◌∙◌}
 use Rattle.steady.proofs.steady.Goals as goal
 
-pub returns-in_default : goal.returns-in_default
-returns-in_default c =
-    faulty_told _ c.judge-j.result c.in_default.not-WellFormed c.judge-j.ensures
+pub returns-in_err-judge : goal.returns-in_err-judge
+returns-in_err-judge c =
+    let p = err_from_is_err_and c.from_residual.result c.from_residual.ensures.1 in
+    rw (p.1, p.2) (sym (steadiness_faulty _ _ (sym c.in_err-judge.ensures)))
 
 pub first_def-requires : goal.first_def-requires
 first_def-requires c =
-    ((judged_sound _ c.judge-j.result c.judge-j.ensures).0 c.in-WellFormed.is)
+    (sound _).0 (sym c.in_ok-judge.ensures)
 
 pub returns : goal.returns
 returns c =
-    sound_told c.first_def.result ((judged_sound _ c.judge-j.result c.judge-j.ensures).0 c.in-WellFormed.is) c.first_def.ensures
+    c.first_def.ensures ∙ sym (steadiness_sound ((sound _).0 (sym c.in_ok-judge.ensures)))

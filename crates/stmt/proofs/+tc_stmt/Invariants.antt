@@ -1,7 +1,7 @@
 use Prim.Native.Nat.{◌+◌, ◌-◌, ◌*◌}
 use Rattle.stmt.proofs.Bodies.{Loop}
 use Rattle.stmt.proofs.Branching.{Choosing}
-use Rattle.state.specs.Notes.{Noting, ret_in, tab_in, top_in}
+use Rattle.state.specs.Lent.{lent, table_of}
 use Rattle.stmt.specs.Contract.{setting_if}
 use Rattle.meaning.specs.Image.{nodes_from}
 use mathlib.Core.Path.{◌≡◌}
@@ -28,14 +28,14 @@ decreases-repeat l = 3 * l.depth + 1
 abbrev pub decreases-tc_stmt : goal.decreases-tc_stmt
 decreases-tc_stmt l = 3 * l.depth + 2
 
-abbrev pub invariant-block-loop-left : goal.invariant-block-loop-left
-invariant-block-loop-left l = Loop l.image (setting_if l.plain) l.initial.next.nodes (tab_in l.initial.table l.initial.notes) l.initial.rows (top_in l.initial.notes) (ret_in l.initial.notes) (l.initial.next.at - 1) l.depth l.looped l.drops (tab_in l.table l.notes) l.rows (top_in l.notes) (ret_in l.notes) l.stack l.next.at l.left × Noting l.notes × (l.next.nodes ≡ nodes_from l.image)
+abbrev pub invariant-block-loop : goal.invariant-block-loop
+invariant-block-loop l =
+    Loop l.image (setting_if l.how.plain) l.initial.next.nodes (table_of (lent l.initial.rows l.initial.table l.initial.w)) l.initial.rows l.initial.w.notes.top l.initial.w.notes.returns (l.initial.next.at - 1) l.depth l.how.looped l.how.drops
+    (table_of (lent l.rows l.table l.w)) l.rows l.w.notes.top l.w.notes.returns l.w.stack l.next.at (l.end - l.counter)
+    × (l.next.nodes ≡ nodes_from l.image)
 
-abbrev pub decreases-block-loop-left : goal.decreases-block-loop-left
-decreases-block-loop-left l = l.left
-
-abbrev pub invariant-choices-loop-left : goal.invariant-choices-loop-left
-invariant-choices-loop-left l = Choosing l.image (setting_if l.plain) l.initial.next.nodes (tab_in l.initial.table l.initial.notes) l.rows l.top (ret_in l.initial.notes) (l.initial.next.at - 1) l.depth l.looped (tab_in l.table l.notes) (ret_in l.notes) l.stack l.merged l.clashes l.next.at l.left × (top_in l.notes ≡ l.top) × Noting l.notes × (l.next.nodes ≡ nodes_from l.image)
-
-abbrev pub decreases-choices-loop-left : goal.decreases-choices-loop-left
-decreases-choices-loop-left l = l.left
+abbrev pub invariant-choices-loop-k : goal.invariant-choices-loop-k
+invariant-choices-loop-k l =
+    Choosing l.image (setting_if l.how.plain) l.initial.next.nodes (table_of (lent l.initial.rows l.initial.table l.initial.w)) l.rows l.top l.initial.w.notes.returns (l.initial.next.at - 1) l.depth l.how.looped
+    (table_of (lent l.rows l.table l.w)) l.w.notes.returns l.w.stack l.merged l.clashes l.next.at (l.n - 2 * l.k)
+    × (l.w.notes.top ≡ l.top) × (l.next.nodes ≡ nodes_from l.image)

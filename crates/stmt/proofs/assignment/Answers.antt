@@ -1,38 +1,26 @@
-use Rattle.state.proofs.Noting.{kept_as, kept_noting, kept_trans}
+use Rattle.state.proofs.Noting.{is_noted, kept_trans}
 use Rattle.stmt.proofs.Laws.{ready_nodes, second_of}
-use Rattle.stmt.proofs.Cells.{checks_err, checks_ok}
+use Rattle.stmt.proofs.Cells.{checks_ok}
 use Rattle.stmt.proofs.Leaves.{assignment_bad, assignment_done, target_ready, value_at, value_ready}
 use mathlib.Core.Path.{refl}
 use Rattle.stmt.proofs.assignment.Goals as goal
 
-pub next-read-requires-clause-headed : goal.next-read-requires-clause-headed
-next-read-requires-clause-headed c =
-    c.requires.1.0.sound.headed
+pub tc_expr-requires : goal.tc_expr-requires
+tc_expr-requires c =
+    let k = second_of c.next.ensures c.over.ensures in
+    (ready_nodes c.over.ensures.nodes (value_ready c.requires.0 c.requires.1 k), value_at c.requires.0 c.requires.1 k)
 
-pub next-read-requires-clause-on : goal.next-read-requires-clause-on
-next-read-requires-clause-on c =
-    record { nodes = c.requires.1.0.nodes_at; within = c.requires.1.1.there }
-
-pub over-passed-requires-clause-headed : goal.over-passed-requires-clause-headed
-over-passed-requires-clause-headed c =
-    c.requires.1.0.sound.headed
-
-pub over-passed-requires-clause-on : goal.over-passed-requires-clause-on
-over-passed-requires-clause-on c =
-    record { nodes = c.next-read.ensures.nodes; within = rw c.next-read.ensures.at c.requires.1.1.first.there }
-
-pub tc_expr-v-requires : goal.tc_expr-v-requires
-tc_expr-v-requires c =
-    (c.requires.0, (ready_nodes c.over-passed.ensures.nodes (value_ready c.requires.1.0 c.requires.1.1 (second_of c.next-read.ensures c.over-passed.ensures)), value_at c.requires.1.0 c.requires.1.1 (second_of c.next-read.ensures c.over-passed.ensures)))
-
-pub returns-in_default : goal.returns-in_default
-returns-in_default c =
-    (assignment_bad c.requires.1.0 c.requires.1.1 (second_of c.next-read.ensures c.over-passed.ensures) (checks_err _ c.in_default.is c.tc_expr-v.ensures.0) (c.tc_expr-v.ensures.1.coded c.in_default.is), kept_as (λ _. c.in_default.is) c.tc_expr-v.ensures.1)
+pub returns-in_err-ty : goal.returns-in_err-ty
+returns-in_err-ty c =
+    let d = rw c.in_err-ty.was at c.tc_expr.ensures in
+    rw (is_noted _ c.from_residual.ensures.0) (assignment_bad c.requires.0 c.requires.1 (second_of c.next.ensures c.over.ensures) d.0 (d.1.coded refl), d.1)
 
 pub tc_assign_target-requires : goal.tc_assign_target-requires
 tc_assign_target-requires c =
-    (kept_noting c.tc_expr-v.ensures.1, rw c.next-read.ensures.at (ready_nodes c.next-read.ensures.nodes (target_ready c.requires.1.0 c.requires.1.1 (second_of c.next-read.ensures c.over-passed.ensures) (checks_ok _ c.in-Ok.is c.tc_expr-v.ensures.0)), (c.requires.1.1.first, (checks_ok _ c.in-Ok.is c.tc_expr-v.ensures.0).below refl)))
+    let d = checks_ok _ c.in_ok-ty.was c.tc_expr.ensures.0 in
+    rw c.next.ensures.at (ready_nodes c.next.ensures.nodes (target_ready c.requires.0 c.requires.1 (second_of c.next.ensures c.over.ensures) d), (c.requires.1.first, d.below refl))
 
 pub returns : goal.returns
 returns c =
-    (assignment_done c.requires.1.0 c.requires.1.1 (second_of c.next-read.ensures c.over-passed.ensures) (checks_ok _ c.in-Ok.is c.tc_expr-v.ensures.0) refl (rw c.next-read.ensures.at at c.tc_assign_target.ensures.0), kept_trans c.tc_expr-v.ensures.1 c.tc_assign_target.ensures.1)
+    let d = checks_ok _ c.in_ok-ty.was c.tc_expr.ensures.0 in
+    (assignment_done c.requires.0 c.requires.1 (second_of c.next.ensures c.over.ensures) d refl (rw c.next.ensures.at at c.tc_assign_target.ensures.0), kept_trans c.tc_expr.ensures.1 c.tc_assign_target.ensures.1)

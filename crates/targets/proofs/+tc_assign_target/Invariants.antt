@@ -1,4 +1,5 @@
-use Rattle.state.specs.Notes.{tab_in, Kept}
+use Rattle.state.specs.Lent.{lent, table_of}
+use Rattle.state.specs.Notes.{Kept}
 use Rattle.targets.proofs.Targets.{Loop}
 use mathlib.Core.Path.{◌≡◌}
 use Prim.Native.Nat.{suc, ◌+◌, ◌-◌}
@@ -11,7 +12,7 @@ abbrev pub decreases-tc_assign_target : goal.decreases-tc_assign_target
 decreases-tc_assign_target l = l.depth + l.depth
 
 abbrev pub invariant-assign_each-loop-j : goal.invariant-assign_each-loop-j
-invariant-assign_each-loop-j l = (Loop l.image l.initial.next.nodes l.initial.frames l.top (tab_in l.initial.table l.initial.notes) l.initial.stack (l.initial.next.at - 1) l.n l.ty l.depth (tab_in l.table l.notes) l.frames l.stack l.next.at l.j) × Kept l.initial.notes l.notes ⊥ × (l.next.nodes ≡ l.initial.next.nodes)
-
-abbrev pub decreases-assign_each-loop-j : goal.decreases-assign_each-loop-j
-decreases-assign_each-loop-j l = l.n - l.j
+invariant-assign_each-loop-j l =
+    Loop l.image l.initial.next.nodes l.initial.frames l.top (table_of (lent l.initial.frames l.initial.table l.initial.w)) l.initial.w.stack (l.initial.next.at - 1) l.n l.ty l.depth
+    (table_of (lent l.frames l.table l.w)) l.frames l.w.stack l.next.at l.j
+    × Kept l.initial.w.notes l.w.notes ⊥ × (l.next.nodes ≡ l.initial.next.nodes)

@@ -1,5 +1,4 @@
 use Rattle.targets.proofs.Unpacking.{sharing_room, sharing_element, share_part, share_element, share_unknown}
-use native.Mathlib.Omega.{arith}
 use Rattle.targets.proofs.part_for.Goals as goal
 
 pub kind_of-requires : goal.kind_of-requires
@@ -12,16 +11,16 @@ part_of-requires c =
 
 pub part_at-requires : goal.part_at-requires
 part_at-requires c =
-    sharing_element c.kind_of.ensures c.requires c.in-10.is
+    sharing_element c.kind_of.ensures c.requires c.in-Tuple.is
 
-pub returns-in-8 : goal.returns-in-8
-returns-in-8 c =
-    share_part c.kind_of.ensures c.in-8.is c.part_of.ensures
+pub returns-in-List : goal.returns-in-List
+returns-in-List c =
+    share_part c.kind_of.ensures c.in-List.is c.part_of.ensures
 
-pub returns-in-10 : goal.returns-in-10
-returns-in-10 c =
-    share_element c.kind_of.ensures c.in-10.is c.part_at.ensures
+pub returns-in-Tuple : goal.returns-in-Tuple
+returns-in-Tuple c =
+    share_element c.kind_of.ensures c.in-Tuple.is c.part_at.ensures
 
 pub returns-in_default : goal.returns-in_default
 returns-in_default c =
-    share_unknown c.kind_of.ensures (omega arith) (omega arith)
+    share_unknown c.kind_of.ensures c.in_default.not-List c.in_default.not-Tuple

@@ -11,10 +11,3 @@ returns-clause-shows c =
     let m = length-replicate {A = ℕ} message_buffer 0 in
     let l = rw (n, m) at c.of_image-p.ensures.lined in
     shows _ _ l (omega (arith, n)) _ c.setting_told-setting.ensures
-
-pub returns-clause-upper_bound : goal.returns-clause-upper_bound
-returns-clause-upper_bound c =
-    let n = length-replicate {A = ℕ} sheet_buffer 0 in
-    let m = length-replicate {A = ℕ} message_buffer 0 in
-    let l = rw (n, m) at c.of_image-p.ensures.lined in
-    l.front.inside

@@ -1,24 +1,11 @@
-use Rattle.types.proofs.Chains.{hashing_none, hashing_more, hashing_all}
+use Rattle.types.proofs.Chains.{hash_none, hash_more}
 use native.Mathlib.Omega.{arith}
-use borrow.Author.Rules.{rules}
 use Rattle.types.proofs.hash_of.Goals as goal
 
-pub loop-j-init : goal.loop-j-init
-loop-j-init c =
-    (search rules, hashing_none _ _ _)
+pub loop-e-init : goal.loop-e-init
+loop-e-init c =
+    record { small = omega arith; so_far = hash_none c.args.elements.now }
 
-pub number_at-requires : goal.number_at-requires
-number_at-requires c =
-    omega (arith, c.requires, c.loop-j-test.true)
-
-pub mixed-h-requires : goal.mixed-h-requires
-mixed-h-requires c =
-    (c.loop-j.invariant.1.small, c.number_at.ensures.1)
-
-pub loop-j-preserved : goal.loop-j-preserved
-loop-j-preserved c =
-    (search rules, hashing_more c.loop-j.invariant.1 c.requires c.loop-j-test.true c.number_at.ensures.0 c.mixed-h.ensures.0 c.mixed-h.ensures.1)
-
-pub returns : goal.returns
-returns c =
-    hashing_all c.loop-j.invariant.1 c.loop-j-test.false
+pub loop-e-preserved : goal.loop-e-preserved
+loop-e-preserved c =
+    record { small = c.mixed-h.ensures.1; so_far = hash_more _ c.loop-e.invariant.so_far c.loop-e-test.true (rw c.from.ensures at c.mixed-h.ensures.0) }

@@ -1,9 +1,8 @@
-use Rattle.types.proofs.Chains.{Hashing}
-use Prim.Native.Nat.{◌≤◌, ◌-◌}
+use mathlib.Core.Path.{◌≡◌}
+use Prim.Native.Nat.{◌<◌}
+use lib.ListN.{take}
+use Rattle.types.specs.Table.{tuple_hash}
 use Rattle.types.proofs.hash_of.Given as goal
 
-abbrev pub invariant-loop-j : goal.invariant-loop-j
-invariant-loop-j l = (l.j ≤ l.n) × Hashing l.stack l.from l.n l.h l.j
-
-abbrev pub decreases-loop-j : goal.decreases-loop-j
-decreases-loop-j l = l.n - l.j
+abbrev pub invariant-loop-e : goal.invariant-loop-e
+invariant-loop-e l = record { small : l.h < 4093; so_far : l.h ≡ tuple_hash (take l.e-index l.elements) }

@@ -1,16 +1,6 @@
-use Rattle.types.proofs.Room.{capacity_within}
 use Rattle.types.proofs.Readers.{kind_told}
-use native.Mathlib.Omega.{arith}
 use Rattle.types.proofs.kind_of.Goals as goal
-
-pub overflow_mul-i : goal.overflow_mul-i
-overflow_mul-i c =
-    omega (arith, c.requires, capacity_within c.args.table.now)
-
-pub cell-requires : goal.cell-requires
-cell-requires c =
-    omega (arith, c.requires, capacity_within c.args.table.now)
 
 pub returns : goal.returns
 returns c =
-    kind_told _ _ _ c.cell.ensures
+    kind_told _ _ _ (rw c.cell.ensures at c.numbered.ensures)

@@ -1,27 +1,21 @@
+use mathlib.Core.Path.{ap}
+use Rattle.types.specs.Kinds.{kind_number}
+use Rattle.types.proofs.OfKind.{plain_left, one_walked}
 use Rattle.types.proofs.Readers.{many_none, many_two, many_elements, many_one}
-use native.Mathlib.Omega.{arith}
 use Rattle.types.proofs.parts_of.Goals as goal
 
-pub kind_of-requires : goal.kind_of-requires
-kind_of-requires c =
-    c.requires
+pub returns-in-Dict : goal.returns-in-Dict
+returns-in-Dict c =
+    many_two c.kind_of.ensures (ap kind_number c.in-Dict.is)
 
-pub count_of-requires : goal.count_of-requires
-count_of-requires c =
-    c.requires
+pub returns-in-Tuple : goal.returns-in-Tuple
+returns-in-Tuple c =
+    many_elements c.kind_of.ensures (ap kind_number c.in-Tuple.is) c.field.ensures
 
-pub returns-in-9 : goal.returns-in-9
-returns-in-9 c =
-    many_two c.kind_of.ensures c.in-9.is
-
-pub returns-in-10 : goal.returns-in-10
-returns-in-10 c =
-    many_elements c.kind_of.ensures c.in-10.is c.count_of.ensures
-
-pub returns-in-0-to-7 : goal.returns-in-0-to-7
-returns-in-0-to-7 c =
-    many_none c.kind_of.ensures (omega arith)
+pub returns-in-List : goal.returns-in-List
+returns-in-List c =
+    let w = one_walked c.in-List.is in many_one c.kind_of.ensures w.0 w.1 w.2
 
 pub returns-in_default : goal.returns-in_default
 returns-in_default c =
-    many_one c.kind_of.ensures (omega arith) (omega arith) (omega arith)
+    let d = c.in_default in many_none c.kind_of.ensures (plain_left _ d.not-List d.not-Dict d.not-Tuple d.not-MapIter d.not-FilterIter)

@@ -1,26 +1,22 @@
-use Rattle.types.proofs.Sharing.{share_first, share_more, share_not, share_all}
-use Rattle.types.specs.Reading.{shared}
-use native.Mathlib.Omega.{arith}
-use borrow.Author.Rules.{rules}
+use Rattle.std.proofs.Common.{rules, tests}
+use lib.Dec.{eqb}
+use Rattle.std.proofs.lemmas.Iterator.{YieldsList-from_slice}
+use Rattle.std.proofs.lemmas.Iterator.Search.{all_from_yields_List}
+use Rattle.types.proofs.Sharing.{shared_none, shared_all, shared_not}
 use Rattle.types.proofs.shared_of.Goals as goal
 
-pub returns-then-q-eq0 : goal.returns-then-q-eq0
-unfolding shared
-returns-then-q-eq0 c =
-    rw c.if-q-eq0.true
+pub returns-in-len1-up : goal.returns-in-len1-up
+returns-in-len1-up c =
+    shared_all _ c.in-len1-up.len_at_least
+    (all_from_yields_List (eqb _) _ _ _ c.all.ensures.ran (YieldsList-from_slice _ c.iter.ensures.rest) (λ x b q k. search (rules, tests)))
+    c.if-all.true c.from.ensures
 
-pub loop-j-init : goal.loop-j-init
-loop-j-init c =
-    (omega arith, share_first c.args.table.now c.args.at c.args.q (omega arith) c.if-q-eq0.false)
+pub returns-in_default : goal.returns-in_default
+returns-in_default c =
+    shared_none _ c.in_default.len_below
 
-pub returns-then-table-at : goal.returns-then-table-at
-returns-then-table-at c =
-    share_not c.args.table.now _ _ (omega arith) c.loop-j.invariant.1 c.loop-j-test.true c.if-table-at.true
-
-pub loop-j-preserved : goal.loop-j-preserved
-loop-j-preserved c =
-    (search rules, share_more c.args.table.now _ _ (omega arith) c.loop-j.invariant.1 c.loop-j-test.true c.if-table-at.false)
-
-pub returns : goal.returns
-returns c =
-    share_all c.args.table.now _ _ (omega arith) c.loop-j.invariant.1 c.loop-j-test.false c.cell.ensures
+pub returns-in_default-2 : goal.returns-in_default-2
+returns-in_default-2 c =
+    shared_not _ c.in-len1-up.len_at_least
+    (all_from_yields_List (eqb _) _ _ _ c.all.ensures.ran (YieldsList-from_slice _ c.iter.ensures.rest) (λ x b q k. search (rules, tests)))
+    c.if-all.false

@@ -1,35 +1,35 @@
-use Rattle.types.proofs.Room.{capacity_within}
-use Rattle.types.proofs.Searching.{tuple_slot, add_room}
-use Rattle.types.proofs.Tuples.{tuple_old, tuple_new}
-use Rattle.types.specs.Table.{slot_of}
-use mathlib.Core.Path.{ap, ◌∙◌}
+use mathlib.Core.Path.{refl, sym, ap, ◌∙◌}
+use Prim.Native.Nat.{◌+◌}
 use native.Mathlib.Omega.{arith}
+use lib.ListN.{length-append, length-take, length-drop}
+use Rattle.types.specs.Table.{slot_of}
+use Rattle.types.proofs.Room.{capacity_within}
+use Rattle.types.proofs.Pieces.{part_long}
+use Rattle.types.proofs.Chains.{chains_of}
+use Rattle.types.proofs.Searching.{told_yes, tuple_slot, slot_tested, found_tested, add_room}
+use Rattle.types.proofs.Tuples.{copied, many, tuple_old, tuple_new}
 use Rattle.types.proofs.tuple_of.Goals as goal
 
-pub find_tuple-i-requires-clause-listed : goal.find_tuple-i-requires-clause-listed
-find_tuple-i-requires-clause-listed c =
-    c.requires
+pub find-requires-clause-chains : goal.find-requires-clause-chains
+find-requires-clause-chains c =
+    chains_of _ _ c.requires.wf.chained
 
-pub find_tuple-i-requires-clause-slot : goal.find_tuple-i-requires-clause-slot
-find_tuple-i-requires-clause-slot c =
-    tuple_slot c.requires (c.slot_of-slot.ensures ∙ ap (slot_of _) c.hash_of.ensures)
+pub find-requires-clause-slot : goal.find-requires-clause-slot
+find-requires-clause-slot c =
+    slot_tested (λ i h q. rw part_long at (q.yes refl)) (tuple_slot c.requires (c.slot_of-slot.ensures ∙ ap (slot_of _) (rw part_long at c.hash_of.ensures)))
 
-pub overflow_add-base : goal.overflow_add-base
-overflow_add-base c =
-    omega (arith, c.requires.space, c.base.ensures, capacity_within c.args.table.now)
-
-pub copy-requires : goal.copy-requires
-copy-requires c =
-    (omega (arith, c.requires.space, c.base.ensures, capacity_within c.args.table.now), c.requires.inside)
+pub returns-in-Some : goal.returns-in-Some
+returns-in-Some c =
+    tuple_old _ _ _ _ c.requires (found_tested (λ i h q. rw part_long at (q.yes refl)) (λ i h q. told_yes (rw part_long q)) c.find.ensures) c.in-Some.is
 
 pub add-requires : goal.add-requires
 add-requires c =
-    add_room _ c.copy.ensures.long c.requires.wf c.requires.room (tuple_slot c.requires (c.slot_of-slot.ensures ∙ ap (slot_of _) c.hash_of.ensures))
+    add_room _ (simp (length-append, length-take, length-drop) (omega (arith, c.copy_from_slice.auto.self, c.requires.space, c.base-first.ensures, capacity_within c.args.table.now))) c.requires.wf c.requires.room (tuple_slot c.requires (c.slot_of-slot.ensures ∙ ap (slot_of _) (rw part_long at c.hash_of.ensures)))
 
-pub returns-then-i-types : goal.returns-then-i-types
-returns-then-i-types c =
-    tuple_old _ _ _ _ c.requires _ c.if-i-types.true (c.find_tuple-i.ensures.found c.if-i-types.true)
-
-pub returns-else-i-types : goal.returns-else-i-types
-returns-else-i-types c =
-    tuple_new _ _ _ _ c.requires c.find_tuple-i.ensures c.if-i-types.false (c.slot_of-slot.ensures ∙ ap (slot_of _) c.hash_of.ensures) (omega (arith, c.base.ensures)) c.copy.ensures c.add.ensures
+pub returns : goal.returns
+returns c =
+    tuple_new _ _ _ _ c.requires (found_tested (λ i h q. rw part_long at (q.yes refl)) (λ i h q. told_yes (rw part_long q)) c.find.ensures) c.in_default.is
+    (c.slot_of-slot.ensures ∙ ap (slot_of _) (rw part_long at c.hash_of.ensures))
+    (copied _ (ap (λ x. x + c.args.counts.elements) c.base-first.ensures) (rw part_long at c.copy_from_slice.ensures.after) (many _ _ _ _ c.requires ∙ sym (part_long _ _))
+    (omega (arith, c.requires.space, capacity_within c.args.table.now)))
+    c.add.ensures

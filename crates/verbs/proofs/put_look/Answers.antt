@@ -7,13 +7,9 @@ use Rattle.verbs.proofs.Said.{part_short, looks, look_front}
 use native.Mathlib.Omega.{arith}
 use Rattle.verbs.proofs.put_look.Goals as goal
 
-pub put-requires : goal.put-requires
-unfolding bytes
-put-requires c =
-    omega (arith, c.requires.load_room_in_bounds, (wrote (bytes "look\n") (omega (arith, c.requires.load_room_in_bounds)) c.put-at.ensures.buf_after c.put-at.ensures.value).long, (wrote (bytes "look\n") (omega (arith, c.requires.load_room_in_bounds)) c.put-at.ensures.buf_after c.put-at.ensures.value).ends, (length-replicate {A = ℕ} largest_changes 0), part_short c.put_changed-n.ensures c.text.ensures)
-
 pub returns : goal.returns
 unfolding bytes
 returns c =
-    let b = wrote _ (omega (arith, c.requires.load_room_in_bounds, (wrote (bytes "look\n") (omega (arith, c.requires.load_room_in_bounds)) c.put-at.ensures.buf_after c.put-at.ensures.value).long, (wrote (bytes "look\n") (omega (arith, c.requires.load_room_in_bounds)) c.put-at.ensures.buf_after c.put-at.ensures.value).ends, (length-replicate {A = ℕ} largest_changes 0), part_short c.put_changed-n.ensures c.text.ensures)) c.put.ensures.buf_after c.put.ensures.value in
-    looks _ _ (look_front c.put_changed-n.ensures c.text.ensures (wrote (bytes "look\n") (omega (arith, c.requires.load_room_in_bounds)) c.put-at.ensures.buf_after c.put-at.ensures.value) b)
+    let a = wrote (bytes "look\n") (omega arith) c.put-at.ensures.buf_after c.put-at.ensures.value in
+    let b = wrote _ (omega (arith, a.long, a.ends, length-replicate {A = ℕ} largest_changes 0, part_short c.put_changed-n.ensures c.text.ensures)) c.put.ensures.buf_after c.put.ensures.value in
+    looks _ _ (look_front c.put_changed-n.ensures c.text.ensures a b)

@@ -1,12 +1,9 @@
 use Rattle.sheet.proofs.Reading.{tuple_gather, tuple_listed, tuple_made}
-use lib.ListN.{length-replicate}
-use Prim.Native.Nat.{ℕ}
-use Rattle.meaning.specs.Limits.{most_types}
 use Rattle.sheet.proofs.reader.form_tuple.Goals as goal
 
 pub gather-requires : goal.gather-requires
 gather-requires c =
-    tuple_gather c.requires (length-replicate {A = ℕ} most_types 0)
+    tuple_gather c.requires
 
 pub tuple_of-requires : goal.tuple_of-requires
 tuple_of-requires c =

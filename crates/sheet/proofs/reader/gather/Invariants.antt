@@ -1,10 +1,5 @@
 use Rattle.sheet.proofs.Reading.{GatherLoop}
-use lib.ListN.{take}
-use Prim.Native.Nat.{◌-◌}
 use Rattle.sheet.proofs.reader.gather.Given as goal
 
 abbrev pub invariant-loop-j : goal.invariant-loop-j
-invariant-loop-j l = GatherLoop l.sheet l.at (take l.k l.numbers) l.k l.q l.j l.stack
-
-abbrev pub decreases-loop-j : goal.decreases-loop-j
-decreases-loop-j l = l.q - l.j
+invariant-loop-j l = GatherLoop l.sheet l.at l.numbers l.q l.j l.stack

@@ -1,64 +1,44 @@
-use Rattle.sheet.proofs.Reading.{not-true, not-false}
-use Rattle.sheet.proofs.Ending.{read_not, read_inside, texts_refused, read_listing, read_all}
-use lib.ListN.{length-replicate}
-use Prim.Native.Nat.{ℕ}
+use Rattle.sheet.proofs.Ending.{read_not, read_inside, texts_refused, read_listing, rewrites_not, read_all}
 use Rattle.types.proofs.Room.{capacity_as}
 use native.Mathlib.Omega.{arith}
-use Rattle.meaning.specs.Limits.{most_types}
 use Rattle.sheet.proofs.reader.read.Goals as goal
 
-pub returns-then-not-bounded : goal.returns-then-not-bounded
-returns-then-not-bounded c =
-    read_not c.refused.ensures (c.bounded.ensures.no c.if-not-bounded.true)
+pub returns-in_err-areas : goal.returns-in_err-areas
+returns-in_err-areas c =
+    rw c.from_residual.ensures (read_not c.in_err-areas.ensures)
 
-pub begin_table-requires : goal.begin_table-requires
-begin_table-requires c =
-    c.requires.2
-
-pub read_types-types-requires-clause-bounds : goal.read_types-types-requires-clause-bounds
-read_types-types-requires-clause-bounds c =
-    c.bounded.ensures.yes c.if-not-bounded.false
-
-pub read_types-types-requires-clause-wf : goal.read_types-types-requires-clause-wf
-read_types-types-requires-clause-wf c =
-    c.begin_table.ensures
-
-pub read_types-types-requires-clause-most_numbers_bound : goal.read_types-types-requires-clause-most_numbers_bound
-read_types-types-requires-clause-most_numbers_bound c =
-    (omega (arith, c.requires.0, capacity_as c.args.table.now c.begin_table.new.table c.begin_table.auto.table), length-replicate {A = ℕ} most_types 0)
-
-pub returns-then-not-types : goal.returns-then-not-types
-returns-then-not-types c =
-    read_not c.refused-then-not-types.ensures (c.read_types-types.ensures.no (not-true _ c.if-not-types.true))
-
-pub read_names-requires-clause-bounds : goal.read_names-requires-clause-bounds
-read_names-requires-clause-bounds c =
-    c.bounded.ensures.yes c.if-not-bounded.false
-
-pub read_names-requires-clause-names_len : goal.read_names-requires-clause-names_len
-read_names-requires-clause-names_len c =
+pub start-requires : goal.start-requires
+start-requires c =
     c.requires.1
+
+pub read_types-requires-clause-most_numbers_bound : goal.read_types-requires-clause-most_numbers_bound
+read_types-requires-clause-most_numbers_bound c =
+    omega (arith, c.requires.0, capacity_as c.args.table.now c.start.new.table c.start.auto.table)
+
+pub returns-in_err-counts : goal.returns-in_err-counts
+returns-in_err-counts c =
+    rw c.from_residual-in_err-counts.ensures (read_not c.in_err-counts.ensures)
 
 pub returns-then-not-read_names : goal.returns-then-not-read_names
 returns-then-not-read_names c =
-    read_not c.refused-then-not-read_names.ensures (c.read_names.ensures.no c.if-not-read_names.true)
-
-pub word_at-n-requires : goal.word_at-n-requires
-word_at-n-requires c =
-    omega (arith, (c.bounded.ensures.yes c.if-not-bounded.false).long)
+    read_not (c.read_names.ensures.no c.if-not-read_names.true)
 
 pub texts_stand-requires : goal.texts_stand-requires
 texts_stand-requires c =
-    read_inside (c.bounded.ensures.yes c.if-not-bounded.false) (c.read_types-types.ensures.yes (not-false _ c.if-not-types.false)) (c.read_names.ensures.yes c.if-not-read_names.false) c.word_at-n.ensures.value
+    read_inside c.in_ok-areas.ensures c.in_ok-counts.ensures (c.read_names.ensures.yes c.if-not-read_names.false) (omega arith)
 
 pub returns-then-not-texts_stand : goal.returns-then-not-texts_stand
 returns-then-not-texts_stand c =
-    read_not c.refused-then-not-texts_stand.ensures (texts_refused (c.bounded.ensures.yes c.if-not-bounded.false) (c.read_types-types.ensures.yes (not-false _ c.if-not-types.false)) (c.read_names.ensures.yes c.if-not-read_names.false) c.word_at-n.ensures.value c.texts_stand.ensures c.if-not-texts_stand.true)
+    read_not (texts_refused c.in_ok-areas.ensures c.in_ok-counts.ensures (c.read_names.ensures.yes c.if-not-read_names.false) (omega arith) c.texts_stand.ensures c.if-not-texts_stand.true)
 
-pub rewrites-stands-requires : goal.rewrites-stands-requires
-rewrites-stands-requires c =
-    read_listing (c.bounded.ensures.yes c.if-not-bounded.false) (c.read_types-types.ensures.yes (not-false _ c.if-not-types.false)) (c.read_names.ensures.yes c.if-not-read_names.false) c.word_at-n.ensures.value
+pub rewrites-requires : goal.rewrites-requires
+rewrites-requires c =
+    read_listing c.in_ok-areas.ensures c.in_ok-counts.ensures (c.read_names.ensures.yes c.if-not-read_names.false) (omega arith)
+
+pub returns-then-not-rewrites : goal.returns-then-not-rewrites
+returns-then-not-rewrites c =
+    read_not (rewrites_not c.in_ok-areas.ensures c.in_ok-counts.ensures (c.read_names.ensures.yes c.if-not-read_names.false) (omega arith) c.texts_stand.ensures c.if-not-texts_stand.false c.rewrites.ensures c.if-not-rewrites.true)
 
 pub returns : goal.returns
 returns c =
-    read_all (c.bounded.ensures.yes c.if-not-bounded.false) (c.read_types-types.ensures.yes (not-false _ c.if-not-types.false)) (c.read_names.ensures.yes c.if-not-read_names.false) c.word_at-n.ensures.value c.texts_stand.ensures c.if-not-texts_stand.false c.rewrites-stands.ensures
+    read_all c.in_ok-areas.ensures c.in_ok-counts.ensures (c.read_names.ensures.yes c.if-not-read_names.false) (omega arith) c.texts_stand.ensures c.if-not-texts_stand.false c.rewrites.ensures c.if-not-rewrites.false

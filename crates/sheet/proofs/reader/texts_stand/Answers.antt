@@ -1,39 +1,15 @@
-use Rattle.sheet.proofs.Ending.{stand_first, stand_inside, stand_not, stand_next, stand_end}
+use Rattle.sheet.proofs.Ending.{stand_not, stand_next, stand_end}
 use native.Mathlib.Omega.{arith}
 use Rattle.sheet.proofs.reader.texts_stand.Goals as goal
 
-pub loop-k-init : goal.loop-k-init
-loop-k-init c =
-    stand_first c.requires
-
-pub start_of-start-requires : goal.start_of-start-requires
-start_of-start-requires c =
-    omega (arith, c.loop-k-test.true, c.requires.few)
-
-pub length_of-len-requires : goal.length_of-len-requires
-length_of-len-requires c =
-    omega (arith, c.loop-k-test.true, c.requires.few)
-
-pub text-requires : goal.text-requires
-text-requires c =
-    c.loop-k.invariant.inside
-
-pub text-requires-in-loop-k : goal.text-requires-in-loop-k
-text-requires-in-loop-k c =
-    stand_inside c.loop-k.invariant c.loop-k-test.true c.start_of-start.ensures c.length_of-len.ensures
-
 pub returns-then-not-text_stands : goal.returns-then-not-text_stands
 returns-then-not-text_stands c =
-    stand_not c.loop-k.invariant c.loop-k-test.true c.start_of-start.ensures c.length_of-len.ensures c.text.ensures c.text-in-loop-k.ensures c.text_stands.ensures c.if-not-text_stands.true
+    stand_not c.loop-name.invariant (omega arith) c.text-spelling.ensures c.text_stands.ensures c.if-not-text_stands.true
 
-pub overflow_add-k : goal.overflow_add-k
-overflow_add-k c =
-    omega (arith, c.loop-k-test.true, c.requires.few)
-
-pub loop-k-preserved : goal.loop-k-preserved
-loop-k-preserved c =
-    stand_next c.loop-k.invariant c.loop-k-test.true c.start_of-start.ensures c.length_of-len.ensures c.text.ensures c.text-in-loop-k.ensures c.text_stands.ensures c.if-not-text_stands.false
+pub loop-name-preserved : goal.loop-name-preserved
+loop-name-preserved c =
+    stand_next c.loop-name.invariant (omega arith) c.text-spelling.ensures c.text_stands.ensures c.if-not-text_stands.false
 
 pub returns : goal.returns
 returns c =
-    stand_end c.loop-k.invariant (λ h. absurd (omega (arith, c.loop-k-test.false)))
+    stand_end c.loop-name.invariant (λ h. absurd (omega arith))

@@ -1,9 +1,5 @@
 use Rattle.sheet.proofs.Ending.{StandLoop}
-use Prim.Native.Nat.{◌-◌}
 use Rattle.sheet.proofs.reader.texts_stand.Given as goal
 
-abbrev pub invariant-loop-k : goal.invariant-loop-k
-invariant-loop-k l = StandLoop l.sheet l.names l.count l.k l.last l.size
-
-abbrev pub decreases-loop-k : goal.decreases-loop-k
-decreases-loop-k l = l.count - l.k
+abbrev pub invariant-loop-name : goal.invariant-loop-name
+invariant-loop-name l = StandLoop l.sheet l.names l.name-index l.last

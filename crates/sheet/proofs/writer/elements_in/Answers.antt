@@ -1,18 +1,10 @@
 use Rattle.sheet.proofs.Sizes.{elements_some, elements_no}
 use Rattle.sheet.proofs.writer.elements_in.Goals as goal
 
-pub kind_of-requires : goal.kind_of-requires
-kind_of-requires c =
-    c.requires
+pub returns-in-Tuple : goal.returns-in-Tuple
+returns-in-Tuple c =
+    elements_some c.kind_of.ensures c.in-Tuple.is c.parts_of.ensures
 
-pub parts_of-requires : goal.parts_of-requires
-parts_of-requires c =
-    c.requires
-
-pub returns-then-kind_of-eq-TUPLE : goal.returns-then-kind_of-eq-TUPLE
-returns-then-kind_of-eq-TUPLE c =
-    elements_some c.kind_of.ensures c.if-kind_of-eq-TUPLE.true c.parts_of.ensures
-
-pub returns : goal.returns
-returns c =
-    elements_no c.kind_of.ensures c.if-kind_of-eq-TUPLE.false
+pub returns-in_default : goal.returns-in_default
+returns-in_default c =
+    elements_no c.kind_of.ensures c.in_default.not-Tuple

@@ -1,34 +1,23 @@
+use mathlib.Core.Path.{refl}
 use Rattle.sheet.proofs.Sizes.{sum_first, sum_number, sum_room, sum_next, sum_end}
 use native.Mathlib.Omega.{arith}
 use Rattle.sheet.proofs.writer.elements_of.Goals as goal
 
 pub loop-k-init : goal.loop-k-init
 loop-k-init c =
-    sum_first c.requires c.mark-n.ensures.value
-
-pub overflow_add-k : goal.overflow_add-k
-overflow_add-k c =
-    omega (arith, c.loop-k-test.true, c.mark-n.ensures.value, c.requires.few)
-
-pub mark-requires : goal.mark-requires
-mark-requires c =
-    omega (arith, c.loop-k-test.true, c.mark-n.ensures.value, c.requires.few)
+    sum_first c.requires refl
 
 pub elements_in-sum-requires : goal.elements_in-sum-requires
 elements_in-sum-requires c =
-    sum_number c.loop-k.invariant c.loop-k-test.true c.mark.ensures.value
+    sum_number c.loop-k.invariant (omega arith) c.type_at.ensures
 
 pub overflow_add-sum : goal.overflow_add-sum
 overflow_add-sum c =
-    omega (arith, sum_room c.loop-k.invariant c.loop-k-test.true c.mark.ensures.value c.elements_in-sum.ensures)
-
-pub overflow_add-k-in-loop-k : goal.overflow_add-k-in-loop-k
-overflow_add-k-in-loop-k c =
-    omega (arith, c.loop-k-test.true, c.mark-n.ensures.value, c.requires.few)
+    omega (arith, sum_room c.loop-k.invariant (omega arith) c.type_at.ensures c.elements_in-sum.ensures)
 
 pub loop-k-preserved : goal.loop-k-preserved
 loop-k-preserved c =
-    sum_next c.loop-k.invariant c.loop-k-test.true c.mark.ensures.value c.elements_in-sum.ensures
+    sum_next c.loop-k.invariant (omega arith) c.type_at.ensures c.elements_in-sum.ensures
 
 pub returns-clause-value : goal.returns-clause-value
 returns-clause-value c =

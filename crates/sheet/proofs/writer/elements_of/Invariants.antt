@@ -1,10 +1,6 @@
 use Rattle.sheet.proofs.Sizes.{SumLoop}
 use Rattle.sheet.specs.Marks.{tab_of}
-use Prim.Native.Nat.{◌-◌}
 use Rattle.sheet.proofs.writer.elements_of.Given as goal
 
 abbrev pub invariant-loop-k : goal.invariant-loop-k
-invariant-loop-k l = SumLoop (tab_of l.table l.marks) l.marks l.n l.k l.sum
-
-abbrev pub decreases-loop-k : goal.decreases-loop-k
-decreases-loop-k l = l.n - l.k
+invariant-loop-k l = SumLoop (tab_of l.table l.marks) l.marks l.marks.met l.k l.sum

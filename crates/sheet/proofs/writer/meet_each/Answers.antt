@@ -3,26 +3,18 @@ use mathlib.Core.Path.{refl, ◌∙◌}
 use native.Mathlib.Omega.{arith}
 use Rattle.sheet.proofs.writer.meet_each.Goals as goal
 
-pub loop-k-init : goal.loop-k-init
-loop-k-init c =
+pub loop-name-init : goal.loop-name-init
+loop-name-init c =
     (meet_first c.requires.meeting, refl)
-
-pub type_of-requires : goal.type_of-requires
-type_of-requires c =
-    omega (arith, c.loop-k-test.true, c.requires.meeting.few)
 
 pub visit-requires : goal.visit-requires
 visit-requires c =
-    meet_visit c.loop-k.invariant.0 c.requires.open_room c.loop-k.invariant.1 c.loop-k-test.true c.type_of.ensures
+    meet_visit c.loop-name.invariant.0 c.requires.open_room c.loop-name.invariant.1 (omega arith)
 
-pub overflow_add-k : goal.overflow_add-k
-overflow_add-k c =
-    omega (arith, c.loop-k-test.true, c.requires.meeting.few)
-
-pub loop-k-preserved : goal.loop-k-preserved
-loop-k-preserved c =
-    (meet_next c.loop-k.invariant.0 c.loop-k-test.true c.type_of.ensures c.visit.ensures.visited, c.visit.ensures.path_len_unchanged ∙ c.loop-k.invariant.1)
+pub loop-name-preserved : goal.loop-name-preserved
+loop-name-preserved c =
+    (meet_next c.loop-name.invariant.0 (omega arith) c.visit.ensures.visited, c.visit.ensures.path_len_unchanged ∙ c.loop-name.invariant.1)
 
 pub returns : goal.returns
 returns c =
-    meet_end c.loop-k.invariant.0 (λ h. absurd (omega (arith, c.loop-k-test.false)))
+    meet_end c.loop-name.invariant.0 (λ h. absurd (omega arith))

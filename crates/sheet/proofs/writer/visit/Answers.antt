@@ -1,4 +1,4 @@
-use Rattle.sheet.proofs.Visiting.{begun_long, visit_number, visit_nothing, visit_begins, walk_first, walk_step, walk_less, walk_next, walk_end}
+use Rattle.sheet.proofs.Visiting.{begun_long, visit_number, visit_nothing, walk_first, walk_step, walk_less, walk_next, walk_end}
 use mathlib.Core.Path.{refl, ◌∙◌}
 use native.Mathlib.Omega.{arith}
 use Rattle.sheet.proofs.writer.visit.Goals as goal
@@ -15,13 +15,9 @@ pub returns-then-not-is_new-clause-path_len_unchanged : goal.returns-then-not-is
 returns-then-not-is_new-clause-path_len_unchanged c =
     refl
 
-pub begin_type-requires : goal.begin_type-requires
-begin_type-requires c =
-    visit_begins c.requires c.is_new.ensures c.if-not-is_new.false
-
 pub loop-depth-init : goal.loop-depth-init
 loop-depth-init c =
-    walk_first c.requires c.is_new.ensures c.if-not-is_new.false c.begin_type.ensures
+    walk_first c.requires c.is_new.ensures c.if-not-is_new.false refl
 
 pub step-depth-requires : goal.step-depth-requires
 step-depth-requires c =
@@ -41,4 +37,4 @@ returns-clause-visited c =
 
 pub returns-clause-path_len_unchanged : goal.returns-clause-path_len_unchanged
 returns-clause-path_len_unchanged c =
-    c.loop-depth.invariant.long ∙ begun_long c.args.path.now 0 c.args.i c.begin_type.ensures
+    c.loop-depth.invariant.long ∙ begun_long c.args.path.now 0 c.args.i refl

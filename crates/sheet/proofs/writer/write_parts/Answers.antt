@@ -26,10 +26,6 @@ pub overflow_add-at : goal.overflow_add-at
 overflow_add-at c =
     omega (arith, parts_room c.loop-j.invariant c.loop-j-test.true)
 
-pub overflow_cast-w : goal.overflow_cast-w
-overflow_cast-w c =
-    omega (arith, c.number_of-w.ensures.upper_bound)
-
 pub put_word-requires : goal.put_word-requires
 put_word-requires c =
     parts_room c.loop-j.invariant c.loop-j-test.true
@@ -37,14 +33,6 @@ put_word-requires c =
 pub loop-j-preserved : goal.loop-j-preserved
 loop-j-preserved c =
     parts_next c.loop-j.invariant c.loop-j-test.true c.part_at.ensures c.number_of-w.ensures.number_of (put_one (c.put_word.ensures.buf_after, c.put_word.ensures.buf_len_unchanged))
-
-pub overflow_mul-result : goal.overflow_mul-result
-overflow_mul-result c =
-    omega (arith, c.loop-j.invariant.room)
-
-pub overflow_add-result : goal.overflow_add-result
-overflow_add-result c =
-    omega (arith, c.loop-j.invariant.room)
 
 pub returns-clause-put : goal.returns-clause-put
 returns-clause-put c =

@@ -1,9 +1,5 @@
 use Rattle.sheet.proofs.Areas.{TextsLoop}
-use Prim.Native.Nat.{◌-◌}
 use Rattle.sheet.proofs.writer.write_texts.Given as goal
 
-abbrev pub invariant-loop-k : goal.invariant-loop-k
-invariant-loop-k l = TextsLoop l.source l.names l.count l.initial.out l.from l.k l.at l.out
-
-abbrev pub decreases-loop-k : goal.decreases-loop-k
-decreases-loop-k l = l.count - l.k
+abbrev pub invariant-loop-name : goal.invariant-loop-name
+invariant-loop-name l = TextsLoop l.source l.names l.initial.out l.from l.name-index l.at l.out

@@ -1,50 +1,31 @@
+use mathlib.Core.Path.{refl}
 use Rattle.sheet.proofs.Areas.{types_first, types_met, types_room, types_sum, types_next, types_end, met_room}
 use native.Mathlib.Omega.{arith}
 use Rattle.sheet.proofs.writer.write_types.Goals as goal
 
 pub loop-k-init : goal.loop-k-init
 loop-k-init c =
-    types_first c.requires.marked c.requires.marks_in_bounds c.mark-n.ensures.value
-
-pub overflow_add-k : goal.overflow_add-k
-overflow_add-k c =
-    omega (arith, c.loop-k-test.true, c.mark-n.ensures.value, c.requires.marked.few)
-
-pub mark-i-requires : goal.mark-i-requires
-mark-i-requires c =
-    omega (arith, c.loop-k-test.true, c.mark-n.ensures.value, c.requires.marked.few)
-
-pub overflow_mul-k : goal.overflow_mul-k
-overflow_mul-k c =
-    omega (arith, c.loop-k-test.true, c.mark-n.ensures.value, c.requires.marked.few)
-
-pub overflow_add-k-in-loop-k : goal.overflow_add-k-in-loop-k
-overflow_add-k-in-loop-k c =
-    omega (arith, c.loop-k-test.true, c.mark-n.ensures.value, c.requires.marked.few)
+    types_first c.requires.marked c.requires.marks_in_bounds refl
 
 pub write_type-requires-clause-met : goal.write_type-requires-clause-met
 write_type-requires-clause-met c =
-    types_met c.loop-k.invariant c.loop-k-test.true c.mark-i.ensures.value
+    types_met c.loop-k.invariant (omega arith) c.type_at-i.ensures
 
 pub write_type-requires-clause-from_le_most_written : goal.write_type-requires-clause-from_le_most_written
 write_type-requires-clause-from_le_most_written c =
-    types_room c.loop-k.invariant c.loop-k-test.true
+    types_room c.loop-k.invariant (omega arith)
 
 pub elements_in-from-requires : goal.elements_in-from-requires
 elements_in-from-requires c =
-    met_room (types_met c.loop-k.invariant c.loop-k-test.true c.mark-i.ensures.value)
+    met_room (types_met c.loop-k.invariant (omega arith) c.type_at-i.ensures)
 
 pub overflow_add-from : goal.overflow_add-from
 overflow_add-from c =
-    omega (arith, types_sum c.loop-k.invariant c.loop-k-test.true c.mark-i.ensures.value c.elements_in-from.ensures)
-
-pub overflow_add-k-in-loop-k-2 : goal.overflow_add-k-in-loop-k-2
-overflow_add-k-in-loop-k-2 c =
-    omega (arith, c.loop-k-test.true, c.mark-n.ensures.value, c.requires.marked.few)
+    omega (arith, types_sum c.loop-k.invariant (omega arith) c.type_at-i.ensures c.elements_in-from.ensures)
 
 pub loop-k-preserved : goal.loop-k-preserved
 loop-k-preserved c =
-    types_next c.loop-k.invariant c.loop-k-test.true c.mark-i.ensures.value c.write_type.ensures c.elements_in-from.ensures
+    types_next c.loop-k.invariant (omega arith) c.type_at-i.ensures c.write_type.ensures c.elements_in-from.ensures
 
 pub returns : goal.returns
 returns c =
