@@ -1,5 +1,5 @@
 -- Forming a Tuple: its record is there already, or its elements and its record are written at the end.
-use mathlib.Core.Path.{◌≡◌, refl, sym, ap, ◌∙◌}
+use mathlib.Core.Path.{◌≡◌, refl, sym, ap, subst, ◌∙◌}
 use mathlib.Core.Bool.{Bool}
 use mathlib.Core.List.{List, map}
 use Prim.Native.Nat.{ℕ, ◌+◌, ◌-◌, ◌≤◌, ◌<◌}
@@ -15,6 +15,8 @@ use Rattle.meaning.specs.Types.{Ty, tuple, tys, kind, parts}
 use Rattle.types.specs.Layout.{kind_in, first_in, second_in, elements_from, slots_from}
 use Rattle.types.specs.Table.{Tab, tab, capacity, kind_at, first_at, second_at, tuple_hash, slot_of, shaped, shape, denote, Made}
 use Rattle.types.specs.Steps.{Told, Found, Added, Listed, TupleAt}
+use Rattle.words.specs.Words.{put_at}
+use Rattle.words.proofs.Steps.{put_part_at}
 use Rattle.types.proofs.Room.{capacity_within, capacity_as}
 use Rattle.types.proofs.Pieces.{piece, piece_at, piece_long, piece_same, piece_inj, tuple_parts}
 use Rattle.types.proofs.Laws.{record_kind, tuple_is, parts_of}
@@ -46,8 +48,11 @@ copied_at cs a k es e l =
       elements = rw until at (between-put_mid a k cs es (a + length es) (omega arith) (sym until));
     }
 
-pub copied : (cs : List ℕ) {a b k : ℕ} {es fs : List ℕ} → b ≡ a → fs ≡ es → length es ≡ k → a + k ≤ length cs → Copied cs (put_mid b k cs fs) a es
-copied cs {a} {b} {k} {es} {fs} e f m l = rw (e, f) (copied_at cs a k es m l)
+pub copied : (cs : List ℕ) {a b k : ℕ} {es ds : List ℕ} → b ≡ a → ds ≡ put_at cs b es → length es ≡ k → a + k ≤ length cs → Copied cs ds a es
+copied cs {a} {b} {k} {es} {ds} e w m l =
+    let until : a + length es - a ≡ k = omega arith in
+    let mid : put_mid a k cs es ≡ put_at cs a es = rw until at (put_part_at cs a es) in
+    rw (w, e) (subst (λ (xs : List ℕ). Copied cs xs a es) mid (copied_at cs a k es m l))
 
 -- ---- whether a record is the Tuple asked for, where its kind and its count are
 

@@ -9,6 +9,7 @@
 #![tactic(auto, using(crate::proofs::Room::capacity_within, crate::proofs::Room::slots_within))]
 
 ghost use Rattle.std.specs.Prelude.{◌≡◌, map, length, get_or, take, drop, Bool, true, ℕ, ◌+◌, ◌*◌, ◌≤◌, ◌<◌};
+ghost use Rattle.words.specs.Words.{put_at};
 ghost use Rattle.meaning.specs.Types.{tuple, tys};
 ghost use Rattle.types.specs.Layout.{capacity, kind_cell, second_cell, link_cell, elements_from};
 ghost use Rattle.types.specs.Kinds.{kind_number, Numbered};
@@ -284,6 +285,16 @@ fn hash_of(elements: &[u16]) -> usize
     h
 }
 
+// Writes the elements to the cells from `at` on; one by one, for the reason that `words::put` gives.
+fn copy(table: &mut [u16], at: usize, elements: &[u16])
+    requires { at + length elements.now ≤ length table.old }
+    ensures { table.new ≡ put_at table.old at elements.now }
+{
+    for j in 0..elements.len() {
+        table[at + j] = elements[j];
+    }
+}
+
 // The number of the Tuple of the n numbers of the stack from `from` on: the one it has, or the next one.
 pub fn tuple_of(table: &mut [u16], counts: Counts, stack: &[u16], from: usize, n: usize) -> Formed
     requires { Listed (tab table.old counts.types counts.elements) stack.now from n }
@@ -305,8 +316,7 @@ pub fn tuple_of(table: &mut [u16], counts: Counts, stack: &[u16], from: usize, n
     if let Some(number) = find(table, slot, types, is_it) {
         return Formed { number, counts };
     }
-    let at = first + counts.elements;
-    table[at..at + n].copy_from_slice(elements);
+    copy(table, first + counts.elements, elements);
     add(
         table,
         slot,

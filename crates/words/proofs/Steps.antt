@@ -1,19 +1,14 @@
 -- What std's methods tell, in the documents' words, and one digit more. Assumes nothing.
 use Rattle.std.proofs.Common.{◌≡◌, refl, sym, ap, ◌∙◌, zero, suc, ◌*◌, ◌^◌, max, Bool, true, false, ◌&&◌, List, [], ◌∷◌, ℕ, ◌+◌, ◌-◌, ◌/◌, ◌%◌, ◌<◌, ◌≤◌, length, drop-drop, append_assoc, nat_eq, nat_le, arith}
-use Rattle.std.specs.Cmp.Lexicographic.{pointwise, slice_partial_cmp}
-use Rattle.std.specs.List.{list_all}
+use Rattle.std.specs.Cmp.Lexicographic.{pointwise}
 use Rattle.std.specs.Char.{is_ascii_graphic}
 use Rattle.std.specs.Int.{w32, to_le_bytes}
-use Rattle.std.specs.Ordering.{partial_lt, nat_cmp}
-use Rattle.std.specs.Prelude.{Some}
 use borrow.Rule.Slice.PartMut.{put_mid}
 use lib.ListN.{set}
-use native.Mathlib.Decide.{dec_lt}
 use native.Mathlib.Numerals.{add-one, add-two, add-three}
 use lib.Seq.{sets-eq}
 use native.Mathlib.Nat.{div-div-eq-div-mul, add-sub_cancel_left, one-le-pow, pow-suc}
-use borrow.Author.Tests.{eq-eqb, ne_eqb, lt-ltb, le-ltb}
-use Rattle.meaning.specs.Base.{◌and◌, test◌then◌else◌, all, same_text, before, decimal, words}
+use Rattle.meaning.specs.Base.{◌and◌, same_text, decimal, words}
 use Rattle.meaning.specs.Image.{printable}
 use Rattle.meaning.proofs.SheetWords.{Small}
 use Rattle.words.specs.Words.{put_at}
@@ -33,35 +28,9 @@ equal_texts [] (y ∷ ys) = refl
 equal_texts (x ∷ xs) [] = refl
 equal_texts (x ∷ xs) (y ∷ ys) = rw (equal_texts xs ys) (and_is (nat_eq x y) (same_text xs ys))
 
--- the first text is less
-abbrev pub Less : List ℕ → List ℕ → Bool
-Less xs ys = partial_lt (slice_partial_cmp (λ x y. Some (nat_cmp x y))) xs ys
-
-pub less_text : (xs ys : List ℕ) → Less xs ys ≡ before xs ys
-unfolding before test◌then◌else◌
-less_text [] [] = refl
-less_text [] (y ∷ ys) = refl
-less_text (x ∷ xs) [] = refl
-less_text (x ∷ xs) (y ∷ ys) =
-    elim (dec_lt x y) [
-      | yes h ↦ rw (lt-ltb x y h, ne_eqb x y (λ e. omega arith))
-      | no n ↦
-          elim (dec_lt y x) [
-            | yes h ↦ rw (le-ltb x y (omega arith), ne_eqb x y (λ e. omega arith))
-            | no m ↦ rw (le-ltb x y (omega arith), eq-eqb x y (omega arith)) (less_text xs ys)
-          ]
-    ]
-
 pub graphic : (b : ℕ) → is_ascii_graphic b ≡ printable b
 unfolding printable
 graphic b = and_is (nat_le 33 b) (nat_le b 126)
-
-pub all_graphic : (xs : List ℕ) → list_all is_ascii_graphic xs ≡ all printable xs
-unfolding all
-all_graphic [] = refl
-all_graphic (x ∷ xs) = rw (graphic x, all_graphic xs) (and_is (printable x) (all printable xs))
-
--- ---- stores
 
 -- a part of d, as long as s, became s
 pub put_part_at : (d : List ℕ) (at : ℕ) (s : List ℕ) → put_mid at (at + length s - at) d s ≡ put_at d at s

@@ -47,7 +47,12 @@ pub fn same(a: &[u8], b: &[u8]) -> bool
 pub fn before(a: &[u8], b: &[u8]) -> bool
     ensures { result ≡ comes_before a.now b.now }
 {
-    a < b
+    for i in 0..a.len().min(b.len()) {
+        if a[i] != b[i] {
+            return a[i] < b[i];
+        }
+    }
+    a.len() < b.len()
 }
 
 // ---- what a text of a name may be
@@ -56,7 +61,12 @@ pub fn before(a: &[u8], b: &[u8]) -> bool
 fn all_printable(s: &[u8]) -> bool
     ensures { result ≡ all printable s.now }
 {
-    s.iter().all(|b| b.is_ascii_graphic())
+    for i in 0..s.len() {
+        if !s[i].is_ascii_graphic() {
+            return false;
+        }
+    }
+    true
 }
 
 // "Text length 1..64"; texts "ascend strictly as byte strings": an image's names and a sheet's. `last` is the text
@@ -69,15 +79,17 @@ pub fn text_stands(last: &[u8], s: &[u8]) -> bool
 
 // ---- copies
 
-// Returns where s ends in buf.
+// Returns where s ends in buf. Byte by byte, since `copy_from_slice` becomes a call of memmove where the length is not
+// constant, which an archive for C would need from outside.
 pub fn put(buf: &mut [u8], at: usize, s: &[u8]) -> usize
     requires { at + length s.now ≤ length buf.old }
     ensures buf_after { buf.new ≡ put_at buf.old at s.now }
     ensures value { result ≡ at + length s.now }
 {
-    let end = at + s.len();
-    buf[at..end].copy_from_slice(s);
-    end
+    for j in 0..s.len() {
+        buf[at + j] = s[j];
+    }
+    at + s.len()
 }
 
 // ---- numbers in decimal

@@ -1,7 +1,6 @@
-use mathlib.Core.Path.{refl, sym, ap, ◌∙◌}
+use mathlib.Core.Path.{refl, ap, ◌∙◌}
 use Prim.Native.Nat.{◌+◌}
 use native.Mathlib.Omega.{arith}
-use lib.ListN.{length-append, length-take, length-drop}
 use Rattle.types.specs.Table.{slot_of}
 use Rattle.types.proofs.Room.{capacity_within}
 use Rattle.types.proofs.Pieces.{part_long}
@@ -24,12 +23,12 @@ returns-in-Some c =
 
 pub add-requires : goal.add-requires
 add-requires c =
-    add_room _ (simp (length-append, length-take, length-drop) (omega (arith, c.copy_from_slice.auto.self, c.requires.space, c.base-first.ensures, capacity_within c.args.table.now))) c.requires.wf c.requires.room (tuple_slot c.requires (c.slot_of-slot.ensures ∙ ap (slot_of _) (rw part_long at c.hash_of.ensures)))
+    add_room _ c.copy.auto.table c.requires.wf c.requires.room (tuple_slot c.requires (c.slot_of-slot.ensures ∙ ap (slot_of _) (rw part_long at c.hash_of.ensures)))
 
 pub returns : goal.returns
 returns c =
     tuple_new _ _ _ _ c.requires (found_tested (λ i h q. rw part_long at (q.yes refl)) (λ i h q. told_yes (rw part_long q)) c.find.ensures) c.in_default.is
     (c.slot_of-slot.ensures ∙ ap (slot_of _) (rw part_long at c.hash_of.ensures))
-    (copied _ (ap (λ x. x + c.args.counts.elements) c.base-first.ensures) (rw part_long at c.copy_from_slice.ensures.after) (many _ _ _ _ c.requires ∙ sym (part_long _ _))
+    (copied _ (ap (λ x. x + c.args.counts.elements) c.base-first.ensures) (rw part_long at c.copy.ensures) (many _ _ _ _ c.requires)
     (omega (arith, c.requires.space, capacity_within c.args.table.now)))
     c.add.ensures
