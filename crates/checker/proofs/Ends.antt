@@ -9,7 +9,6 @@ use native.Mathlib.Omega.{arith}
 use native.Mathlib.Decide.{ℕ_discrete}
 use borrow.Author.Tests.{eq-eqb, ne_eqb}
 use lib.ListN.{length, get_or}
-use Rattle.codes.specs.Codes.{code_number}
 use Rattle.std.specs.Prelude.{Option, Some, None, Ok, Err, ok_or}
 use Rattle.meaning.specs.Base.{test◌then◌else◌, if_some}
 use Rattle.meaning.specs.Image.{node_count, nodes_of, node_of, names_of}
@@ -74,10 +73,10 @@ module _ {bs : List ℕ} {nodes : ℕ} {t : Tab} {ns : Notes} (r : Refusing bs n
   refuse_tells = record { wf = r.wf; first = r.named.first; second = r.named.second; small = r.named.small }
 
   pub refuse_there : ns.place < node_count bs
-  refuse_there = r.named.placed (λ e. absurd (omega (arith, r.typing)))
+  refuse_there = r.named.placed (λ e. absurd (omega (arith, r.typing.0)))
 
   pub refused : {node : ImageNode} (first : First) {q : Refusal} {old new : List ℕ} → node ≡ node_of (nodes_of bs) ns.place → first_node first ≡ second_place ns
-      → code_number q.code ≡ code_in ns → q.place ≡ ns.place → q.begins ≡ node.span_start → q.ends ≡ node.span_end
+      → q.code ≡ code_in ns → q.place ≡ ns.place → q.begins ≡ node.span_start → q.ends ≡ node.span_end
       → q.second_begins ≡ first_start (nodes_of bs) (first_node first) → q.second_ends ≡ first_end (nodes_of bs) (first_node first)
       → q.message ≡ length (told bs t (code_in ns) ns.first ns.second (length old))
       → new ≡ overlaid (told bs t (code_in ns) ns.first ns.second (length old)) old → Told (refused_as bs t ns (length old)) (Err (Typing q)) old new
@@ -127,9 +126,9 @@ module _ {bs : List ℕ} {setting : Setting} {t u : Tab} {gs : Rows} {top : ℕ}
   wrong_is = r.says ∙ rw (ne_eqb (code_in ns) 0 z, ne_eqb (code_in ns) 9 n)
 
   -- a refusal of the walk has a typing code
-  pub ran_typing : 20 ≤ (code_in ns)
+  pub ran_typing : (20 ≤ code_in ns) × (code_in ns ≤ 50)
   unfolding walked
-  ran_typing = (refused_typing (names_of bs) setting (tree_of (nodes_of bs)) _ _ wrong_is).above
+  ran_typing = let t = refused_typing (names_of bs) setting (tree_of (nodes_of bs)) _ _ wrong_is in (t.above, t.below)
 
   pub ran_ill : (x y : ℕ) → walk_answer setting bs x y ≡ refused_as bs u ns y
   unfolding walk_answer concluded refused_as

@@ -20,8 +20,6 @@ use Rattle.meaning.proofs.Listed.{listing_of}
 use Rattle.meaning.proofs.Answers.{overlaid_none, plain_is, strict_is, no_setting, fault_first, tree_set_next, walk_last}
 use Rattle.types.specs.Table.{Tab}
 use Rattle.frames.specs.Env.{Rows, frames_of}
-use Rattle.codes.specs.Codes.{code_number}
-use Rattle.codes.proofs.Laws.{code_of, code_again}
 use Rattle.state.specs.Notes.{code_in, Places, places_in}
 use Rattle.state.specs.declared.Notes.{Notes}
 use Rattle.stmt.specs.Contract.{Ran}
@@ -137,8 +135,8 @@ module _ {bs : List ℕ} {setting : Setting} {t u : Tab} {gs : Rows} {top : ℕ}
         replies = record {
           numbers = w.numbers;
           near = omega (arith, (r.named n).placed z, (sizes h.headed).nodes);
-          roomy = λ l t. omega (arith, t, k);
-          form = λ t. absurd (omega (arith, t, k));
+          roomy = λ l t. omega (arith, t, k.0);
+          form = λ t. absurd (omega (arith, t, k.0));
           legible = message_legible h u (code_in ns) ns.place (second_place ns) ns.first ns.second (length old);
           sheet = kept s;
           message = w.message;
@@ -175,7 +173,7 @@ module _ (n : ℕ) (bs : List ℕ) (x y : ℕ) where
 unfoldable answer_from : Numbers → Answer
 answer_from n =
     choose n.code
-    (Err (Typing (record { code = code_of n.code; place = n.place; begins = n.span_start; ends = n.span_end; second_begins = n.second_start; second_ends = n.second_end; message = n.message })))
+    (Err (Typing (record { code = n.code; place = n.place; begins = n.span_start; ends = n.span_end; second_begins = n.second_start; second_ends = n.second_end; message = n.message })))
     ((0, Ok n.sheet) ∷ (1, Err (Faulty BadHead)) ∷ (2, Err (Faulty BadCount)) ∷ (3, Err (Faulty BadOffset)) ∷ (4, Err (Faulty (BadName n.place)))
     ∷ (5, Err (Faulty (UnsafeName n.place))) ∷ (6, Err (Faulty (BadNode n.place))) ∷ (7, Err (Faulty (BadNesting n.place))) ∷ (8, Err (Faulty (TooDeep n.place)))
     ∷ (9, Err (NinthFrame n.place)) ∷ (10, Err ShortBuffer) ∷ (13, Err NoSetting) ∷ (14, Err (Retired n.place)) ∷ [])
@@ -199,7 +197,7 @@ answer_back (Err ShortBuffer) s = refl
 answer_back (Err NoSetting) s = refl
 answer_back (Err (Retired i)) s = refl
 answer_back (Err (Typing q)) s =
-    let n : (k : ℕ) → k ≤ 14 → eqb (code_number q.code) k ≡ false = λ k l. not_below (code_number q.code) k s l in
+    let n : (k : ℕ) → k ≤ 14 → eqb q.code k ≡ false = λ k l. not_below q.code k s.0 l in
     rw (
       n 0 (omega arith),
       n 1 (omega arith),
@@ -214,7 +212,6 @@ answer_back (Err (Typing q)) s =
       n 10 (omega arith),
       n 13 (omega arith),
       n 14 (omega arith),
-      code_again q.code,
     )
 
 -- answers with the same numbers are equal

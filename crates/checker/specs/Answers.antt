@@ -7,7 +7,6 @@ use Rattle.meaning.specs.Answer.{overlaid, bare, write_answer, walk_answer}
 use Rattle.meaning.specs.Answer.{Answer as Meant}
 use Rattle.meaning.specs.Walk.{plain, strict}
 use Rattle.meaning.specs.Walk.{Setting as MeantSetting}
-use Rattle.codes.specs.Codes.{code_number}
 use Rattle.image.specs.Outcome.{fault_in}
 use Rattle.checker.specs.declared.Setting.{Setting}
 use Rattle.checker.specs.declared.Setting.TheVariants.{Plain, Strict}
@@ -64,7 +63,7 @@ numbers_of (Err NoSetting) = bare_numbers 13 0
 numbers_of (Err (Retired i)) = bare_numbers 14 i
 numbers_of (Err (Typing r)) =
     record {
-      code = code_number r.code;
+      code = r.code;
       place = r.place;
       span_start = r.begins;
       span_end = r.ends;
@@ -82,7 +81,7 @@ Stands (Err (NinthFrame i)) = Unit {0}
 Stands (Err ShortBuffer) = Unit {0}
 Stands (Err NoSetting) = Unit {0}
 Stands (Err (Retired i)) = Unit {0}
-Stands (Err (Typing r)) = 20 ≤ code_number r.code
+Stands (Err (Typing r)) = (20 ≤ r.code) × (r.code ≤ 50)
 
 -- the numbers of an answer of `meaning`
 abbrev pub numbers_in : Meant → Numbers

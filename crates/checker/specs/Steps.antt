@@ -50,7 +50,7 @@ pub record Refusing (bs : List ℕ) (nodes : ℕ) (t : Tab) (ns : Notes) : Type 
   pub wf : Wf t
   pub named : Named t (node_count bs) (code_in ns) (places_in ns) (first_in ns) (second_in ns)
   pub near : (f : First) → first_node f ≡ second_place ns → FirstBelow (node_count bs) f
-  pub typing : 20 ≤ code_in ns
+  pub typing : (20 ≤ code_in ns) × (code_in ns ≤ 50)
 
 -- the span of a first node, and 0,0 where there is none
 abbrev pub first_start : List Node → Option ℕ → ℕ

@@ -18,10 +18,9 @@ ghost use Rattle.checker.specs.Answers.{numbers_of, numbers_in, bare_numbers};
 ghost use Rattle.checker.specs.Answers.{reading_numbers, rewriting_numbers, rewritten, reply_means};
 ghost use Rattle.checker.specs.Answers.{Replies, Relaid, sheet_numbers};
 ghost use Rattle.state.specs.Notes.{tab_in, top_in};
-ghost use Rattle.checker.specs.Steps.{Sized, Lent, Accepting, Refusing, refused_as};
+ghost use Rattle.checker.specs.Steps.{Sized, Lent, Accepting, Refusing, second_place, refused_as};
 ghost use Rattle.checker.specs.Steps.{first_start, first_end};
 
-use codes::Code;
 use frames::{EMPTY, First, Frames};
 use image::{Fault, Numbers, areas, first_tree_set, judge, node_at};
 use limits::MOST_NODES;
@@ -29,7 +28,7 @@ use names::list_names;
 use sheet::list::NO_ENTRIES;
 use sheet::{TABLE_CELLS, read};
 use state::Notes;
-use stmt::{Stop, first_place, typecheck_program};
+use stmt::{Stop, typecheck_program};
 use types::{CELLS, FRESH, STRUCTURED, start};
 
 // The two settings (document 02). On a race weekend no typing error in a body of an If or a While may pass: strict
@@ -70,7 +69,7 @@ impl Setting {
 // For 25 and 23, the second span is that of the node which first made the old type known; for every other code, 0,0.
 #[derive(Clone, Copy, PartialEq, Eq)]
 pub struct Refusal {
-    pub code: Code,
+    pub code: u32,
     pub place: usize,
     pub begins: u32,
     pub ends: u32,
@@ -143,14 +142,22 @@ fn span_of(image: &[u8], nodes: usize, first: First) -> Span
     }
 }
 
-fn refuse(image: &[u8], nodes: usize, table: &[u16], notes: &Notes, message: &mut [u8]) -> Answer
-    requires { Refusing image.now nodes (tab_in table.now notes.now) notes.now }
+fn refuse(
+    image: &[u8],
+    nodes: usize,
+    table: &[u16],
+    notes: &Notes,
+    first: First,
+    message: &mut [u8],
+) -> Answer
+    requires refusing { Refusing image.now nodes (tab_in table.now notes.now) notes.now }
+    requires points { first_node first ≡ second_place notes.now }
     ensures { Told (refused_as image.now (tab_in table.now notes.now) notes.now (length message.old))
         result message.old message.new }
 {
     let (code, place) = (notes.code.unwrap(), notes.place);
     let node = node_at(image, nodes, place);
-    let second = span_of(image, nodes, first_place(notes));
+    let second = span_of(image, nodes, first);
     let length = message::write(
         image,
         table,
@@ -192,7 +199,7 @@ fn walk_in(
     let end = w.end;
     match end {
         Ok(()) => accept(image, table, &w.notes, &frames, sheet),
-        Err(Stop::Wrong) => refuse(image, nodes, table, &w.notes, message),
+        Err(Stop::Wrong) => refuse(image, nodes, table, &w.notes, w.first, message),
         Err(Stop::TooDeep) => Err(Refused::NinthFrame(w.notes.place)),
     }
 }
@@ -370,7 +377,7 @@ pub fn replied(a: Answer) -> Reply
         Err(Refused::NoSetting) => bare(NO_SETTING, 0),
         Err(Refused::Retired(i)) => bare(RETIRED, i),
         Err(Refused::Typing(r)) => Reply {
-            code: r.code.number(),
+            code: r.code,
             span_start: r.begins,
             span_end: r.ends,
             second_start: r.second_begins,

@@ -1,5 +1,5 @@
 -- The codes of typing refusals are 20 to 50, and each has a number of its own.
-use Rattle.std.proofs.Common.{◌≡◌, ℕ, ◌-◌, ◌≤◌, List, [], ◌∷◌, get_or, refl, sym, ap, ◌∙◌, arith}
+use Rattle.std.proofs.Common.{◌≡◌, ℕ, ◌-◌, ◌≤◌, [], ◌∷◌, get_or, refl, sym, ap, ◌∙◌, arith}
 use Rattle.codes.specs.declared.Code.{Code}
 use Rattle.codes.specs.declared.Code.TheVariants.{Break, Continue, InconsistentReturn, IncompatibleBranches, NotIterable, CannotAssign, UnpackLength, UnpackNonIterable, InvalidTarget, Plus, Times, Compare, Equality, NumericPair, IntOrFloat, ExpectedBool, Condition, BuiltinArity, FunctionArity, Input, Len, Range, MapFirst, MapSecond, FilterFirst, FilterSecond, ListIndex, DictKey, TupleIndex, StringIndex, NotSubscriptable}
 use Rattle.codes.specs.Codes.{code_number}

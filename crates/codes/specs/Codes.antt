@@ -1,6 +1,7 @@
 -- The numbers of the codes of typing refusals, as document 01 has them.
-use Rattle.std.specs.Prelude.{ℕ}
+use Rattle.std.specs.Prelude.{◌≡◌, ℕ, ◌<◌, ◌⊎◌, Result, Ok, Err}
 use Rattle.codes.specs.declared.Code.{Code}
+use Rattle.codes.specs.declared.NoCode.{NoCode}
 use Rattle.codes.specs.declared.Code.TheVariants.{Break, Continue, InconsistentReturn, IncompatibleBranches, NotIterable, CannotAssign, UnpackLength, UnpackNonIterable, InvalidTarget, Plus, Times, Compare, Equality, NumericPair, IntOrFloat, ExpectedBool, Condition, BuiltinArity, FunctionArity, Input, Len, Range, MapFirst, MapSecond, FilterFirst, FilterSecond, ListIndex, DictKey, TupleIndex, StringIndex, NotSubscriptable}
 
 abbrev pub code_number : Code → ℕ
@@ -35,3 +36,8 @@ code_number DictKey = 47
 code_number TupleIndex = 48
 code_number StringIndex = 49
 code_number NotSubscriptable = 50
+
+-- a number as a code: the one that has it, or none, below 20 and above 50
+abbrev pub CodeOf : ℕ → Result Code NoCode → Type 0
+CodeOf n (Ok c) = code_number c ≡ n
+CodeOf n (Err e) = (n < 20) ⊎ (50 < n)

@@ -2,7 +2,7 @@
 #![tactic(auto)]
 
 ghost use Rattle.std.specs.Prelude.{◌≡◌};
-ghost use Rattle.codes.specs.Codes.{code_number};
+ghost use Rattle.codes.specs.Codes.{code_number, CodeOf};
 
 #[derive(Clone, Copy, PartialEq, Eq)]
 pub enum Code {
@@ -44,6 +44,53 @@ impl Code {
         ensures { result ≡ code_number self }
     {
         self as u32
+    }
+}
+
+// A number that is no code of a typing refusal.
+#[derive(Clone, Copy, PartialEq, Eq)]
+pub struct NoCode;
+
+impl TryFrom<u32> for Code {
+    type Error = NoCode;
+
+    ghost try_from_gives = { CodeOf };
+
+    fn try_from(number: u32) -> Result<Code, NoCode> {
+        match number {
+            20 => Ok(Code::Break),
+            21 => Ok(Code::Continue),
+            22 => Ok(Code::InconsistentReturn),
+            23 => Ok(Code::IncompatibleBranches),
+            24 => Ok(Code::NotIterable),
+            25 => Ok(Code::CannotAssign),
+            26 => Ok(Code::UnpackLength),
+            27 => Ok(Code::UnpackNonIterable),
+            28 => Ok(Code::InvalidTarget),
+            29 => Ok(Code::Plus),
+            30 => Ok(Code::Times),
+            31 => Ok(Code::Compare),
+            32 => Ok(Code::Equality),
+            33 => Ok(Code::NumericPair),
+            34 => Ok(Code::IntOrFloat),
+            35 => Ok(Code::ExpectedBool),
+            36 => Ok(Code::Condition),
+            37 => Ok(Code::BuiltinArity),
+            38 => Ok(Code::FunctionArity),
+            39 => Ok(Code::Input),
+            40 => Ok(Code::Len),
+            41 => Ok(Code::Range),
+            42 => Ok(Code::MapFirst),
+            43 => Ok(Code::MapSecond),
+            44 => Ok(Code::FilterFirst),
+            45 => Ok(Code::FilterSecond),
+            46 => Ok(Code::ListIndex),
+            47 => Ok(Code::DictKey),
+            48 => Ok(Code::TupleIndex),
+            49 => Ok(Code::StringIndex),
+            50 => Ok(Code::NotSubscriptable),
+            _ => Err(NoCode),
+        }
     }
 }
 

@@ -34,7 +34,7 @@ refuses (NinthFrame i) s e = omega (arith, e)
 refuses ShortBuffer s e = omega (arith, e)
 refuses NoSetting s e = omega (arith, e)
 refuses (Retired i) s e = omega (arith, e)
-refuses (Typing r) s e = omega (arith, e, s)
+refuses (Typing r) s e = omega (arith, e, s.0)
 
 -- ---- the three cases
 

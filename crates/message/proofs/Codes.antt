@@ -3,15 +3,21 @@ use mathlib.Core.Path.{◌≡◌, refl}
 use mathlib.Core.Bool.{Bool, true}
 use mathlib.Core.Logic.{◌⊎◌, inl, inr}
 use mathlib.Core.List.{List, [], ◌∷◌}
-use Prim.Native.Nat.{ℕ}
-use borrow.Author.Tests.{eqb-true}
-use lib.Dec.{eqb}
+use Prim.Native.Nat.{ℕ, ◌≤◌}
+use Prim.Native.String.{String}
+use native.Mathlib.Decide.{ℕ_discrete}
+use native.Mathlib.Omega.{arith}
+use borrow.Author.Tests.{eqb-true, eq-eqb, ne_eqb, leb-true}
+use lib.Dec.{eqb, leb}
+use lib.ListN.{length, take}
 use Rattle.meaning.specs.Base.{◌and◌, ◌or◌, test◌then◌else◌, all, is_in, choose, bytes, decimal}
 use Rattle.meaning.specs.Image.{names_of, name_of}
 use Rattle.meaning.specs.Message.{a_type, a_text, a_number, template, said, message}
 use Rattle.meaning.specs.Rules.{described}
 use Rattle.meaning.specs.Types.{text}
 use Rattle.meaning.proofs.Choices.{and_left, and_right}
+use Rattle.words.specs.Words.{put_at}
+use Rattle.words.proofs.Laws.{put_part}
 use Rattle.codes.specs.declared.Code.{Code}
 use Rattle.codes.specs.declared.Code.TheVariants.{Break, Continue, InconsistentReturn, NotIterable, CannotAssign, UnpackNonIterable, InvalidTarget, Plus, Times, Compare, Equality, NumericPair, IntOrFloat, ExpectedBool, Condition, Input, Len, Range, MapFirst, MapSecond, FilterFirst, FilterSecond, ListIndex, DictKey, TupleIndex, StringIndex, NotSubscriptable}
 use Rattle.codes.specs.Codes.{code_number}
@@ -20,6 +26,24 @@ use Rattle.rules.specs.Outcome.{types_named, taken, pieces}
 use Rattle.message.specs.Pieces.{gaps}
 use Rattle.message.specs.Told.{format_of}
 use Rattle.message.proofs.Telling.{Form}
+
+-- ---- a format string in a buffer
+
+choose_all : (k : ℕ) (f : String → Bool) (rs : List (ℕ × String)) → f "" ≡ true → all (λ r. f r.1) rs ≡ true → f (choose k "" rs) ≡ true
+unfolding choose all test◌then◌else◌
+choose_all k f [] z h = z
+choose_all k f (r ∷ rs) z h = elim (ℕ_discrete k r.0) [
+  | yes e ↦ rw (eq-eqb k r.0 e) (and_left _ _ h)
+  | no e ↦ rw (ne_eqb k r.0 e) (choose_all k f rs z (and_right _ _ h))
+]
+
+pub format_short : (code : ℕ) → length (format_of code) ≤ 70
+unfolding template all ◌and◌ bytes
+format_short code = leb-true _ 70 (choose_all code (λ s. leb (length (bytes s)) 70) _ refl refl)
+
+-- what is read back is the format string
+pub format_read : {e : List ℕ} {n : ℕ} (d : List ℕ) (code : ℕ) → (e ≡ put_at d 0 (format_of code)) × (n ≡ length (format_of code)) → take n e ≡ format_of code
+format_read d code w = rw (w.0, w.1) (put_part d 0 (format_of code) (omega arith))
 
 -- ---- how many types a code names: as many as its format string has gaps
 

@@ -6,3 +6,4 @@ mod Naming
 mod Filling
 pub mod Telling
 mod Codes
+mod NoCode

@@ -22,8 +22,8 @@ ghost use Rattle.message.specs.Pieces.{Small, CountsPiece, Says, Ready, IsReady,
 
 mod formats;
 
-use codes::Code;
-use formats::format_of;
+use codes::{Code, NoCode};
+use formats::{LONGEST, put_format};
 use image::{NameAt, areas, name_at, roles};
 use limits::MOST_NODES;
 use types::{Counts, Kind, STRUCTURED, kind_of, part_at, parts_of};
@@ -88,6 +88,58 @@ fn comma(j: usize) -> &'static [u8]
     if j == 0 { b"" } else { b", " }
 }
 
+// The three texts written. Each text has a call of its own, by which the compiler knows its length and writes it by
+// stores: one call for all of them took 1.7 times as long for a long type.
+
+fn put_opening(kind: Kind, out: &mut [u8], at: usize) -> usize
+    requires { at + length (opening (kind_number kind)) ≤ length out.old }
+    ensures out_after { out.new ≡ put_at out.old at (opening (kind_number kind)) }
+    ensures value { result ≡ at + length (opening (kind_number kind)) }
+{
+    match kind {
+        Kind::Unknown => put(out, at, opening(Kind::Unknown)),
+        Kind::Int => put(out, at, opening(Kind::Int)),
+        Kind::Bool => put(out, at, opening(Kind::Bool)),
+        Kind::String => put(out, at, opening(Kind::String)),
+        Kind::Float => put(out, at, opening(Kind::Float)),
+        Kind::NoneType => put(out, at, opening(Kind::NoneType)),
+        Kind::Range => put(out, at, opening(Kind::Range)),
+        Kind::Function => put(out, at, opening(Kind::Function)),
+        Kind::List => put(out, at, opening(Kind::List)),
+        Kind::Dict => put(out, at, opening(Kind::Dict)),
+        Kind::Tuple => put(out, at, opening(Kind::Tuple)),
+        Kind::MapIter => put(out, at, opening(Kind::MapIter)),
+        Kind::FilterIter => put(out, at, opening(Kind::FilterIter)),
+    }
+}
+
+fn put_closing(kind: Kind, out: &mut [u8], at: usize) -> usize
+    requires { at + length (closing (kind_number kind)) ≤ length out.old }
+    ensures out_after { out.new ≡ put_at out.old at (closing (kind_number kind)) }
+    ensures value { result ≡ at + length (closing (kind_number kind)) }
+{
+    match kind {
+        Kind::List => put(out, at, closing(Kind::List)),
+        Kind::Dict => put(out, at, closing(Kind::Dict)),
+        Kind::Tuple => put(out, at, closing(Kind::Tuple)),
+        Kind::MapIter => put(out, at, closing(Kind::MapIter)),
+        Kind::FilterIter => put(out, at, closing(Kind::FilterIter)),
+        _ => put(out, at, closing(kind)),
+    }
+}
+
+fn put_comma(j: usize, out: &mut [u8], at: usize) -> usize
+    requires { at + length (comma j) ≤ length out.old }
+    ensures out_after { out.new ≡ put_at out.old at (comma j) }
+    ensures value { result ≡ at + length (comma j) }
+{
+    if j == 0 {
+        put(out, at, comma(0))
+    } else {
+        put(out, at, comma(j))
+    }
+}
+
 // ---- lengths: a text may double with each type, so they are counted up to a cap only
 
 #[tactic(auto, unfolding(crate::proofs::Open::texts_open), using(std::proofs::lemmas::Bool::Decides::nat_tests))]
@@ -132,12 +184,12 @@ pub fn put_type(table: &[u16], i: usize, out: &mut [u8], at: usize) -> usize
     ensures out_after { out.new ≡ put_at out.old at (text (type_at table.now i)) }
     ensures value { result ≡ at + length (text (type_at table.now i)) }
 {
-    let mut end = put(out, at, opening(kind_of(table, i)));
+    let mut end = put_opening(kind_of(table, i), out, at);
     for j in 0..parts_of(table, i) {
-        end = put(out, end, comma(j));
+        end = put_comma(j, out, end);
         end = put_type(table, part_at(table, i, j), out, end);
     }
-    put(out, end, closing(kind_of(table, i)))
+    put_closing(kind_of(table, i), out, end)
 }
 
 // ---- what a message names
@@ -349,19 +401,20 @@ fn tell(
     ensures out_after { out.new ≡ overlaid
         (laid_out image.now table.now pieces.now (format_of (code_number code)) out.old) out.old }
 {
+    let mut format = [0u8; LONGEST];
+    let length = put_format(code, &mut format);
     let message = Message {
         image,
         table,
-        format: format_of(code),
+        format: &format[..length],
         pieces,
         types,
     };
     message.deliver(out)
 }
 
-// The message of a refusal, at the front of `out` if it fits: returns its length, or 0 and changes nothing. `a` and
-// `b` are the numbers of the types that it names; for 26 its two counts; for 23, 37 and 38 a name's number and a count.
-pub fn write(
+// The message of a code.
+fn write_of(
     image: &[u8],
     table: &[u16],
     counts: Counts,
@@ -436,5 +489,32 @@ pub fn write(
         Code::Break | Code::Continue | Code::InvalidTarget | Code::Condition => {
             tell(image, table, code, &[], 0, out)
         }
+    }
+}
+
+// The message of a refusal, at the front of `out` if it fits: returns its length, or 0 and changes nothing. `a` and
+// `b` are the numbers of the types that it names; for 26 its two counts; for 23, 37 and 38 a name's number and a count.
+// A number that is no code has no message.
+pub fn write(
+    image: &[u8],
+    table: &[u16],
+    counts: Counts,
+    code: u32,
+    a: usize,
+    b: usize,
+    out: &mut [u8],
+) -> usize
+    requires headed { Headed image.now }
+    requires image_value { broken_name image.now ≡ none }
+    requires tells { Tells (tab table.now counts.types counts.elements) code a b }
+    ensures value { result ≡ length (told image.now
+        (tab table.now counts.types counts.elements) code a b (length out.old)) }
+    ensures out_after { out.new ≡ overlaid (told image.now
+        (tab table.now counts.types counts.elements) code a b (length out.old))
+        out.old }
+{
+    match Code::try_from(code) {
+        Ok(code) => write_of(image, table, counts, code, a, b, out),
+        Err(NoCode) => 0,
     }
 }

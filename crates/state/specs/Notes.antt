@@ -1,8 +1,6 @@
 -- What is noted while a program is walked: how many types and elements the table has; the code, the node and the two numbers of the last
 -- refusal, and where a 25 or 23 points besides; the return type so far and the newest frame.
 use Rattle.std.specs.Prelude.{◌≡◌, Option, Some, None, List, ℕ}
-use Rattle.codes.specs.declared.Code.{Code}
-use Rattle.codes.specs.Codes.{code_number}
 use Rattle.types.specs.Table.{Tab, tab}
 use Rattle.types.specs.declared.Counts.{Counts}
 use Rattle.frames.specs.Env.{First}
@@ -15,9 +13,9 @@ abbrev pub elements_in : Notes → ℕ
 elements_in ns = ns.counts.elements
 
 -- 0 before there is one
-abbrev pub code_told : Option Code → ℕ
+abbrev pub code_told : Option ℕ → ℕ
 code_told None = 0
-code_told (Some c) = code_number c
+code_told (Some c) = c
 
 abbrev pub code_in : Notes → ℕ
 code_in ns = code_told ns.code

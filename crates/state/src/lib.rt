@@ -29,8 +29,8 @@ pub type Outcome = Result<(), Noted>;
 pub struct Notes {
     // How many types and elements the table has.
     pub counts: Counts,
-    // The last refusal, if there was one: its code, its node, and the two numbers that its message needs.
-    pub code: Option<Code>,
+    // The last refusal, if there was one: its code's number, its node, and the two numbers that its message needs.
+    pub code: Option<u32>,
     pub place: usize,
     pub first: usize,
     pub second: usize,
@@ -46,6 +46,13 @@ impl Notes {
     pub fn refuse(&mut self, code: Code, place: usize, a: usize, b: usize) -> Noted
         ensures { Refused self.old self.new (code_number code) place a b }
     {
+        self.refuse_by_number(code.number(), place, a, b)
+    }
+
+    // The same, by the code's number, which may be any.
+    pub fn refuse_by_number(&mut self, code: u32, place: usize, a: usize, b: usize) -> Noted
+        ensures { Refused self.old self.new code place a b }
+    {
         self.code = Some(code);
         self.place = place;
         self.first = a;
@@ -57,7 +64,21 @@ impl Notes {
     pub fn conflict(&mut self, code: Code, place: usize, since: First, a: usize, b: usize) -> Noted
         ensures { Conflicted self.old self.new (code_number code) place since a b }
     {
-        let noted = self.refuse(code, place, a, b);
+        self.conflict_by_number(code.number(), place, since, a, b)
+    }
+
+    // The same, by the code's number, which may be any.
+    pub fn conflict_by_number(
+        &mut self,
+        code: u32,
+        place: usize,
+        since: First,
+        a: usize,
+        b: usize,
+    ) -> Noted
+        ensures { Conflicted self.old self.new code place since a b }
+    {
+        let noted = self.refuse_by_number(code, place, a, b);
         self.since = since;
         noted
     }

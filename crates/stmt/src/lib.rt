@@ -486,16 +486,17 @@ pub fn first_place(notes: &Notes) -> First
     ensures { first_node result ≡ first_at (code_in notes.now) (since_in notes.now) }
 {
     match notes.code? {
-        Code::CannotAssign | Code::IncompatibleBranches => notes.since,
+        codes::CANNOT_ASSIGN | codes::INCOMPATIBLE_BRANCHES => notes.since,
         _ => None,
     }
 }
 
-// How the whole walk ended, and what was noted then.
+// How the whole walk ended, what was noted then, and the first place of a refusal that has one.
 #[derive(Clone, Copy)]
 pub struct Walked {
     pub end: End,
     pub notes: Notes,
+    pub first: First,
 }
 
 // The module's statements: errors are returned, and each has a return type of its own.
@@ -510,6 +511,7 @@ pub fn typecheck_program(
         frames.new (top_in result.notes) (end_code result.end (code_in result.notes))
         (places_in result.notes) (first_in result.notes) (second_in result.notes) }
     ensures refuses { Refuses result.end (code_in result.notes) }
+    ensures points { first_node result.first ≡ first_at (code_in result.notes) (since_in result.notes) }
 {
     let mut w = Walk {
         notes: NOTHING,
@@ -529,6 +531,7 @@ pub fn typecheck_program(
             return Walked {
                 end,
                 notes: w.notes,
+                first: first_place(&w.notes),
             };
         }
         next = next.over(image).cursor;
@@ -536,5 +539,6 @@ pub fn typecheck_program(
     Walked {
         end: Ok(()),
         notes: w.notes,
+        first: first_place(&w.notes),
     }
 }

@@ -12,8 +12,8 @@ pub typecheck_program-w-requires : goal.typecheck_program-w-requires
 typecheck_program-w-requires c =
     lent_started c.requires c.start.auto.table c.start.ensures
 
-pub refuse-requires : goal.refuse-requires
-refuse-requires c =
+pub refuse-requires-clause-refusing : goal.refuse-requires-clause-refusing
+refuse-requires-clause-refusing c =
     let w = c.typecheck_program-w in
     let e : ◌≡◌ {A = Ended} w.result.end (Err Wrong) = c.in-Err-Wrong.is ∙ ap Err (rw c.in-Err-Wrong.is at c.in-Err-Wrong.field-0-is) in
     ran_refusing _ c.requires.sound (rw e at w.ensures.ran) (w.ensures.refuses.coded e) (w.ensures.refuses.typing e) c.requires.nodes_at
