@@ -58,7 +58,8 @@ pub fn tc_expr(
     expression(&Scope { image, frames, top }, here, table, w, sp, depth)
 }
 
-// The same in its scope. Most nodes are Literals and Variables: these are decided without a further call.
+// The same in its scope. Most nodes are Literals and Variables: these are decided where they are met, without a call.
+#[inline]
 #[cycle(expression)]
 fn expression(
     scope: &Scope,
@@ -83,7 +84,8 @@ fn expression(
     }
 }
 
-// Any other expression, of kind `kind`.
+// Any other expression, of kind `kind`. As a function of its own it keeps its frame from the Literals and Variables.
+#[inline(never)]
 #[cycle(expression)]
 fn compound(
     scope: &Scope,
