@@ -12,7 +12,7 @@ use limits::{LARGEST_CHANGES, LARGEST_SHOW, READ_AT_MOST, SHEET_BUFFER};
 use std::env::FillError;
 use std::fs::File;
 use std::io::{Cursor, Error, Read, Write};
-use system::{read_full, word_at};
+use system::{read_full, word_at, word_given};
 use verbs::{
     Asked, Command, Done, Files, KNOWN, LINE, LOAD, Status, Verb, Written, command_of, digit_of,
     kind_of, renew, say_changes, say_check, say_known, say_load, say_show, verb_told, with_word,
@@ -103,7 +103,7 @@ struct Unread {
 fn say_name(rt: &HostRuntime, a: usize) {
     let mut name = io::buffer();
     say(b"cablebirch: ");
-    match word_at(rt, a, &mut name).unwrap_or(b"") {
+    match word_at(rt, a, &mut name) {
         b"-" => say(b"standard input"),
         name => say(name),
     }
@@ -147,7 +147,7 @@ fn read_file<'a>(rt: &HostRuntime, a: usize, buf: &'a mut [u8]) -> Result<&'a [u
     ensures { IfOk result (λ bytes. length bytes.now ≤ length buf.old) }
 {
     let mut name = io::buffer();
-    let name = word_at(rt, a, &mut name).unwrap_or(b"");
+    let name = word_at(rt, a, &mut name);
     match read_named(rt, name, buf) {
         Ok(n) => Ok(&buf[..n]),
         Err(why) => Err(Unread { file: a, why }),
@@ -308,7 +308,7 @@ fn run_help(rt: &HostRuntime) -> Status {
 // What the word at this place adds, if there is one.
 fn asked_at(rt: &HostRuntime, w: Asked, a: usize) -> Asked {
     let mut word = io::buffer();
-    match word_at(rt, a, &mut word) {
+    match word_given(rt, a, &mut word) {
         Err(FillError::NotPresent) => w,
         word => with_word(w, a, kind_of(word.unwrap_or(b""))),
     }
@@ -330,17 +330,17 @@ fn words_asked(rt: &HostRuntime) -> Asked {
 
 fn is_too_long(rt: &HostRuntime, a: usize) -> bool {
     let mut word = io::buffer();
-    matches!(word_at(rt, a, &mut word), Err(FillError::TooLong))
+    matches!(word_given(rt, a, &mut word), Err(FillError::TooLong))
 }
 
 fn verb_given(rt: &HostRuntime) -> Verb {
     let mut word = io::buffer();
-    verb_told(word_at(rt, 1, &mut word).unwrap_or(b""))
+    verb_told(word_at(rt, 1, &mut word))
 }
 
 fn say_no_verb(rt: &HostRuntime) {
     let mut word = io::buffer();
-    if let Err(FillError::NotPresent) = word_at(rt, 1, &mut word) {
+    if let Err(FillError::NotPresent) = word_given(rt, 1, &mut word) {
         say(b"cablebirch: a verb is missing; try cablebirch help\n");
     } else {
         say_name(rt, 1);

@@ -20,7 +20,7 @@ use sheet::header;
 use std::env::FillError;
 use std::fs::File;
 use std::io::{Read, Seek, SeekFrom};
-use system::{read_full, word_at};
+use system::{read_full, word_given};
 use words::{get_word, put, put_decimal, text};
 
 // Room for a line: what stands around its message has fewer than 128 bytes.
@@ -492,7 +492,7 @@ fn replay_stored(rt: &HostRuntime) {
 
 fn main(rt: HostRuntime) {
     let mut word = io::buffer();
-    match word_at(&rt, 1, &mut word) {
+    match word_given(&rt, 1, &mut word) {
         Err(FillError::NotPresent) => print_lines(Task::Images, &mut rt.stdin()),
         Ok(b"strict") => print_lines(Task::Strict, &mut rt.stdin()),
         Ok(b"tight") => print_lines(Task::Tight, &mut rt.stdin()),

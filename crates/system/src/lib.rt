@@ -8,11 +8,18 @@ use std::env::{Env, FillError};
 use std::io::Read;
 
 // Word a, put at the front of buf; the program's name is word 0. Or why it is not: it is missing, or longer than buf.
-pub fn word_at<'a, R: Env>(rt: &R, a: usize, buf: &'a mut [u8]) -> Result<&'a [u8], FillError>
+pub fn word_given<'a, R: Env>(rt: &R, a: usize, buf: &'a mut [u8]) -> Result<&'a [u8], FillError>
     ensures { IfOk result (λ w. length w.now ≤ length buf.old) }
 {
     let n = rt.arg(a, buf)?;
     Ok(&buf[..n])
+}
+
+// The same, where a word that is missing, or longer than buf, counts as the empty one.
+pub fn word_at<'a, R: Env>(rt: &R, a: usize, buf: &'a mut [u8]) -> &'a [u8]
+    ensures { length result.now ≤ length buf.old }
+{
+    word_given(rt, a, buf).unwrap_or(b"")
 }
 
 // How many words there are, the program's name among them, counted no further than `most`.

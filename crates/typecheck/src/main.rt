@@ -55,7 +55,7 @@ const TOLD_APART: usize = 3;
 
 fn main(rt: HostRuntime) {
     let mut buf = io::buffer();
-    let word = word_at(&rt, 1, &mut buf).unwrap_or(b"");
+    let word = word_at(&rt, 1, &mut buf);
     let mut input = [0u8; READ_AT_MOST];
     let n = io::read_full(STDIN, &mut input);
     let mut out = [0u8; LINE];
