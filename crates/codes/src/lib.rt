@@ -1,4 +1,4 @@
-// The codes of typing refusals, in document 01's words: each by its one name, and its number here alone.
+// The codes of typing refusals, in document 01's words: each by its one name, with its number, and a number's code.
 #![tactic(auto)]
 
 ghost use Rattle.std.specs.Prelude.{◌≡◌};

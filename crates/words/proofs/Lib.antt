@@ -1,3 +1,3 @@
 pub mod Laws
 pub mod Steps
-mod Turns
+pub mod Turns

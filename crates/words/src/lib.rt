@@ -1,5 +1,5 @@
-// Bytes and words: widened, read, written, compared, copied, the texts of names, and numbers in decimal. Everything
-// stands in a slice that the caller lends.
+// Bytes and words: read, written, compared, copied, the texts of names, and numbers in decimal. Everything stands in a
+// slice that the caller lends.
 #![tactic(auto)]
 
 ghost use Rattle.std.specs.Prelude.{◌≡◌, [], ◌∷◌, ◌+◌, ◌<◌, ◌≤◌, length, take, drop};
