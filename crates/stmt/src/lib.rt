@@ -491,7 +491,18 @@ pub fn first_place(notes: &Notes) -> First
     }
 }
 
-// How the whole walk ended, what was noted then, and the first place of a refusal that has one.
+// The first place that an end points at: a refusal's alone has one.
+fn place_of_end(end: End, notes: &Notes) -> First
+    ensures { first_node result ≡ first_at (end_code end (code_in notes.now)) (since_in notes.now) }
+{
+    match end {
+        Err(Stop::Wrong) => first_place(notes),
+        Err(Stop::TooDeep) => None,
+        Ok(()) => None,
+    }
+}
+
+// How the whole walk ended, what was noted then, and the first place that the end points at.
 #[derive(Clone, Copy)]
 pub struct Walked {
     pub end: End,
@@ -511,7 +522,8 @@ pub fn typecheck_program(
         frames.new (top_in result.notes) (end_code result.end (code_in result.notes))
         (places_in result.notes) (first_in result.notes) (second_in result.notes) }
     ensures refuses { Refuses result.end (code_in result.notes) }
-    ensures points { first_node result.first ≡ first_at (code_in result.notes) (since_in result.notes) }
+    ensures points { first_node result.first
+        ≡ first_at (end_code result.end (code_in result.notes)) (since_in result.notes) }
 {
     let mut w = Walk {
         notes: NOTHING,
@@ -531,7 +543,7 @@ pub fn typecheck_program(
             return Walked {
                 end,
                 notes: w.notes,
-                first: first_place(&w.notes),
+                first: place_of_end(end, &w.notes),
             };
         }
         next = next.over(image).cursor;
@@ -539,6 +551,6 @@ pub fn typecheck_program(
     Walked {
         end: Ok(()),
         notes: w.notes,
-        first: first_place(&w.notes),
+        first: place_of_end(Ok(()), &w.notes),
     }
 }

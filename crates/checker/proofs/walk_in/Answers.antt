@@ -18,6 +18,12 @@ refuse-requires-clause-refusing c =
     let e : ◌≡◌ {A = Ended} w.result.end (Err Wrong) = c.in-Err-Wrong.is ∙ ap Err (rw c.in-Err-Wrong.is at c.in-Err-Wrong.field-0-is) in
     ran_refusing _ c.requires.sound (rw e at w.ensures.ran) (w.ensures.refuses.coded e) (w.ensures.refuses.typing e) c.requires.nodes_at
 
+pub refuse-requires-clause-points : goal.refuse-requires-clause-points
+refuse-requires-clause-points c =
+    let w = c.typecheck_program-w in
+    let e : ◌≡◌ {A = Ended} w.result.end (Err Wrong) = c.in-Err-Wrong.is ∙ ap Err (rw c.in-Err-Wrong.is at c.in-Err-Wrong.field-0-is) in
+    rw e at w.ensures.points
+
 pub returns-in-Ok : goal.returns-in-Ok
 returns-in-Ok c =
     rw (← c.is_plain.ensures) (answers_accepted c.requires.sound c.typecheck_program-w.ensures.ran refl (rw c.in-Ok.is) c.accept.ensures)
