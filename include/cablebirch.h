@@ -11,10 +11,10 @@
  * buffer that is written must not overlap another buffer. No pointer may be null, even where its length is 0.
  *
  * They allocate nothing and work on the caller's stack. The most that each was seen to need (measured on the deepest inputs known, by
- * bench/stack, and not proved): cablebirch_check and cablebirch_load 198 KB (197,640 and 197,656 bytes), cablebirch_read_sheet and
- * cablebirch_write_sheet 90 KB (89,744 and 89,856), cablebirch_show 124 KB (123,952), cablebirch_changes 253 KB (252,304),
+ * bench/stack, and not proved): cablebirch_check and cablebirch_load 198 KB (198,688 and 198,704 bytes), cablebirch_read_sheet and
+ * cablebirch_write_sheet 90 KB (89,760 and 89,872), cablebirch_show 124 KB (124,032), cablebirch_changes 253 KB (252,400),
  * cablebirch_steady and cablebirch_convert 5 KB (4,264 and 4,328). A message buffer of more than CABLEBIRCH_MESSAGE_ROOM moved none of
- * these: a message that names a type of 1,891 levels took 175,208 and 175,224 bytes.
+ * these: a message that names a type of 1,891 levels took 175,232 and 175,248 bytes.
  *
  * A script loads unseen exactly when it is accepted and its sheet equals the last approved sheet, byte for byte:
  *

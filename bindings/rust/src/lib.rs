@@ -17,7 +17,7 @@
 //! ```
 //!
 //! The functions keep no state: any number of threads may call them at once. They work on the caller's stack: [`check`] was seen to
-//! need 197,640 bytes at most, [`load`] 197,656, [`read_sheet`] 89,744, [`write_sheet`] 89,856, [`show`] 123,952, [`changes`] 252,304,
+//! need 198,688 bytes at most, [`load`] 198,704, [`read_sheet`] 89,760, [`write_sheet`] 89,872, [`show`] 124,032, [`changes`] 252,400,
 //! [`steady`] 4,264 and [`convert`] 4,328, with a message buffer of more than [`MESSAGE_ROOM`] too (measured, not proved: `bench/stack`).
 
 #![warn(missing_docs)]
