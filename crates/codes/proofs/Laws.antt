@@ -4,38 +4,41 @@ use Rattle.codes.specs.declared.Code.{Code}
 use Rattle.codes.specs.declared.Code.TheVariants.{Break, Continue, InconsistentReturn, IncompatibleBranches, NotIterable, CannotAssign, UnpackLength, UnpackNonIterable, InvalidTarget, Plus, Times, Compare, Equality, NumericPair, IntOrFloat, ExpectedBool, Condition, BuiltinArity, FunctionArity, Input, Len, Range, MapFirst, MapSecond, FilterFirst, FilterSecond, ListIndex, DictKey, TupleIndex, StringIndex, NotSubscriptable}
 use Rattle.codes.specs.Codes.{code_number}
 
+pub code_range : (c : Code) → (20 ≤ code_number c) × (code_number c ≤ 50)
+code_range Break = (omega arith, omega arith)
+code_range Continue = (omega arith, omega arith)
+code_range InconsistentReturn = (omega arith, omega arith)
+code_range IncompatibleBranches = (omega arith, omega arith)
+code_range NotIterable = (omega arith, omega arith)
+code_range CannotAssign = (omega arith, omega arith)
+code_range UnpackLength = (omega arith, omega arith)
+code_range UnpackNonIterable = (omega arith, omega arith)
+code_range InvalidTarget = (omega arith, omega arith)
+code_range Plus = (omega arith, omega arith)
+code_range Times = (omega arith, omega arith)
+code_range Compare = (omega arith, omega arith)
+code_range Equality = (omega arith, omega arith)
+code_range NumericPair = (omega arith, omega arith)
+code_range IntOrFloat = (omega arith, omega arith)
+code_range ExpectedBool = (omega arith, omega arith)
+code_range Condition = (omega arith, omega arith)
+code_range BuiltinArity = (omega arith, omega arith)
+code_range FunctionArity = (omega arith, omega arith)
+code_range Input = (omega arith, omega arith)
+code_range Len = (omega arith, omega arith)
+code_range Range = (omega arith, omega arith)
+code_range MapFirst = (omega arith, omega arith)
+code_range MapSecond = (omega arith, omega arith)
+code_range FilterFirst = (omega arith, omega arith)
+code_range FilterSecond = (omega arith, omega arith)
+code_range ListIndex = (omega arith, omega arith)
+code_range DictKey = (omega arith, omega arith)
+code_range TupleIndex = (omega arith, omega arith)
+code_range StringIndex = (omega arith, omega arith)
+code_range NotSubscriptable = (omega arith, omega arith)
+
 pub least_code : (c : Code) → 20 ≤ code_number c
-least_code Break = omega arith
-least_code Continue = omega arith
-least_code InconsistentReturn = omega arith
-least_code IncompatibleBranches = omega arith
-least_code NotIterable = omega arith
-least_code CannotAssign = omega arith
-least_code UnpackLength = omega arith
-least_code UnpackNonIterable = omega arith
-least_code InvalidTarget = omega arith
-least_code Plus = omega arith
-least_code Times = omega arith
-least_code Compare = omega arith
-least_code Equality = omega arith
-least_code NumericPair = omega arith
-least_code IntOrFloat = omega arith
-least_code ExpectedBool = omega arith
-least_code Condition = omega arith
-least_code BuiltinArity = omega arith
-least_code FunctionArity = omega arith
-least_code Input = omega arith
-least_code Len = omega arith
-least_code Range = omega arith
-least_code MapFirst = omega arith
-least_code MapSecond = omega arith
-least_code FilterFirst = omega arith
-least_code FilterSecond = omega arith
-least_code ListIndex = omega arith
-least_code DictKey = omega arith
-least_code TupleIndex = omega arith
-least_code StringIndex = omega arith
-least_code NotSubscriptable = omega arith
+least_code c = (code_range c).0
 
 -- the code of a number
 pub code_of : ℕ → Code

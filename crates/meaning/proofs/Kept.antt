@@ -258,6 +258,10 @@ module _ (ws : List Name) where
     each_kept n no_exprs ts s h = done_kept n s h
     each_kept n (e also es) ts s h = onwards n (assign_to ws e _ s) _ (assign_kept n e _ s h) (λ s₁ h₁. each_kept n es (tail ts) s₁ h₁)
 
+  -- a target is refused with a typing code, whatever the frames
+  pub refused_target : (e : Expr) (t : Ty) (s : State) {r : Refusal} {s₁ : State} → assign_to ws e t s ≡ wrong r s₁ → Typing r
+  refused_target e t s w = kept_wrong (length s.frames) (assign_kept (length s.frames) e t s refl) w
+
 -- ---- statements, under either setting
 
 module _ (ws : List Name) (setting : Setting) where

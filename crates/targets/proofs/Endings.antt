@@ -7,10 +7,12 @@ use native.Mathlib.Omega.{arith}
 use borrow.Author.Tests.{eq-eqb, ne_eqb}
 use lib.ListN.{length}
 use Rattle.meaning.specs.Base.{◌or◌, test◌then◌else◌}
-use Rattle.meaning.specs.Types.{Ty}
+use Rattle.meaning.specs.Types.{Ty, unknown}
+use Rattle.meaning.specs.Tree.{Expr}
 use Rattle.meaning.specs.Image.{Name}
 use Rattle.meaning.specs.Message.{refusal, conflict}
-use Rattle.meaning.specs.Walk.{state, End, done, wrong, too_deep}
+use Rattle.meaning.specs.Walk.{State, state, End, done, wrong, too_deep, assign_to}
+use Rattle.meaning.proofs.Kept.{refused_target}
 use Rattle.types.specs.Table.{Tab, Wf}
 use Rattle.types.proofs.Laws.{grown_refl, grown_trans}
 use Rattle.frames.specs.Env.{Rows, First, frames_of, Fit}
@@ -101,3 +103,11 @@ pub assigned_noted : {ws : List Name} {r : Ty → End} {t : Tab} {cells : List �
     → Assigned ws r t (tab_in cells ns) gs top su i e M code (places n (since_in ms)) a b → Refused ns ms code n a b
     → Assigned ws r t (tab_in cells ms) gs top su i e M (code_in ms) (places_in ms) (first_in ms) (second_in ms)
 assigned_noted x f = rw (f.counts, f.coded, f.placed, f.first, f.second) x
+
+-- ---- a target's refusal has a typing code
+
+pub assigned_typing : {ws : List Name} (e : Expr) (v : Ty) (s : Ty → State) {t u : Tab} {gs : Rows} {top : ℕ} {su : List ℕ} {i f M code : ℕ} {place : Places} {a b : ℕ}
+    → Assigned ws (λ y. assign_to ws e v (s y)) t u gs top su i f M code place a b → (code ≡ 0 → ⊥) → (20 ≤ code) × (code ≤ 50)
+assigned_typing {ws} e v s {t} {u} {gs} {top} {su} {i} {f} {M} {code} {place} {a} {b} x z =
+    let r = refused_target ws e v (s unknown) (x.says unknown ∙ ended_wrong ws u gs top unknown code place a b z x.typing) in
+    (r.above, r.below)
