@@ -37,11 +37,11 @@ Fair (refused r) = Judged r
 pub typing : (c n : ℕ) (ps : List Piece) → 20 ≤ c → c ≤ 50 → Typing (refusal c n ps)
 typing c n ps l u = record { above = l; below = u; alone = λ p q. refl }
 
-ok_fair : (t : Ty) → Fair (ok t)
+pub ok_fair : (t : Ty) → Fair (ok t)
 unfolding Fair
 ok_fair t = tt
 
-refused_fair : (c n : ℕ) (ps : List Piece) → 29 ≤ c → c ≤ 50 → Fair (refused (refusal c n ps))
+pub refused_fair : (c n : ℕ) (ps : List Piece) → 29 ≤ c → c ≤ 50 → Fair (refused (refusal c n ps))
 unfolding Fair
 refused_fair c n ps l u = record { above = l; below = u; alone = refl }
 
@@ -60,7 +60,7 @@ unfolding Fair ◌>>=◌
 then_fair (ok t) k f g = g t
 then_fair (refused r) k f g = f
 
-if_fair : (b : Bool) (c d : Checked) → Fair c → Fair d → Fair (test b then c else d)
+pub if_fair : (b : Bool) (c d : Checked) → Fair c → Fair d → Fair (test b then c else d)
 unfolding test◌then◌else◌
 if_fair true c d f g = f
 if_fair false c d f g = g
@@ -74,7 +74,7 @@ when_fair : (b : Bool) (t : Ty) (c n : ℕ) (ps : List Piece) → 29 ≤ c → c
 unfolding when
 when_fair b t c n ps l u = if_fair b _ _ (ok_fair t) (refused_fair c n ps l u)
 
-some_fair : (o : Option Ty) (f : Ty → Checked) (d : Checked) → ((t : Ty) → Fair (f t)) → Fair d → Fair (if_some o f d)
+pub some_fair : (o : Option Ty) (f : Ty → Checked) (d : Checked) → ((t : Ty) → Fair (f t)) → Fair d → Fair (if_some o f d)
 unfolding if_some
 some_fair none f d g h = h
 some_fair (some t) f d g h = g t
@@ -108,11 +108,11 @@ answered_fair n a b x r =
     code : ltb x 8 ≡ false → eqb x 8 ≡ false → (29 ≤ x) × (x ≤ 50)
     code l e = ⊎_elim (λ h. absurd (eqb-false x 8 e (omega (arith, ltb-false x 8 l)))) (λ h. omega arith) r.says
 
-binary_fair : (n : ℕ) (o : BinaryOp) (a b : Ty) → Fair (binary_rule n o a b)
+pub binary_fair : (n : ℕ) (o : BinaryOp) (a b : Ty) → Fair (binary_rule n o a b)
 unfolding binary_rule
 binary_fair n o a b = answered_fair n a b _ (answer_range o (kind a) (kind b))
 
-unary_fair : (n : ℕ) (o : UnaryOp) (t : Ty) → Fair (unary_rule n o t)
+pub unary_fair : (n : ℕ) (o : UnaryOp) (t : Ty) → Fair (unary_rule n o t)
 unfolding unary_rule
 unary_fair n o t = if_told (ltb x 8) _ _ (λ l. ok_fair _) (λ l. let h = code l in refused_fair x n _ h.0 h.1)
   where
@@ -160,7 +160,7 @@ dict_fair k v (c ∷ d ∷ cs) f =
     then_fair c.1 _ f.0
     (λ a. then_fair d.1 _ f.1.0 (λ b. if_fair _ _ _ (ok_fair _) (dict_fair (joined k a) (joined v b) cs f.1.1)))
 
-index_fair : (m : ℕ) (t : Ty) (n : ℕ) (i : Ty) → Fair (index_rule m t n i)
+pub index_fair : (m : ℕ) (t : Ty) (n : ℕ) (i : Ty) → Fair (index_rule m t n i)
 unfolding index_rule
 index_fair m t n i =
     choose_fair (kind t) _ _ (refused_fair 50 m _ (omega arith) (omega arith)) (

@@ -1,6 +1,6 @@
 -- What a node gives whose children's types stand on the stack.
 use mathlib.Core.Path.{◌≡◌, refl, sym, ap, ◌∙◌}
-use mathlib.Core.Bool.{Bool}
+use mathlib.Core.Bool.{Bool, true, false}
 use mathlib.Core.List.{List, [], map}
 use Prim.Native.Nat.{ℕ, suc, ◌+◌, ◌<◌}
 use native.Mathlib.Nat.{add-zero}
@@ -14,10 +14,11 @@ use Rattle.meaning.specs.Image.{Name, node_count, nodes_of, names_of}
 use Rattle.meaning.specs.Image.{Node as ImageNode}
 use Rattle.meaning.specs.Decode.{unary_of, binary_of, stop_of}
 use Rattle.meaning.specs.Operators.{Checked, ok, unary_rule, binary_rule}
-use Rattle.meaning.specs.Rules.{index_rule}
+use Rattle.meaning.specs.Rules.{index_rule, streamed}
+use Rattle.meaning.proofs.Codes.{Fair, ok_fair, refused_fair, if_fair, some_fair, unary_fair, binary_fair, index_fair}
 use Rattle.types.specs.Table.{Tab, Wf, denote, Made}
 use Rattle.rules.specs.Outcome.{Decision, Decides, decision_code, decision_number, decision_first, decision_second}
-use Rattle.rules.specs.Leaves.{OfOne, OfTwo, OfNumber, Indexed, index_place, second_rule, Streams}
+use Rattle.rules.specs.Leaves.{OfOne, OfTwo, OfNumber, Indexed, index_place, second_code, second_rule, Streams}
 use Rattle.rules.proofs.Outcomes.{was_ok}
 use Rattle.std.specs.Prelude.{IsErr}
 use Rattle.image.specs.declared.Cursor.{Cursor}
@@ -101,7 +102,19 @@ pub judged_by_number : {cells : List ℕ} {ns ms : Notes} {r : Typed} {rule : �
     → OfNumber rule i d → Settles ns ms r n d → Gives cells cells ns ms r n (λ t. rule n (denote t i))
 judged_by_number {cells} {ns} {n = n} x d f = ruled x.wf (λ ws. d.says ws (tab_in cells ns) n x.wf x.below) f
 
+-- a refusal has the code of an expression's (`told_typing`)
+pub operand_fair : (k a n m o : ℕ) (ts : List Ty) → Fair (operand_rule k a n m o ts)
+unfolding operand_rule choose
+operand_fair k a n m o ts =
+    if_fair _ _ _ (unary_fair n (unary_of a) _)
+    (if_fair _ _ _ (binary_fair n (binary_of a) _ _) (if_fair _ _ _ (ok_fair _) (if_fair _ _ _ (index_fair m _ o _) (ok_fair _))))
+
 -- ---- the second argument of map and filter
+
+pub second_fair : (filters : Bool) (n : ℕ) (t : Ty) → Fair (second_rule filters n t)
+unfolding second_code test◌then◌else◌
+second_fair true n t = some_fair (streamed t) _ _ (λ u. ok_fair _) (refused_fair 45 n _ (omega arith) (omega arith))
+second_fair false n t = some_fair (streamed t) _ _ (λ u. ok_fair _) (refused_fair 43 n _ (omega arith) (omega arith))
 
 streams_given : {ws : List Name} {t u : Tab} {filters : Bool} {i : ℕ} {d : Decision} (M n : ℕ) → n < M → Wf t → Streams t u filters i d
     → Given ws (second_rule filters n (denote t i)) t u 0 M (decision_code d) n (decision_number d) (decision_first d) (decision_second d)

@@ -1,12 +1,13 @@
 -- The notes: what is left of them, and what a refusal tells that is noted there.
 use mathlib.Core.Path.{◌≡◌, refl, sym, ap, ◌∙◌}
 use mathlib.Core.List.{List}
-use Prim.Native.Nat.{ℕ, ◌<◌}
+use Prim.Native.Nat.{ℕ, ◌<◌, ◌≤◌}
 use native.Mathlib.Omega.{arith}
 use native.Mathlib.Decide.{ℕ_discrete}
 use Rattle.std.specs.Prelude.{Result, Ok, Err, IsErr}
 use Rattle.meaning.specs.Image.{Name}
 use Rattle.meaning.specs.Operators.{Checked, ok}
+use Rattle.meaning.proofs.Codes.{Fair, fair_judged}
 use Rattle.types.specs.Table.{Tab, denote}
 use Rattle.types.specs.declared.Counts.{Counts}
 use Rattle.codes.proofs.Laws.{least_code}
@@ -28,6 +29,11 @@ code_well ms e = rw e
 pub is_noted : {T : Type 0} (r : Result T Noted) → IsErr r → r ≡ Err noted
 is_noted (Ok v) e = cc
 is_noted (Err x) e = refl
+
+-- the code of an expression's refusal, by what is known of the rule
+pub told_typing : {ws : List Name} {r g : Checked} {u : Tab} {M code place a b : ℕ} → Told ws r g u M code place a b → Fair r → (code ≡ 0 → ⊥)
+    → (29 ≤ code) × (code ≤ 50)
+told_typing t f z = let j = fair_judged (rw (t.ill z) at f) in (j.above, j.below)
 
 -- ---- what is left of the notes
 

@@ -22,12 +22,13 @@ use Rattle.meaning.proofs.Faults.{Sound, sizes}
 use Rattle.meaning.proofs.Nesting.{nodes_many, sound_nested, node_stands_lem}
 use Rattle.meaning.proofs.Scan.{variable_named}
 use Rattle.meaning.proofs.Decoding.{variable_at, attribute_at, index_at}
-use Rattle.meaning.proofs.Codes.{fair_judged, check_fair}
+use Rattle.meaning.proofs.Codes.{check_fair}
 use Rattle.types.specs.Table.{Tab, denote}
 use Rattle.frames.specs.Env.{Rows, First, frames_of, Fit}
 use Rattle.frames.proofs.Laws.{frames_grown, fit_grown}
 use Rattle.rules.specs.Outcome.{types_named, pieces}
 use Rattle.state.specs.Notes.{Places, places}
+use Rattle.state.proofs.Noting.{told_typing}
 use Rattle.expr.specs.Contract.{Ready, At, Done}
 use Rattle.targets.specs.Ending.{first_at, ended, Left, Assigned}
 use Rattle.targets.specs.Spreading.{Written}
@@ -75,7 +76,7 @@ module _ {ws : List Name} {t u : Tab} {fs : Rows} {top : ℕ} {st su : List ℕ}
     (d : Done ws (check ws (frames_of t fs top) e) t u st su 0 i s M code place number a b) where
   -- its refusal has a code of an expression
   pub typing_code : (code ≡ 0 → ⊥) → 29 ≤ code
-  typing_code z = (fair_judged (rw (d.told.ill z) at (check_fair ws (frames_of t fs top) e))).above
+  typing_code z = (told_typing d.told (check_fair ws (frames_of t fs top) e) z).0
 
   only_says : (y : Ty) → checked ws e (state (frames_of t fs top) y) (λ v. done (state (frames_of t fs top) y)) ≡ ended ws u fs top y code (places place m) a b
   unfolding checked typed
