@@ -102,7 +102,7 @@ pub judged_by_number : {cells : List ℕ} {ns ms : Notes} {r : Typed} {rule : �
     → OfNumber rule i d → Settles ns ms r n d → Gives cells cells ns ms r n (λ t. rule n (denote t i))
 judged_by_number {cells} {ns} {n = n} x d f = ruled x.wf (λ ws. d.says ws (tab_in cells ns) n x.wf x.below) f
 
--- a refusal has the code of an expression's (`told_typing`)
+-- so that a refusal's code is 29 to 50, by `told_typing`
 pub operand_fair : (k a n m o : ℕ) (ts : List Ty) → Fair (operand_rule k a n m o ts)
 unfolding operand_rule choose
 operand_fair k a n m o ts =
@@ -111,6 +111,7 @@ operand_fair k a n m o ts =
 
 -- ---- the second argument of map and filter
 
+-- the same of its refusal
 pub second_fair : (filters : Bool) (n : ℕ) (t : Ty) → Fair (second_rule filters n t)
 unfolding second_code test◌then◌else◌
 second_fair true n t = some_fair (streamed t) _ _ (λ u. ok_fair _) (refused_fair 45 n _ (omega arith) (omega arith))
